@@ -1,0 +1,78 @@
+-- Which tables are fit (01, "Lent tables"; outcomes 1 and 3). Assumes nothing: these are definitions.
+use Prim.Native.Nat.{ℕ, _+_, _*_}
+use mathlib.Core.Bool.{Bool, true, false, not, cond, _&&_, _||_}
+use mathlib.Core.List.{List}
+use lib.Dec.{ltb, leb, eqb}
+use lib.IntN.{ℤ, pos, negsuc}
+use lib.ListN.{length}
+use Rattle.words.specs.Words.{wordAt, numberOf, numberAt, eqZ}
+use Rattle.tables.specs.declared.Cell.{Cell}
+use Rattle.tables.specs.declared.Sort.{Sort}
+use Rattle.tables.specs.declared.Sort.the-variants.{Values, Identities}
+use Rattle.tables.specs.Sizes.{variables, environmentWords, heapWords, constraintsWords, mostRecords, mostFields, labels, recordWords, countWord, labelWord, fieldWord, noNumber}
+use Rattle.tables.specs.Search.{every}
+use Rattle.tables.specs.Cells.{pairAt}
+use Rattle.tables.specs.Kept.{keptWord, mostKept, firstKept, positionAt}
+
+unfoldable pub sized : List ℤ → List ℤ → List ℤ → Bool
+sized e h c = eqb (length e) environmentWords && eqb (length h) heapWords && eqb (length c) constraintsWords
+
+-- "reference (a record number below the heap's count word)"
+abbrev pub admits : ℤ → ℤ → Bool
+admits (pos count) (pos r) = ltb r count
+admits (pos count) (negsuc r) = false
+admits (negsuc count) p = false
+
+-- "0 absent (payload 0), 1 nil (0), 2 boolean (0 or 1), 3 integer, 4 reference"
+unfoldable pub cellFits : ℤ → Cell → Bool
+cellFits count c =
+    cond (eqb (numberOf (c .kind)) 0) (eqZ (c .payload) (pos 0))
+    (cond (eqb (numberOf (c .kind)) 1) (eqZ (c .payload) (pos 0))
+    (cond (eqb (numberOf (c .kind)) 2) (eqZ (c .payload) (pos 0) || eqZ (c .payload) (pos 1))
+    (cond (eqb (numberOf (c .kind)) 3) true
+    (cond (eqb (numberOf (c .kind)) 4) (admits count (c .payload))
+    false))))
+
+-- "variables 0 to 63", where the heap has this count word
+unfoldable pub environmentFits : ℤ → List ℤ → Bool
+environmentFits count e = every (λ x. cellFits count (pairAt e (2 * x))) variables
+
+-- "label (0 to 31)", "Labels in a record differ; used fields are not absent"
+unfoldable pub labelFits : List ℤ → ℕ → ℕ → Bool
+labelFits h r f = ltb (numberAt h (labelWord r f)) labels && every (λ g. not (eqb (numberAt h (labelWord r g)) (numberAt h (labelWord r f)))) f
+
+unfoldable pub fieldFits : List ℤ → ℕ → ℕ → Bool
+fieldFits h r f =
+    labelFits h r f && not (eqb (numberOf (wordAt h (fieldWord r f))) 0) && cellFits (wordAt h 0) (pairAt h (fieldWord r f))
+
+-- "Unused fields and records are all zero"
+unfoldable pub zeros : List ℤ → ℕ → ℕ → Bool
+zeros s at n = every (λ i. eqZ (wordAt s (at + i)) (pos 0)) n
+
+-- field place f of record r, where the record has n fields
+unfoldable pub placeFits : List ℤ → ℕ → ℕ → ℕ → Bool
+placeFits h r n f = cond (ltb f n) (fieldFits h r f) (zeros h (labelWord r f) 3)
+
+unfoldable pub recordFits : List ℤ → ℕ → Bool
+recordFits h r = leb (numberAt h (countWord r)) mostFields && every (placeFits h r (numberAt h (countWord r))) mostFields
+
+-- record number r, where the heap has n records
+unfoldable pub numberFits : List ℤ → ℕ → ℕ → Bool
+numberFits h n r = cond (ltb r n) (recordFits h r) (zeros h (countWord r) recordWords)
+
+unfoldable pub heapFits : List ℤ → Bool
+heapFits h = leb (numberAt h 0) mostRecords && every (numberFits h (numberAt h 0)) mostRecords
+
+-- "unused words are 0", "none occurs twice"; which words of the program are always-statements is no matter of the table
+unfoldable pub positionFits : List ℤ → Sort → ℕ → Bool
+positionFits c s i = ltb (positionAt c s i) noNumber && every (λ j. not (eqb (positionAt c s j) (positionAt c s i))) i
+
+-- the word for position number i, where n positions of the sort are kept
+unfoldable pub roomFits : List ℤ → Sort → ℕ → ℕ → Bool
+roomFits c s n i = cond (ltb i n) (positionFits c s i) (eqZ (wordAt c (firstKept s + i)) (pos 0))
+
+unfoldable pub sortFits : List ℤ → Sort → Bool
+sortFits c s = leb (numberAt c (keptWord s)) (mostKept s) && every (roomFits c s (numberAt c (keptWord s))) (mostKept s)
+
+unfoldable pub constraintsFit : List ℤ → Bool
+constraintsFit c = sortFits c Values && sortFits c Identities

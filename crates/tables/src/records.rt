@@ -1,0 +1,89 @@
+// The heap's records: counts, labels, a record more and a record less.
+use crate::FIELDS;
+use crate::Found;
+use crate::RECORD_WORDS;
+use crate::RECORDS;
+use crate::VARIABLES;
+ghost use mathlib.Core.Path.{_≡_};
+ghost use Rattle.tables.specs.Records.{recordCount, fieldCount, labelAt, fieldWith, withRecord, withoutRecord};
+
+// The count word as a number.
+pub fn record_count(heap: &[i32]) -> usize
+    ensures { λ r. ⌜ r ≡ recordCount (now (heap .entry)) ⌝ }
+{
+    words::number_at(heap, 0)
+}
+
+// How many fields record r has; none where its count is out of range.
+pub fn field_count(heap: &[i32], r: usize) -> usize
+    ensures { λ n. ⌜ n ≡ fieldCount (now (heap .entry)) r ⌝ }
+{
+    if RECORDS <= r {
+        return 0;
+    }
+    let n = words::number_at(heap, 25 * r + 1);
+    if FIELDS < n {
+        return 0;
+    }
+    n
+}
+
+// The label of field place f of record r.
+pub fn label_at(heap: &[i32], r: usize, f: usize) -> usize
+    ensures { λ l. ⌜ l ≡ labelAt (now (heap .entry)) r f ⌝ }
+{
+    if RECORDS <= r {
+        return 2147483648;
+    }
+    if FIELDS <= f {
+        return 2147483648;
+    }
+    words::number_at(heap, 25 * r + 3 * f + 2)
+}
+
+// The location of the field of record r that has the label.
+pub fn find_field(heap: &[i32], r: usize, label: usize) -> Found
+    ensures { λ l. ⌜ l ≡ fieldWith (now (heap .entry)) r label ⌝ }
+{
+    let n = field_count(heap, r);
+    let mut f: usize = 0;
+    while f < n {
+        if label_at(heap, r, f) == label {
+            return Found::At(VARIABLES + 8 * r + f);
+        }
+        f += 1;
+    }
+    Found::Nothing
+}
+
+// A record more: n fields, each its label, kind and payload. Nothing is written where the heap is full.
+pub fn add_record(heap: &mut [i32], fields: &[i32], n: usize)
+    ensures { λ _. ⌜ now (heap .exit) ≡ withRecord (now (heap .entry)) (now (fields .entry)) n ⌝ }
+{
+    let r = record_count(heap);
+    if RECORDS <= r {
+        return;
+    }
+    if FIELDS < n {
+        return;
+    }
+    let at = 25 * r + 1;
+    words::copy(heap, at + 1, fields, 3 * n);
+    words::store(heap, at, words::word_of(n));
+    words::store(heap, 0, words::word_of(r + 1));
+}
+
+// The last record is taken away, and its words are zero again.
+pub fn drop_record(heap: &mut [i32])
+    ensures { λ _. ⌜ now (heap .exit) ≡ withoutRecord (now (heap .entry)) ⌝ }
+{
+    let n = record_count(heap);
+    if n == 0 {
+        return;
+    }
+    if RECORDS < n {
+        return;
+    }
+    words::clear(heap, 25 * (n - 1) + 1, RECORD_WORDS);
+    words::store(heap, 0, words::word_of(n - 1));
+}

@@ -1,0 +1,131 @@
+//! Paths and expressions in a state of the tables.
+
+use crate::outcome::Outcome;
+use crate::program::{Expression, Identity, Operator, Path, Term};
+use crate::tables::{Kind, Location, Tables, Value};
+
+/// The next cell on a path: from a cell that holds a record to a field of it.
+fn step(tables: &Tables, cell: Location, label: usize) -> Result<Location, Outcome> {
+    match tables.cell(cell) {
+        Some(Value::Reference(record)) => tables.field(record, label).ok_or(Outcome::NoCell),
+        _ => Err(Outcome::NoCell),
+    }
+}
+
+/// The cell a path names, which may be an absent variable.
+pub fn locate(tables: &Tables, path: &Path) -> Result<Location, Outcome> {
+    let mut cell = path.variable;
+    for label in &path.labels {
+        cell = step(tables, cell, *label)?;
+    }
+    Ok(cell)
+}
+
+/// The cells on the way to the one a path names, without that one itself.
+pub fn prefix(tables: &Tables, path: &Path) -> Result<Vec<Location>, Outcome> {
+    let mut cells = Vec::with_capacity(path.labels.len());
+    let mut cell = path.variable;
+    for label in &path.labels {
+        cells.push(cell);
+        cell = step(tables, cell, *label)?;
+    }
+    Ok(cells)
+}
+
+pub fn read(tables: &Tables, path: &Path) -> Result<Value, Outcome> {
+    tables.cell(locate(tables, path)?).ok_or(Outcome::NoCell)
+}
+
+/// The value of an expression, with 7, 8 and 9 as they are met.
+pub fn value(tables: &Tables, expression: &Expression) -> Result<Value, Outcome> {
+    match &expression.term {
+        Term::Nil => Ok(Value::Nil),
+        Term::Boolean(truth) => Ok(Value::Boolean(*truth)),
+        Term::Integer(number) => Ok(Value::Integer(*number)),
+        Term::Read(path) => read(tables, path),
+        Term::Apply(operator, left, right) => {
+            let left = value(tables, left)?;
+            let right = value(tables, right)?;
+            apply(*operator, left, right)
+        }
+        Term::Identical(identity) => identical(tables, identity).map(Value::Boolean),
+    }
+}
+
+fn identical(tables: &Tables, identity: &Identity) -> Result<bool, Outcome> {
+    let left = read(tables, &identity.left)?;
+    let right = read(tables, &identity.right)?;
+    Ok(left == right)
+}
+
+/// The test of an if or a while.
+pub fn test(tables: &Tables, expression: &Expression) -> Result<bool, Outcome> {
+    match value(tables, expression)? {
+        Value::Boolean(truth) => Ok(truth),
+        _ => Err(Outcome::WrongKind),
+    }
+}
+
+fn apply(operator: Operator, left: Value, right: Value) -> Result<Value, Outcome> {
+    match (left, right) {
+        (Value::Reference(_), _) | (_, Value::Reference(_)) => Err(Outcome::WrongKind),
+        _ if operator == Operator::Equal => Ok(Value::Boolean(left == right)),
+        _ if operator == Operator::Unequal => Ok(Value::Boolean(left != right)),
+        (Value::Integer(left), Value::Integer(right)) => apply_integers(operator, left, right),
+        (Value::Boolean(left), Value::Boolean(right)) => apply_booleans(operator, left, right),
+        _ => Err(Outcome::WrongKind),
+    }
+}
+
+fn apply_integers(operator: Operator, left: i32, right: i32) -> Result<Value, Outcome> {
+    let fit = |number: Option<i32>| number.map(Value::Integer).ok_or(Outcome::OutOfRange);
+    match operator {
+        Operator::Plus => fit(left.checked_add(right)),
+        Operator::Minus => fit(left.checked_sub(right)),
+        Operator::Times => fit(left.checked_mul(right)),
+        Operator::Less => Ok(Value::Boolean(left < right)),
+        Operator::AtMost => Ok(Value::Boolean(left <= right)),
+        Operator::AtLeast => Ok(Value::Boolean(left >= right)),
+        Operator::More => Ok(Value::Boolean(left > right)),
+        _ => Err(Outcome::WrongKind),
+    }
+}
+
+fn apply_booleans(operator: Operator, left: bool, right: bool) -> Result<Value, Outcome> {
+    match operator {
+        Operator::And => Ok(Value::Boolean(left && right)),
+        Operator::Or => Ok(Value::Boolean(left || right)),
+        _ => Err(Outcome::WrongKind),
+    }
+}
+
+/// The kind an expression inside C reads as. Numbers play no part in it, so
+/// arithmetic that leaves 32 bits still reads as an integer.
+pub fn kind(tables: &Tables, expression: &Expression) -> Result<Kind, Outcome> {
+    match &expression.term {
+        Term::Nil => Ok(Kind::Nil),
+        Term::Boolean(_) => Ok(Kind::Boolean),
+        Term::Integer(_) => Ok(Kind::Integer),
+        Term::Read(path) => Ok(read(tables, path)?.kind()),
+        Term::Apply(operator, left, right) => {
+            let left = kind(tables, left)?;
+            let right = kind(tables, right)?;
+            kind_of_result(*operator, left, right)
+        }
+        Term::Identical(_) => Err(Outcome::WrongKind),
+    }
+}
+
+fn kind_of_result(operator: Operator, left: Kind, right: Kind) -> Result<Kind, Outcome> {
+    use Operator::*;
+    let fits = match operator {
+        Equal | Unequal => left != Kind::Reference && right != Kind::Reference,
+        And | Or => left == Kind::Boolean && right == Kind::Boolean,
+        _ => left == Kind::Integer && right == Kind::Integer,
+    };
+    match operator {
+        _ if !fits => Err(Outcome::WrongKind),
+        Plus | Minus | Times => Ok(Kind::Integer),
+        _ => Ok(Kind::Boolean),
+    }
+}

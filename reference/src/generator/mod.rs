@@ -1,0 +1,80 @@
+//! Sheets for comparing two programs: a seed and a number give a sheet.
+
+mod again;
+mod blocks;
+mod compose;
+mod damage;
+mod draft;
+mod limits;
+mod numbers;
+mod search;
+mod solve;
+mod start;
+mod wishes;
+
+use crate::batch::Sheet;
+use crate::outcome::Outcome;
+use draft::Draft;
+use numbers::Numbers;
+
+/// The sheet of a seed and number, the same on every machine.
+pub fn sheet(seed: u64, index: u64) -> Sheet {
+    let mut numbers = Numbers::new(seed, index);
+    match numbers.below(100) {
+        0..=29 => finished(numbers),
+        30..=61 => wished(numbers),
+        62..=75 => damaged(numbers),
+        76..=87 => again::again(draft(numbers)),
+        88..=94 => limits::sheet(&mut numbers),
+        95..=96 => damage::random_words(&mut numbers),
+        _ => extreme(numbers),
+    }
+}
+
+fn draft(mut numbers: Numbers) -> Draft {
+    let start = start::usual(&mut numbers);
+    Draft::new(numbers, start)
+}
+
+/// A program of which every statement is accepted.
+fn finished(numbers: Numbers) -> Sheet {
+    let mut draft = draft(numbers);
+    let count = 2 + draft.numbers.below(22);
+    draft.grow(count);
+    draft.sheet()
+}
+
+fn wished(mut numbers: Numbers) -> Sheet {
+    let outcomes = Outcome::ALL.get(5..).unwrap_or(&[]);
+    let outcome = numbers.pick(outcomes).unwrap_or(Outcome::Finished);
+    wishes::wished(draft(numbers), outcome)
+}
+
+fn damaged(mut numbers: Numbers) -> Sheet {
+    let own = Numbers::new(numbers.next(), 2);
+    let mut sheet = match numbers.below(3) {
+        0 => again::again(draft(own)),
+        _ => finished(own),
+    };
+    damage::spoil(&mut numbers, &mut sheet);
+    sheet
+}
+
+/// Programs and tables full of extreme numbers.
+fn extreme(mut numbers: Numbers) -> Sheet {
+    numbers.extremes = 50;
+    finished(numbers)
+}
+
+/// How often each outcome comes up among the first sheets of a seed.
+pub fn histogram(seed: u64, count: u64) -> [u64; 20] {
+    let mut counts = [0; 20];
+    for index in 0..count {
+        let outcome = sheet(seed, index).answer().answer.outcome;
+        let place = usize::try_from(outcome).unwrap_or(0);
+        if let Some(count) = counts.get_mut(place) {
+            *count += 1;
+        }
+    }
+    counts
+}

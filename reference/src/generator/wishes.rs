@@ -1,0 +1,286 @@
+//! Drafts that are to end with a certain refusal from 5 on.
+
+use super::draft::Draft;
+use super::search::Mistake;
+use super::start;
+use crate::batch::Sheet;
+use crate::outcome::Outcome;
+use crate::tables::{Kind, Value};
+
+/// A sheet that is meant to end with an outcome, and mostly does.
+pub fn wished(mut draft: Draft, outcome: Outcome) -> Sheet {
+    match outcome {
+        Outcome::BudgetSpent => return short_budget(draft),
+        Outcome::NoProposal => return short_proposals(draft),
+        Outcome::HeapFull => draft = fill_heap(draft),
+        Outcome::NoRoom => fill_positions(&mut draft),
+        _ => {}
+    }
+    let count = draft.numbers.below(12);
+    draft.grow(count);
+    for _ in 0..4 {
+        if draft.refused.is_none() && !draft.is_full() {
+            refuse(&mut draft, outcome);
+        }
+    }
+    draft.trail();
+    draft.sheet()
+}
+
+fn short_budget(mut draft: Draft) -> Sheet {
+    let count = 3 + draft.numbers.below(15);
+    draft.grow(count);
+    if draft.numbers.chance(15) {
+        draft.attempt_last(&[8, 22, 1, 0]);
+    }
+    let steps = usize::try_from(draft.steps).unwrap_or(0);
+    let mut sheet = draft.sheet();
+    sheet.budget = i32::try_from(draft.numbers.below(steps)).unwrap_or(0);
+    sheet
+}
+
+fn short_proposals(mut draft: Draft) -> Sheet {
+    let count = 3 + draft.numbers.below(15);
+    draft.grow(count);
+    let starts = draft.search.starts.clone();
+    let mut sheet = draft.sheet();
+    let cut = draft.numbers.pick(&starts).unwrap_or(0);
+    sheet.proposals.truncate(cut);
+    sheet
+}
+
+fn fill_heap(draft: Draft) -> Draft {
+    let mut numbers = draft.numbers;
+    let records = 58 + numbers.below(7);
+    let tables = start::tables(&mut numbers, records);
+    Draft::new(numbers, tables)
+}
+
+fn fill_positions(draft: &mut Draft) {
+    let missing = draft.numbers.below(2);
+    if draft.numbers.chance(60) {
+        draft.keep_unrun(&vec![&[3, 1, 1, 22][..]; 64 - missing]);
+    } else {
+        draft.begin_with(50, Value::Nil);
+        draft.keep_unrun(&vec![&[5, 50, 0, 50, 0][..]; 32 - missing]);
+    }
+}
+
+/// Adds what is likely to be refused with an outcome in this state.
+fn refuse(draft: &mut Draft, outcome: Outcome) {
+    match outcome {
+        Outcome::NoCell => missing_cell(draft),
+        Outcome::WrongKind => wrong_kind(draft),
+        Outcome::OutOfRange => out_of_range(draft),
+        Outcome::HeapFull => {
+            draft.attempt_last(&[8, 22, 1, 2, 0, 0]);
+        }
+        Outcome::NotIdentical => not_identical(draft),
+        Outcome::IdentityClash => clash(draft),
+        Outcome::PlainIdentity => plain_identity(draft),
+        Outcome::NoRoom => no_room(draft),
+        Outcome::LostConstraint => lost_constraint(draft),
+        Outcome::UnfitProposal => mistake(draft, Mistake::Unfit),
+        Outcome::UnfitEntry => mistake(draft, Mistake::Entry),
+        Outcome::NeedlessChange => mistake(draft, Mistake::Needless),
+        Outcome::RequiredUnmet => mistake(draft, Mistake::Unmet),
+        _ => {}
+    }
+}
+
+fn last(draft: &mut Draft, statement: Vec<i32>) {
+    let words = draft.composer().wrapped(statement);
+    draft.attempt_last(&words);
+}
+
+fn missing_cell(draft: &mut Draft) {
+    let mut composer = draft.composer();
+    let absent = composer.absent_variable().unwrap_or(63);
+    let missing = match composer.known(|_| true) {
+        Some(known) if known.words.len() < 9 && composer.numbers.chance(60) => {
+            let mut words = known.words;
+            words.push(composer.numbers.between(5, 30));
+            let labels = i32::try_from(words.len()).unwrap_or(2) - 2;
+            words.splice(1..2, [labels]);
+            words
+        }
+        _ => vec![absent, 0],
+    };
+    let around: (&[i32], &[i32]) = match composer.numbers.below(7) {
+        0 => (&[1], &[20]),
+        1 => (&[1, 0, 0, 24], &[]),
+        2 => (&[2, 1, 2, 3, 20, 4, 24], &[]),
+        3 => (&[3, 2, 1, 22, 3, 25, 4, 24], &[23, 5]),
+        4 => (&[5, absent, 0], &[]),
+        5 => (&[7, 25, 10, 21, 26], &[0, 0, 0, 0]),
+        _ => (&[8, 24], &[0]),
+    };
+    let statement = [around.0, &missing, around.1].concat();
+    last(draft, statement);
+}
+
+fn wrong_kind(draft: &mut Draft) {
+    let operator = draft.numbers.between(1, 11);
+    let mut composer = draft.composer();
+    let mut leaf = |kind: Kind| {
+        let mut words = Vec::new();
+        composer.leaf(&mut words, kind);
+        words
+    };
+    let (first, second) = match operator {
+        6 | 7 => (leaf(Kind::Reference), leaf(Kind::Reference)),
+        _ => (leaf(Kind::Integer), leaf(Kind::Boolean)),
+    };
+    let integer = leaf(Kind::Integer);
+    let reference = leaf(Kind::Reference);
+    let statement = match composer.numbers.below(7) {
+        0 => [&[1, 0, 0, 25, operator][..], &first, &second].concat(),
+        1 => [&[3, 1, 1, 25, operator][..], &second, &first].concat(),
+        2 => [&[4, 2, 1, 22, 3][..], &integer].concat(),
+        3 => [&[7][..], &integer, &[0, 0]].concat(),
+        4 => [&[8][..], &reference, &[0]].concat(),
+        5 => [&[1, 2, 0, 25, 6][..], &reference, &[20]].concat(),
+        _ => match composer.known_of(Kind::Integer) {
+            Some(known) => [&[5][..], &known.words, &known.words].concat(),
+            None => vec![7, 20, 0, 0],
+        },
+    };
+    last(draft, statement);
+}
+
+fn out_of_range(draft: &mut Draft) {
+    let large = match draft.numbers.below(4) {
+        0 => [25, 1, 23, i32::MAX, 23, 1],
+        1 => [25, 2, 23, i32::MIN, 23, 1],
+        2 => [25, 3, 23, 46_341, 23, 46_341],
+        _ => [25, 3, 23, i32::MIN, 23, -1],
+    };
+    let mut other = Vec::new();
+    draft.composer().integer(&mut other, 2);
+    let statement = match draft.numbers.below(4) {
+        0 => [&[1, 0, 0][..], &large].concat(),
+        1 => [&[1, 0, 0, 25, 1][..], &other, &large].concat(),
+        2 => [&[2, 3, 1, 0][..], &large].concat(),
+        _ => [&[7, 25, 4][..], &large, &other, &[0, 0]].concat(),
+    };
+    last(draft, statement);
+}
+
+fn not_identical(draft: &mut Draft) {
+    let mut composer = draft.composer();
+    let left = composer.known(Value::is_reference_or_nil);
+    let value = left.as_ref().map(|known| known.value);
+    let right = composer.known(|own| own.is_reference_or_nil() && Some(own) != value);
+    let sort = composer.numbers.between(5, 6);
+    if let (Some(left), Some(right)) = (left, right) {
+        let statement = [&[sort][..], &left.words, &right.words].concat();
+        return last(draft, statement);
+    }
+    let _ = draft.attempt(&[2, 3, 0]);
+    let _ = draft.attempt(&[1, 4, 0, 20]);
+    last(draft, vec![sort, 3, 0, 4, 0]);
+}
+
+fn clash(draft: &mut Draft) {
+    let value = draft
+        .numbers
+        .pick(&[&[20][..], &[23, 5], &[22]])
+        .unwrap_or(&[20]);
+    match draft.numbers.below(3) {
+        0 => {
+            let _ = draft.attempt(&[2, 20, 1, 0, 20]);
+            let _ = draft.attempt(&[1, 20, 1, 0, 24, 20, 0]);
+            last(draft, [&[1, 20, 2, 0, 0][..], value].concat());
+        }
+        1 => {
+            let _ = draft.attempt(&[2, 21, 2, 0, 20, 1, 23, 4]);
+            let _ = draft.attempt(&[1, 22, 0, 20]);
+            let _ = draft.attempt(&[5, 21, 1, 0, 22, 0]);
+            let again = draft.numbers.pick(&[&[2, 21, 0][..], &[2, 21, 1, 0, 20]]);
+            let plain = [&[1, 21, 0][..], value].concat();
+            let statement = again.map_or(plain.clone(), <[i32]>::to_vec);
+            let either = if draft.numbers.chance(50) {
+                statement
+            } else {
+                plain
+            };
+            last(draft, either);
+        }
+        _ => {
+            let _ = draft.attempt(&[2, 23, 1, 0, 20]);
+            let _ = draft.attempt(&[1, 24, 0, 24, 23, 0]);
+            let _ = draft.attempt(&[1, 25, 0, 24, 23, 0]);
+            let _ = draft.attempt(&[5, 24, 0, 25, 0]);
+            let _ = draft.attempt(&[5, 23, 0, 24, 0]);
+            let _ = draft.attempt(&[6, 23, 0, 25, 0]);
+            let _ = draft.attempt(&[5, 23, 1, 0, 24, 1, 0]);
+            last(draft, vec![2, 25, 1, 0, 20]);
+        }
+    }
+}
+
+fn plain_identity(draft: &mut Draft) {
+    let pair = draft.composer().identical_paths();
+    let (left, right) = match pair {
+        Some((left, right)) => (left.words, right.words),
+        None => {
+            let _ = draft.attempt(&[1, 26, 0, 20]);
+            (vec![26, 0], vec![26, 0])
+        }
+    };
+    let _ = draft.attempt(&[&[5][..], &left, &right].concat());
+    let named = if draft.numbers.chance(50) {
+        left
+    } else {
+        right
+    };
+    let mut statement = [&[1][..], &named].concat();
+    let kinds = [Kind::Integer, Kind::Boolean];
+    let kind = draft.numbers.pick(&kinds).unwrap_or(Kind::Integer);
+    draft.composer().expression(&mut statement, kind, 2);
+    last(draft, statement);
+}
+
+fn no_room(draft: &mut Draft) {
+    let (values, identities) = (draft.tables.values.len(), draft.tables.identities.len());
+    let statement: &[i32] = if values >= identities {
+        &[3, 1, 1, 22]
+    } else {
+        &[5, 50, 0, 50, 0]
+    };
+    last(draft, statement.to_vec());
+}
+
+fn lost_constraint(draft: &mut Draft) {
+    let priority = draft.numbers.between(1, 3);
+    let _ = draft.attempt(&[2, 27, 2, 0, 23, 1, 1, 22]);
+    let _ = draft.attempt(&[3, 2, priority, 25, 6, 24, 27, 1, 0, 23, 1, 1, 24, 27, 1, 1]);
+    let statement: &[i32] = match draft.numbers.below(6) {
+        0 => &[1, 27, 0, 20],
+        1 => &[2, 27, 1, 0, 23, 1],
+        2 => &[2, 27, 2, 0, 23, 1, 1, 23, 0],
+        3 => &[1, 27, 1, 1, 23, 1],
+        4 => &[1, 27, 1, 0, 24, 27, 0],
+        _ => &[1, 27, 0, 23, 5],
+    };
+    last(draft, statement.to_vec());
+}
+
+/// Grows on with a mistake due at the next proposal it fits.
+fn mistake(draft: &mut Draft, mistake: Mistake) {
+    if mistake == Mistake::Unmet {
+        let _ = draft.attempt(&[1, 28, 0, 23, 3]);
+        let _ = draft.attempt(&[1, 29, 0, 23, 4]);
+        let _ = draft.attempt(&[3, 1, 3, 25, 4, 24, 28, 0, 24, 29, 0]);
+    }
+    draft.search.mistake = Some(mistake);
+    for _ in 0..6 {
+        if draft.refused.is_none() {
+            let mut statement = draft.composer().statement(2);
+            if mistake == Mistake::Unmet && draft.numbers.chance(60) {
+                statement = vec![1, 28, 0, 23, draft.numbers.between(4, 30)];
+            }
+            draft.attempt_last(&statement);
+        }
+    }
+}

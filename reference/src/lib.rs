@@ -1,0 +1,18 @@
+//! An independent run of the programs of document 01.
+//!
+//! Program words become trees and tables become maps; the answers are the
+//! outcome, place, steps, proposals accepted, unread words and final tables.
+#![forbid(unsafe_code)]
+
+pub mod batch;
+pub mod constraints;
+pub mod evaluate;
+pub mod generator;
+pub mod identity;
+pub mod lister;
+pub mod outcome;
+pub mod program;
+pub mod proposal;
+pub mod run;
+pub mod statements;
+pub mod tables;

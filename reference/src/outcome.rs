@@ -1,0 +1,54 @@
+//! The outcomes of document 01 under their numbers.
+
+#[derive(Clone, Copy, Debug, PartialEq, Eq, PartialOrd, Ord)]
+pub enum Outcome {
+    Finished = 0,
+    WrongSize = 1,
+    UnfitProgram = 2,
+    UnfitTable = 3,
+    UnfitStart = 4,
+    BudgetSpent = 5,
+    NoProposal = 6,
+    NoCell = 7,
+    WrongKind = 8,
+    OutOfRange = 9,
+    HeapFull = 10,
+    NotIdentical = 11,
+    IdentityClash = 12,
+    PlainIdentity = 13,
+    NoRoom = 14,
+    LostConstraint = 15,
+    UnfitProposal = 16,
+    UnfitEntry = 17,
+    NeedlessChange = 18,
+    RequiredUnmet = 19,
+}
+
+impl Outcome {
+    pub const ALL: [Outcome; 20] = [
+        Outcome::Finished,
+        Outcome::WrongSize,
+        Outcome::UnfitProgram,
+        Outcome::UnfitTable,
+        Outcome::UnfitStart,
+        Outcome::BudgetSpent,
+        Outcome::NoProposal,
+        Outcome::NoCell,
+        Outcome::WrongKind,
+        Outcome::OutOfRange,
+        Outcome::HeapFull,
+        Outcome::NotIdentical,
+        Outcome::IdentityClash,
+        Outcome::PlainIdentity,
+        Outcome::NoRoom,
+        Outcome::LostConstraint,
+        Outcome::UnfitProposal,
+        Outcome::UnfitEntry,
+        Outcome::NeedlessChange,
+        Outcome::RequiredUnmet,
+    ];
+
+    pub fn number(self) -> i32 {
+        self as i32
+    }
+}

@@ -1,0 +1,131 @@
+//! Nothing that comes in, however unfit, stops the program.
+
+use reference::batch::{answer_all, answer_line, Sheet};
+use reference::lister::list;
+use reference::run::run;
+
+/// A small generator of numbers for these tests alone.
+struct Numbers(u64);
+
+impl Numbers {
+    fn next(&mut self) -> u64 {
+        self.0 ^= self.0 << 13;
+        self.0 ^= self.0 >> 7;
+        self.0 ^= self.0 << 17;
+        self.0
+    }
+
+    fn below(&mut self, limit: usize) -> usize {
+        (self.next() % limit as u64) as usize
+    }
+
+    fn word(&mut self) -> i32 {
+        match self.below(4) {
+            0 => self.next() as i32,
+            1 => [i32::MIN, i32::MAX, -1, 1_000_001][self.below(4)],
+            _ => self.below(30) as i32,
+        }
+    }
+
+    fn words(&mut self, most: usize) -> Vec<i32> {
+        let count = self.below(most);
+        (0..count).map(|_| self.word()).collect()
+    }
+
+    fn bytes(&mut self, most: usize, letters: &[u8]) -> Vec<u8> {
+        let count = self.below(most);
+        let letter = |numbers: &mut Numbers| letters[numbers.below(letters.len())];
+        (0..count).map(|_| letter(self)).collect()
+    }
+}
+
+#[test]
+fn random_bytes() {
+    let mut numbers = Numbers(88_172_645_463_325_252);
+    let all: Vec<u8> = (0..=255).collect();
+    let likely = b"0123456789- |F\n=";
+    for round in 0..3000 {
+        let letters: &[u8] = if round % 2 == 0 { &all } else { likely };
+        let bytes = numbers.bytes(200, letters);
+        assert!(list(&bytes).ends_with('\n'));
+        assert!(!answer_line(&bytes).contains('\n'));
+        let lines = bytes.split_inclusive(|byte| *byte == b'\n').count();
+        let mut output = Vec::new();
+        answer_all(&bytes[..], &mut output).unwrap();
+        assert_eq!(output.iter().filter(|byte| **byte == b'\n').count(), lines);
+    }
+}
+
+#[test]
+fn random_lister_lines() {
+    let mut numbers = Numbers(7);
+    let join = |words: Vec<i32>| {
+        let words: Vec<String> = words.iter().map(i32::to_string).collect();
+        words.join(" ")
+    };
+    for _ in 0..3000 {
+        let program = join(numbers.words(40));
+        let proposals = join(numbers.words(20));
+        let budget = numbers.below(1000);
+        let input = format!("program={program}\nproposals={proposals}\nbudget={budget}\n");
+        assert!(list(input.as_bytes()).starts_with("outcome="));
+    }
+}
+
+#[test]
+fn random_words() {
+    let mut numbers = Numbers(99);
+    for _ in 0..20_000 {
+        let program = numbers.words(60);
+        let mut tables = [numbers.words(140), numbers.words(50), numbers.words(100)];
+        let sizes = [128, 1601, 98];
+        for (table, size) in tables.iter_mut().zip(sizes) {
+            if numbers.below(8) > 0 {
+                table.truncate(numbers.below(12));
+                table.resize(size, 0);
+            }
+        }
+        let proposals = numbers.words(20);
+        let budget = numbers.word();
+        let [environment, heap, constraints] = &mut tables;
+        let answer = run(&program, environment, heap, constraints, &proposals, budget);
+        assert!((0..20).contains(&answer.outcome));
+        assert!(answer.unread <= proposals.len());
+    }
+}
+
+#[test]
+fn lines_that_are_no_sheets() {
+    for line in [
+        "",
+        "|||||",
+        "0|F|F|F||",
+        "0|F|F|F|",
+        "0|F|F|F||1|",
+        "F|F|F|F||1",
+        "0|F|F|F|F|1",
+        "0|F|F|F||1 1",
+        "0|F|F|F||+1",
+        "0|F|F|F||2147483648",
+        "0|f|F|F||1",
+        "0|FF|F|F||1",
+        "0\t|F|F|F||1",
+    ] {
+        assert_eq!(answer_line(line.as_bytes()), "unfit", "for {line:?}");
+    }
+    assert_eq!(answer_line(b"0|F|F|F|\xff|1"), "unfit");
+    assert_eq!(answer_line(b"0|F|F|F||1"), "0 1 0 0 0|=|=|=");
+    assert_eq!(answer_line(b"0||F|1 2 3|7|1"), "1 0 0 0 1|=|=|=");
+}
+
+#[test]
+fn sheets_and_lines_correspond() {
+    let line = "3 -4|1 2|F||9 9|-7";
+    let sheet = Sheet::parse(line.as_bytes()).unwrap();
+    assert_eq!(sheet.program, [3, -4]);
+    assert_eq!(sheet.environment, [1, 2]);
+    assert_eq!(sheet.heap, vec![0; 1601]);
+    assert!(sheet.constraints.is_empty());
+    assert_eq!((sheet.proposals.len(), sheet.budget), (2, -7));
+    assert_eq!(sheet.line(), line);
+}
