@@ -31,15 +31,7 @@ pub fn run(
 ) -> Answer {
     let ready = match prepare(program, environment, heap, constraints, budget) {
         Ok(ready) => ready,
-        Err((outcome, place)) => {
-            return Answer {
-                outcome: outcome.number(),
-                place,
-                steps: 0,
-                accepted: 0,
-                unread: proposals.len(),
-            }
-        }
+        Err((outcome, place)) => return refused(outcome, place, proposals.len()),
     };
     let mut machine = Machine {
         always: &ready.always,
@@ -61,6 +53,17 @@ pub fn run(
         steps: machine.steps,
         accepted: machine.accepted,
         unread: machine.source.words.len(),
+    }
+}
+
+/// The answer where no statement was begun.
+fn refused(outcome: Outcome, place: usize, unread: usize) -> Answer {
+    Answer {
+        outcome: outcome.number(),
+        place,
+        steps: 0,
+        accepted: 0,
+        unread,
     }
 }
 

@@ -112,11 +112,14 @@ impl Composer<'_> {
         let mut name = || names.next().copied().unwrap_or(0);
         let (a, b, c) = (name(), name(), name());
         let first = vec![2, a, 1, 1, 23, self.numbers.small(), 1, b, 0, 24, a, 0];
-        let rest = match self.numbers.below(4) {
+        let rest = match self.numbers.below(5) {
             0 => vec![1, c, 0, 24, b, 0, 5, a, 0, b, 0, 5, c, 0, b, 0],
             1 => vec![2, c, 1, 0, 24, a, 0, 5, a, 0, b, 0, 5, c, 1, 0, a, 0],
             2 => vec![
                 2, c, 2, 0, 24, a, 0, 4, 24, a, 0, 5, c, 1, 4, c, 1, 0, 5, b, 0, c, 1, 4,
+            ],
+            3 => vec![
+                2, c, 1, 0, 24, a, 0, 2, a, 1, 3, 24, c, 0, 5, b, 0, a, 2, 3, 0,
             ],
             _ => vec![2, c, 1, 0, 24, b, 0, 5, c, 1, 0, b, 0, 6, c, 1, 0, a, 0],
         };
@@ -169,8 +172,8 @@ impl Composer<'_> {
         let place = words.len();
         self.block(&mut words, count, depth);
         words.splice(place..place + 1, [i32::try_from(count).unwrap_or(0) + 1]);
-        let unnamed = [1, counter, 0, 25, 1, 24, counter, 0, 23, 1];
-        words.extend(unnamed);
+        let count_up = [1, counter, 0, 25, 1, 24, counter, 0, 23, 1];
+        words.extend(count_up);
         words.push(0);
         words
     }

@@ -189,6 +189,9 @@ impl<'a> Composer<'a> {
         let (Some(known), false) = (self.known_of(Kind::Integer), self.numbers.chance(20)) else {
             return self.boolean(words, 3, Place::Constraint);
         };
+        if self.numbers.chance(8) {
+            return self.large_part(words, &known.words);
+        }
         let operator = match self.numbers.below(3) {
             0 => self.numbers.one_of(&COMPARISONS),
             _ => 6,
@@ -197,6 +200,16 @@ impl<'a> Composer<'a> {
         words.extend(known.words);
         let depth = 1 + self.numbers.below(3);
         self.integer(words, depth);
+    }
+
+    /// A part that holds unless its product leaves 32 bits.
+    fn large_part(&mut self, words: &mut Vec<i32>, path: &[i32]) {
+        let factor = self
+            .numbers
+            .one_of(&[1 << 30, 1 << 29, 500_000_000, i32::MIN]);
+        words.extend([25, 11, 22, 25, self.numbers.one_of(&COMPARISONS), 25, 3, 24]);
+        words.extend(path);
+        words.extend([23, factor, 23, self.numbers.literal()]);
     }
 
     /// Two paths whose cells hold the same reference or nil.

@@ -57,6 +57,61 @@ fn spoil_heap(numbers: &mut Numbers, heap: &mut [i32]) {
     change(numbers, heap, most);
 }
 
+/// Gives a reference a number about the count word, itself changed or not.
+fn spoil_reference(numbers: &mut Numbers, sheet: &mut Sheet) {
+    if let (Some(count), true) = (sheet.heap.first_mut(), numbers.chance(30)) {
+        *count = numbers.one_of(&[65, 100, -1, i32::MAX, i32::MIN]);
+    }
+    let count = sheet.heap.first().copied().unwrap_or(0);
+    let payload = numbers.one_of(&[count, count, -1, count.wrapping_sub(1)]);
+    let pair = match numbers.chance(50) {
+        true => sheet
+            .environment
+            .chunks_mut(2)
+            .find(|cell| is_reference(cell)),
+        false => sheet.heap.get_mut(3..).and_then(|rest| {
+            let fields = rest.chunks_mut(25).flat_map(|record| record.chunks_mut(3));
+            let mut references = fields.filter(|cell| is_reference(cell));
+            references.nth(numbers.below(3))
+        }),
+    };
+    if let Some(word) = pair.and_then(|pair| pair.get_mut(1)) {
+        *word = payload;
+    }
+}
+
+fn is_reference(words: &[i32]) -> bool {
+    words.first() == Some(&4)
+}
+
+/// Makes two labels of a record, or two kept positions, the same.
+fn spoil_twice(numbers: &mut Numbers, sheet: &mut Sheet) {
+    if numbers.chance(50) {
+        let records = sheet.heap.get_mut(1..).unwrap_or(&mut []);
+        let mut wide = records
+            .chunks_mut(25)
+            .filter(|record| record.first() >= Some(&2));
+        if let Some([_, first, _, _, second, ..]) = wide.next() {
+            *second = *first;
+        }
+        return;
+    }
+    let (counts, positions) = match sheet.constraints.split_at_mut_checked(2) {
+        Some(halves) => halves,
+        None => return,
+    };
+    let sort = numbers.below(2);
+    let from = 64 * sort;
+    if let Some(count @ 1..=31) = counts.get_mut(sort) {
+        let first = positions.get(from).copied().unwrap_or(0);
+        let next = usize::try_from(*count).unwrap_or(0);
+        if let Some(word) = positions.get_mut(from + next) {
+            *word = first;
+            *count += 1;
+        }
+    }
+}
+
 /// Spoils kept positions: counts, used words or the words behind them.
 fn spoil_constraints(numbers: &mut Numbers, constraints: &mut [i32]) {
     let place = match numbers.below(4) {
@@ -71,18 +126,20 @@ fn spoil_constraints(numbers: &mut Numbers, constraints: &mut [i32]) {
 }
 
 pub fn spoil(numbers: &mut Numbers, sheet: &mut Sheet) {
-    match numbers.below(20) {
+    match numbers.below(25) {
         0..=6 => spoil_list(numbers, &mut sheet.program),
         7 | 8 => change(numbers, &mut sheet.environment, 16),
         9..=11 => spoil_heap(numbers, &mut sheet.heap),
         12 | 13 => spoil_constraints(numbers, &mut sheet.constraints),
-        14 => match numbers.below(3) {
+        14 | 15 => match numbers.below(3) {
             0 => spoil_length(numbers, &mut sheet.environment),
             1 => spoil_length(numbers, &mut sheet.heap),
             _ => spoil_length(numbers, &mut sheet.constraints),
         },
-        15 => sheet.budget = numbers.one_of(&[-1, 1_000_001, i32::MIN, i32::MAX, 0, 1]),
-        _ => spoil_list(numbers, &mut sheet.proposals),
+        16 => sheet.budget = numbers.one_of(&[-1, 1_000_001, i32::MIN, i32::MAX, 0, 1]),
+        17..=20 => spoil_list(numbers, &mut sheet.proposals),
+        21 | 22 => spoil_reference(numbers, sheet),
+        _ => spoil_twice(numbers, sheet),
     }
 }
 

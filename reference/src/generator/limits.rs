@@ -7,7 +7,7 @@ use crate::tables::{Tables, Value};
 /// A limit sheet; `past` is 0 at the edge and 1 one past it.
 pub fn sheet(numbers: &mut Numbers) -> Sheet {
     let past = numbers.below(2);
-    match numbers.below(22) {
+    match numbers.below(24) {
         0 => plain(counted(&[0], 255 + past)),
         1 => plain(nested_blocks(8 + past, numbers.chance(50))),
         2 => plain(nested_sum(numbers, 16 + past)),
@@ -37,6 +37,8 @@ pub fn sheet(numbers: &mut Numbers) -> Sheet {
         ]),
         19 => kept_full(past),
         20 => zeros(vec![1, 8, 22, 1, 2, 0, 0], 66),
+        21 => plain(twice(numbers, past)),
+        22 => plain(identity_inside(numbers, past)),
         _ => extra(numbers, past),
     }
 }
@@ -196,6 +198,25 @@ fn kept_full(past: usize) -> Sheet {
     tables.values = (0..64).map(|number| 1 + 4 * number).rev().collect();
     fill(&mut sheet, &tables);
     sheet
+}
+
+/// A record with labels that differ, or with a label twice.
+fn twice(numbers: &mut Numbers, past: usize) -> Vec<i32> {
+    let label = numbers.between(0, 31);
+    let other = if past == 1 { label } else { (label + 1) % 32 };
+    let between = (label + 2) % 32;
+    vec![1, 2, 0, 3, label, 20, between, 20, other, 23, 4]
+}
+
+/// An identity in a test, or inside C.
+fn identity_inside(numbers: &mut Numbers, past: usize) -> Vec<i32> {
+    let start: &[i32] = match (past, numbers.below(3)) {
+        (0, _) => &[2, 1, 0, 0, 20, 1, 1, 0, 25, 10, 22],
+        (_, 0) => &[2, 1, 0, 0, 20, 3, 1, 3],
+        (_, 1) => &[2, 1, 0, 0, 20, 4, 2, 1, 22, 3],
+        _ => &[2, 1, 0, 0, 20, 3, 1, 1, 25, 10, 22],
+    };
+    [start, &[26, 0, 0, 0, 0]].concat()
 }
 
 /// Words left over behind the program, or the last ones missing.

@@ -177,7 +177,10 @@ impl Searcher {
             _ => i32::try_from(self.any_cell(wanted)?.0).ok()?,
         };
         let cell = wanted.tables.cell(usize::try_from(location).ok()?);
+        let is_target = wanted.target.and_then(|t| i32::try_from(t).ok()) == Some(location);
         let payload = match cell {
+            Some(Value::Integer(number)) if is_target => number.wrapping_add(1),
+            Some(Value::Boolean(truth)) if is_target => i32::from(!truth),
             Some(Value::Integer(number)) if self.numbers.chance(80) => number,
             Some(Value::Boolean(truth)) if self.numbers.chance(50) => i32::from(truth),
             Some(Value::Boolean(_)) => self.numbers.one_of(&[2, -1, 3, i32::MIN]),

@@ -1,5 +1,6 @@
 //! Drafts that are to end with a certain refusal from 5 on.
 
+use super::compose::Composer;
 use super::draft::Draft;
 use super::search::Mistake;
 use super::start;
@@ -72,9 +73,7 @@ fn refuse(draft: &mut Draft, outcome: Outcome) {
         Outcome::NoCell => missing_cell(draft),
         Outcome::WrongKind => wrong_kind(draft),
         Outcome::OutOfRange => out_of_range(draft),
-        Outcome::HeapFull => {
-            draft.attempt_last(&[8, 22, 1, 2, 0, 0]);
-        }
+        Outcome::HeapFull => full_heap(draft),
         Outcome::NotIdentical => not_identical(draft),
         Outcome::IdentityClash => clash(draft),
         Outcome::PlainIdentity => plain_identity(draft),
@@ -128,24 +127,36 @@ fn wrong_kind(draft: &mut Draft) {
         words
     };
     let (first, second) = match operator {
-        6 | 7 => (leaf(Kind::Reference), leaf(Kind::Reference)),
+        6 | 7 => (leaf(Kind::Integer), leaf(Kind::Reference)),
         _ => (leaf(Kind::Integer), leaf(Kind::Boolean)),
     };
     let integer = leaf(Kind::Integer);
     let reference = leaf(Kind::Reference);
-    let statement = match composer.numbers.below(7) {
+    let statement = match composer.numbers.below(8) {
         0 => [&[1, 0, 0, 25, operator][..], &first, &second].concat(),
         1 => [&[3, 1, 1, 25, operator][..], &second, &first].concat(),
         2 => [&[4, 2, 1, 22, 3][..], &integer].concat(),
         3 => [&[7][..], &integer, &[0, 0]].concat(),
         4 => [&[8][..], &reference, &[0]].concat(),
         5 => [&[1, 2, 0, 25, 6][..], &reference, &[20]].concat(),
-        _ => match composer.known_of(Kind::Integer) {
-            Some(known) => [&[5][..], &known.words, &known.words].concat(),
-            None => vec![7, 20, 0, 0],
-        },
+        6 => [&[1, 60, 1, 0, 25, operator][..], &second, &first].concat(),
+        _ => unlike_identity(&mut composer),
     };
     last(draft, statement);
+}
+
+/// An identity statement with one side or both neither reference nor nil.
+fn unlike_identity(composer: &mut Composer) -> Vec<i32> {
+    let plain = composer.known(|value| !value.is_reference_or_nil());
+    let other = composer.known(|_| true);
+    let sort = composer.numbers.between(5, 6);
+    match (plain, other) {
+        (Some(left), Some(right)) if composer.numbers.chance(50) => {
+            [&[sort][..], &left.words, &right.words].concat()
+        }
+        (Some(right), Some(left)) => [&[sort][..], &left.words, &right.words].concat(),
+        _ => vec![7, 20, 0, 0],
+    }
 }
 
 fn out_of_range(draft: &mut Draft) {
@@ -157,13 +168,30 @@ fn out_of_range(draft: &mut Draft) {
     };
     let mut other = Vec::new();
     draft.composer().integer(&mut other, 2);
-    let statement = match draft.numbers.below(4) {
+    let statement = match draft.numbers.below(5) {
         0 => [&[1, 0, 0][..], &large].concat(),
         1 => [&[1, 0, 0, 25, 1][..], &other, &large].concat(),
         2 => [&[2, 3, 1, 0][..], &large].concat(),
+        3 => [&[1, 60, 1, 0][..], &large].concat(),
         _ => [&[7, 25, 4][..], &large, &other, &[0, 0]].concat(),
     };
     last(draft, statement);
+}
+
+/// New records until there is no room, sometimes with an earlier refusal.
+fn full_heap(draft: &mut Draft) {
+    if draft.numbers.chance(70) {
+        draft.attempt_last(&[8, 22, 1, 2, 0, 0]);
+        return;
+    }
+    while draft.attempt(&[2, 34, 0]).is_ok() {}
+    let statement: &[i32] = match draft.numbers.below(4) {
+        0 => &[2, 0, 1, 0, 24, 60, 0],
+        1 => &[2, 0, 2, 3, 20, 0, 25, 1, 22, 22],
+        2 => &[2, 0, 1, 0, 25, 1, 23, i32::MAX, 23, 1],
+        _ => &[2, 0, 1, 0, 20],
+    };
+    last(draft, statement.to_vec());
 }
 
 fn not_identical(draft: &mut Draft) {
@@ -186,7 +214,7 @@ fn clash(draft: &mut Draft) {
         .numbers
         .pick(&[&[20][..], &[23, 5], &[22]])
         .unwrap_or(&[20]);
-    match draft.numbers.below(3) {
+    match draft.numbers.below(4) {
         0 => {
             let _ = draft.attempt(&[2, 20, 1, 0, 20]);
             let _ = draft.attempt(&[1, 20, 1, 0, 24, 20, 0]);
@@ -196,16 +224,14 @@ fn clash(draft: &mut Draft) {
             let _ = draft.attempt(&[2, 21, 2, 0, 20, 1, 23, 4]);
             let _ = draft.attempt(&[1, 22, 0, 20]);
             let _ = draft.attempt(&[5, 21, 1, 0, 22, 0]);
-            let again = draft.numbers.pick(&[&[2, 21, 0][..], &[2, 21, 1, 0, 20]]);
-            let plain = [&[1, 21, 0][..], value].concat();
-            let statement = again.map_or(plain.clone(), <[i32]>::to_vec);
-            let either = if draft.numbers.chance(50) {
-                statement
-            } else {
-                plain
+            let statement = match draft.numbers.below(4) {
+                0 => vec![2, 21, 0],
+                1 => vec![2, 21, 1, 0, 20],
+                _ => [&[1, 21, 0][..], value].concat(),
             };
-            last(draft, either);
+            last(draft, statement);
         }
+        2 => inner_clash(draft, value),
         _ => {
             let _ = draft.attempt(&[2, 23, 1, 0, 20]);
             let _ = draft.attempt(&[1, 24, 0, 24, 23, 0]);
@@ -217,6 +243,22 @@ fn clash(draft: &mut Draft) {
             last(draft, vec![2, 25, 1, 0, 20]);
         }
     }
+}
+
+/// A field on the way of a kept identity, reached by its own path or another.
+fn inner_clash(draft: &mut Draft, value: &[i32]) {
+    let _ = draft.attempt(&[2, 30, 1, 1, 20]);
+    let _ = draft.attempt(&[2, 31, 1, 0, 24, 30, 0]);
+    let _ = draft.attempt(&[1, 32, 0, 24, 31, 0]);
+    let _ = draft.attempt(&[1, 33, 0, 20]);
+    let _ = draft.attempt(&[5, 31, 2, 0, 1, 33, 0]);
+    let name = draft.numbers.between(31, 32);
+    let given = match draft.numbers.below(3) {
+        0 => &[24, 30, 0],
+        1 => &[24, 31, 0],
+        _ => value,
+    };
+    last(draft, [&[1, name, 1, 0][..], given].concat());
 }
 
 fn plain_identity(draft: &mut Draft) {
@@ -241,12 +283,18 @@ fn plain_identity(draft: &mut Draft) {
     last(draft, statement);
 }
 
+/// With the room full, mostly one position more, else an earlier refusal.
 fn no_room(draft: &mut Draft) {
     let (values, identities) = (draft.tables.values.len(), draft.tables.identities.len());
-    let statement: &[i32] = if values >= identities {
-        &[3, 1, 1, 22]
-    } else {
-        &[5, 50, 0, 50, 0]
+    let early = draft.numbers.chance(25);
+    let statement: &[i32] = match (values >= identities, draft.numbers.below(3)) {
+        (true, 0) if early => &[3, 2, 1, 22, 1, 24, 60, 0],
+        (true, 1) if early => &[3, 1, 3, 23, 1],
+        (true, 2) if early => &[4, 1, 3, 21],
+        (true, _) => &[3, 1, 1, 22],
+        (false, 0) if early => &[5, 50, 0, 60, 0],
+        (false, 1) if early => &[6, 50, 0, 50, 0],
+        (false, _) => &[5, 50, 0, 50, 0],
     };
     last(draft, statement.to_vec());
 }
