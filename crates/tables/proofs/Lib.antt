@@ -3,3 +3,8 @@ pub mod FindLaws
 pub mod KeptLaws
 pub mod ValueLaws
 pub mod LoopLaws
+pub mod WordLaws
+pub mod CellLaws
+pub mod RecordLaws
+pub mod FitLaws
+pub mod FitChanges

@@ -1,5 +1,6 @@
 -- Which tables are fit (01, "Lent tables"; outcomes 1 and 3). Assumes nothing: these are definitions.
-use Prim.Native.Nat.{ℕ, _+_, _*_}
+use Prim.Native.Nat.{ℕ, _+_, _*_, _<_}
+use mathlib.Core.Path.{_≡_}
 use mathlib.Core.Bool.{Bool, true, false, not, cond, _&&_, _||_}
 use mathlib.Core.List.{List}
 use lib.Dec.{ltb, leb, eqb}
@@ -11,7 +12,7 @@ use Rattle.tables.specs.declared.Sort.{Sort}
 use Rattle.tables.specs.declared.Sort.the-variants.{Values, Identities}
 use Rattle.tables.specs.Sizes.{variables, environmentWords, heapWords, constraintsWords, mostRecords, mostFields, labels, recordWords, countWord, labelWord, fieldWord, noNumber}
 use Rattle.tables.specs.Search.{every}
-use Rattle.tables.specs.Cells.{pairAt}
+use Rattle.tables.specs.Cells.{Cells, pairAt, cellAt}
 use Rattle.tables.specs.Kept.{keptWord, mostKept, firstKept, positionAt}
 
 unfoldable pub sized : List ℤ → List ℤ → List ℤ → Bool
@@ -76,3 +77,28 @@ sortFits c s = leb (numberAt c (keptWord s)) (mostKept s) && every (roomFits c s
 
 unfoldable pub constraintsFit : List ℤ → Bool
 constraintsFit c = sortFits c Values && sortFits c Identities
+
+-- ---- fit environments and heaps
+
+pub record Sized (S : Cells) : Type 0 where
+  pub environment : length (S .environment) ≡ environmentWords
+  pub heap : length (S .heap) ≡ heapWords
+
+unfoldable pub cellsFit : Cells → Bool
+cellsFit S = environmentFits (wordAt (S .heap) 0) (S .environment) && heapFits (S .heap)
+
+pub record Fit (S : Cells) : Type 0 where
+  pub sized : Sized S
+  pub fits : cellsFit S ≡ true
+
+-- a cell may be put into every variable; into a field only where the field is used, and then it may not be absent
+pub data MayHold (S : Cells) (l : ℕ) (c : Cell) : Type 0 where
+  in-variable : l < variables → MayHold S l c
+  in-field : (numberOf (cellAt S l .kind) ≡ 0 → ⊥) → (numberOf (c .kind) ≡ 0 → ⊥) → MayHold S l c
+
+-- n fields for a new record, each its label, kind and payload in fs, where the heap has this count word
+pub record FieldsFit (count : ℤ) (fs : List ℤ) (n : ℕ) : Type 0 where
+  pub small : (f : ℕ) → f < n → numberOf (wordAt fs (3 * f)) < labels
+  pub differ : (g f : ℕ) → g < f → f < n → numberOf (wordAt fs (3 * g)) ≡ numberOf (wordAt fs (3 * f)) → ⊥
+  pub fits : (f : ℕ) → f < n → cellFits count (pairAt fs (3 * f + 1)) ≡ true
+  pub used : (f : ℕ) → f < n → numberOf (wordAt fs (3 * f + 1)) ≡ 0 → ⊥

@@ -1,9 +1,10 @@
 -- Cells and values (01, "Lent tables"). Assumes nothing: these are definitions.
-use Prim.Native.Nat.{ℕ}
+use Prim.Native.Nat.{ℕ, _<_}
 use mathlib.Core.Bool.{Bool, true, false, cond}
 use lib.Dec.{eqb}
 use lib.IntN.{ℤ, pos}
 use Rattle.words.specs.Words.{numberOf, wordOf, eqZ}
+use Rattle.tables.specs.Sizes.{noNumber}
 use Rattle.tables.specs.declared.Cell.{Cell}
 use Rattle.tables.specs.declared.Value.{Value}
 use Rattle.tables.specs.declared.Value.the-variants.{Nil, Bool as Truth, Int, Ref}
@@ -31,3 +32,10 @@ slotOf c =
     (cond (eqb (numberOf (c .kind)) 3) (Has (Int (c .payload)))
     (cond (eqb (numberOf (c .kind)) 4) (Has (Ref (numberOf (c .payload))))
     Absent)))
+
+-- a value that a cell can hold: a reference is a number that a word can be
+abbrev pub Sound : Value → Type 0
+Sound Nil = Unit {0}
+Sound (Truth b) = Unit {0}
+Sound (Int n) = Unit {0}
+Sound (Ref r) = r < noNumber

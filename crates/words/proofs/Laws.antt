@@ -51,6 +51,18 @@ pub number-drop : (p : List ℤ) (a k : ℕ) → numberAt (drop a p) k ≡ numbe
 unfolding numberAt
 number-drop p a k = ap numberOf (getD-drop a p k (negsuc 0))
 
+-- the first word as a number
+pub number-first : (w : ℤ) (q : List ℤ) → numberAt (w ∷ q) 0 ≡ numberOf w
+unfolding numberAt
+number-first w q = refl
+
+-- a part whose first word is less than 2147483648 as a number begins with that word
+pub number-cons : (p : List ℤ) → numberAt p 0 < 2147483648 → p ≡ pos (numberAt p 0) ∷ drop 1 p
+unfolding numberAt
+number-cons [] h = let z : ⊥ = omega arith in absurd z
+number-cons (pos n ∷ p) h = refl
+number-cons (negsuc n ∷ p) h = let z : ⊥ = omega arith in absurd z
+
 -- a number that a word can be
 pub word-is : (n : ℕ) → n < 2147483648 → wordOf n ≡ pos n
 unfolding wordOf

@@ -1,10 +1,10 @@
 -- Words of a program or a table, and words as numbers. Assumes nothing: these are definitions.
-use Prim.Native.Nat.{ℕ, zero, suc, _+_}
+use Prim.Native.Nat.{ℕ, zero, suc, _+_, _-_}
 use mathlib.Core.Bool.{Bool, true, false, cond}
 use mathlib.Core.List.{List, []}
 use lib.Dec.{ltb, eqb}
 use lib.IntN.{ℤ, pos, negsuc}
-use lib.ListN.{getD, set}
+use lib.ListN.{length, getD, drop, set}
 
 -- the word at i, 0 past the end
 abbrev pub wordAt : List ℤ → ℕ → ℤ
@@ -22,6 +22,10 @@ numberAt s i = numberOf (getD s i (negsuc 0))
 -- a number as a word; what no word is, as the greatest word
 unfoldable pub wordOf : ℕ → ℤ
 wordOf n = cond (ltb n 2147483648) (pos n) (pos 2147483647)
+
+-- the last k words
+abbrev pub lastOf : ℕ → List ℤ → List ℤ
+lastOf k s = drop (length s - k) s
 
 -- the words s with the first n words of t from the word at on
 unfoldable pub copied : List ℤ → ℕ → ℕ → List ℤ → List ℤ

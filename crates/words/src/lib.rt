@@ -4,7 +4,7 @@ ghost use Prim.Native.Nat.{_-_};
 ghost use lib.IntN.{pos, _+ℤ_, _-ℤ_, _*ℤ_};
 ghost use lib.ListN.{drop, set, take};
 ghost use lib.Signed.{ltZ, leZ};
-ghost use Rattle.words.specs.Words.{wordAt, numberOf, numberAt, wordOf, copied, cleared, eqZ};
+ghost use Rattle.words.specs.Words.{wordAt, numberOf, numberAt, wordOf, lastOf, copied, cleared, eqZ};
 ghost use Rattle.words.specs.Range.{ranged};
 
 // The word at i, 0 past the end.
@@ -58,6 +58,13 @@ pub fn part_to(s: &[i32], k: usize) -> &[i32]
     ensures { λ r. ⌜ now r ≡ take k (now (s .entry)) ⌝ }
 {
     if k <= s.len() { &s[..k] } else { s }
+}
+
+// The last k words, all of them where there are fewer.
+pub fn part_last(s: &[i32], k: usize) -> &[i32]
+    ensures { λ r. ⌜ now r ≡ lastOf k (now (s .entry)) ⌝ }
+{
+    part_from(s, less(s.len(), k))
 }
 
 // Stores w at i; past the end nothing is stored.

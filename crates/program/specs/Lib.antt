@@ -1,0 +1,6 @@
+pub mod Forms
+pub mod Reading
+pub mod Told
+pub mod Judge
+pub mod Grammar
+pub mod Where
