@@ -1,11 +1,12 @@
 -- Both ways out of a reader at once: what holds where it answers, and what holds where it refuses. Assumes nothing.
-use mathlib.Core.Path.{_≡_, refl, sym, ap, _∙_}
+use mathlib.Core.Path.{_≡_, refl, sym}
 use mathlib.Core.Bool.{Bool, true, false}
 use mathlib.Core.List.{List}
 use lib.IntN.{ℤ}
 use Rattle.words.specs.Answer.{Answer, got, stop, _>>=_, _>>_, want}
 use Rattle.words.proofs.AnswerLaws.{got-inj, stop-inj, stop≢got}
 
+-- G of an answer, S of the part at which m refuses
 pub record Comes {A : Type 0} (G : A → Type 0) (S : List ℤ → Type 0) (m : Answer (List ℤ) A) : Type 0 where
   pub good : (a : A) → m ≡ got a → G a
   pub bad : (q : List ℤ) → m ≡ stop q → S q
@@ -29,6 +30,7 @@ pub comes-test : {B : Type 0} {H : B → Type 0} {S : List ℤ → Type 0} (p : 
 comes-test p true r g s = g refl
 comes-test p false r g s = comes-stop (s refl)
 
+-- what follows from both
 pub comes-map : {A : Type 0} {G H : A → Type 0} {S T : List ℤ → Type 0} {m : Answer (List ℤ) A}
     → ((a : A) → G a → H a) → ((q : List ℤ) → S q → T q) → Comes G S m → Comes H T m
 comes-map f g c = record { good = λ a e. f a (c .good a e); bad = λ q e. g q (c .bad q e) }

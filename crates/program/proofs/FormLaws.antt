@@ -1,15 +1,14 @@
 -- The number of a form and of a verb: a word that stands for one is its number. Assumes nothing.
-use mathlib.Core.Path.{_≡_, refl, sym, ap, _∙_}
+use mathlib.Core.Path.{_≡_, refl, _∙_}
 use mathlib.Core.Bool.{Bool, true, false}
-use mathlib.Core.List.{List, [], _∷_}
-use Prim.Native.Nat.{ℕ, zero, suc, _+_, _-_, _≤_, _<_}
+use mathlib.Core.List.{List, _∷_}
+use Prim.Native.Nat.{ℕ, zero, suc, _+_, _-_, _<_}
 use native.Mathlib.Omega.{arith}
 use borrow.Author.Tests.{leb-true}
 use lib.Dec.{leb}
 use lib.IntN.{ℤ, pos}
-use lib.ListN.{length, drop, getD}
+use lib.ListN.{drop, getD}
 use Rattle.words.specs.Words.{numberAt}
-use Rattle.words.specs.Answer.{stop}
 use Rattle.words.proofs.Laws.{number-cons}
 use Rattle.program.specs.Forms.{Form, aNil, aFalse, aTrue, anInteger, aPath, anOperation, anIdentity, noForm, forms, formOf}
 use Rattle.program.specs.Forms.{Verb, skip, assign, new, always, once, alwaysSame, onceSame, branch, loop, noVerb, verbs, verbOf}
@@ -59,12 +58,15 @@ verb-at (suc (suc (suc (suc (suc (suc (suc zero))))))) h = refl
 verb-at (suc (suc (suc (suc (suc (suc (suc (suc zero)))))))) h = refl
 verb-at (suc (suc (suc (suc (suc (suc (suc (suc (suc k))))))))) h = absurd (omega arith)
 
+-- a number that stands for a form, or a verb, is its number
 pub form-number : (n : ℕ) → numberOfForm (formOf n) < 27 → n ≡ numberOfForm (formOf n)
 unfolding formOf
 form-number n h = go (leb 20 n) refl
   where
     go : (b : Bool) → leb 20 n ≡ b → n ≡ numberOfForm (formOf n)
-    go true c = let l : 20 ≤ n = leb-true 20 n c in let e : n ≡ n - 20 + 20 = omega arith in rw (c, formOf) (e ∙ form-at (n - 20) (rw (c, formOf) at h))
+    go true c =
+        let e : n ≡ n - 20 + 20 = omega (arith, leb-true 20 n c) in
+        rw (c, formOf) (e ∙ form-at (n - 20) (rw (c, formOf) at h))
     go false c = let z : 27 < 27 = rw (c, formOf) at h in absurd (omega arith)
 
 pub verb-number : (n : ℕ) → numberOfVerb (verbOf n) < 9 → n ≡ numberOfVerb (verbOf n)

@@ -7,21 +7,21 @@ use native.Mathlib.Omega.{arith}
 use native.Mathlib.Decide.{decLt}
 use borrow.Author.Tests.{ltb-true, leb-true}
 use lib.Dec.{leb, ltb}
-use lib.IntN.{ℤ, pos, negsuc}
+use lib.IntN.{ℤ}
 use lib.ListN.{length, drop, length-drop, drop-of-length-le}
 use lib.Seq.{drop-drop, drop-length}
 use Rattle.words.specs.Words.{numberAt}
-use Rattle.words.specs.Answer.{Answer, got, stop, _>>=_, _>>_, want}
-use Rattle.words.proofs.AnswerLaws.{got-inj, stop-inj, stop≢got, step, tested}
+use Rattle.words.specs.Answer.{got, stop, _>>=_}
+use Rattle.words.proofs.AnswerLaws.{stop≢got, step, tested}
 use Rattle.words.proofs.Laws.{number-there}
 use Rattle.tables.proofs.SearchLaws.{and-right}
 use Rattle.tables.specs.Sizes.{variables, labels, mostFields}
-use Rattle.program.specs.Forms.{mostWords, mostStatements, blockDepth, expressionDepth, mostSteps, mostParts, required, operators}
+use Rattle.program.specs.Forms.{mostStatements, expressionDepth, mostSteps, mostParts, required, operators}
 use Rattle.program.specs.Forms.{Form, aNil, aFalse, aTrue, anInteger, aPath, anOperation, anIdentity, noForm, formOf}
 use Rattle.program.specs.Forms.{Verb, skip, assign, new, always, once, alwaysSame, onceSame, branch, loop, noVerb, verbOf}
 use Rattle.program.specs.Reading.{Reading, number, anyWord, among, after}
-use Rattle.program.specs.Reading.{readLabels, readPath, readPaths, readForm, readExpression, readPart, readParts, readConstraint, readFields, readNew, readAssign}
-use Rattle.program.specs.Reading.{readVerb, readWith, readStatements, readBlock, readStatement}
+use Rattle.program.specs.Reading.{readLabels, readPath, readPaths, readForm, readExpression, readPart, readParts, readConstraint, readFields, readNew}
+use Rattle.program.specs.Reading.{readAssign, readVerb, readWith, readStatements, readBlock, readStatement}
 use Rattle.program.proofs.FormLaws.{numberOfForm, numberOfVerb, form-word, verb-word}
 use Rattle.program.proofs.Comes.{Comes, comes-got, comes-stop, comes-then, comes-test, comes-map}
 
@@ -90,10 +90,14 @@ module _ (low high : ℕ) (p : List ℤ) (f : ℕ × List ℤ → Reading (List 
   -- a number, and what is read after it
   number-uses : ((x : ℕ × List ℤ) → Later p (x .1) → Uses p (f x)) → Uses p (number low high p >>= f)
   unfolding number
-  number-uses k = comes-then (number low high p) f (comes-test p (leb low (numberAt p 0) && leb (numberAt p 0) high) _ (λ c. comes-got (there c)) (λ c. part-refl p)) k
+  number-uses k =
+      comes-then (number low high p) f
+      (comes-test p (leb low (numberAt p 0) && leb (numberAt p 0) high) _ (λ c. comes-got (there c)) (λ c. part-refl p)) k
     where
       there : (leb low (numberAt p 0) && leb (numberAt p 0) high) ≡ true → Later p (drop 1 p)
-      there c = later-drop p (number-there p 0 (omega (arith, leb-true (numberAt p 0) high (and-right (leb low (numberAt p 0)) (leb (numberAt p 0) high) c))))
+      there c =
+          let l : numberAt p 0 ≤ high = leb-true (numberAt p 0) high (and-right (leb low (numberAt p 0)) (leb (numberAt p 0) high) c) in
+          later-drop p (number-there p 0 (omega arith))
 
   number-then : ((x : ℕ × List ℤ) → Keeps (x .1) (f x)) → Uses p (number low high p >>= f)
   number-then k = number-uses (λ x l. uses-on l (k x))
@@ -117,13 +121,16 @@ labels-keep (suc n) p = uses-keeps (number-then 0 (labels - 1) p _ (omega arith)
 
 pub path-uses : (p : List ℤ) → Uses p (readPath p)
 unfolding readPath
-path-uses p = number-then 0 (variables - 1) p _ (omega arith) λ x. uses-keeps (number-then 0 mostSteps (x .1) _ (omega arith) λ y. labels-keep (y .0) (y .1))
+path-uses p =
+    number-then 0 (variables - 1) p _ (omega arith) λ x.
+    uses-keeps (number-then 0 mostSteps (x .1) _ (omega arith) λ y. labels-keep (y .0) (y .1))
 
 pub paths-use : (p : List ℤ) → Uses p (readPaths p)
 unfolding readPaths
 paths-use p = uses-then (readPath p) _ (λ q. uses-keeps (path-uses q)) (path-uses p)
 
-form-uses : (go : List ℤ → Reading (List ℤ)) (inC : Bool) (p : List ℤ) (f : Form) → ((q : List ℤ) → Keeps q (go q)) → formOf (numberAt p 0) ≡ f → Uses p (readForm go inC p f)
+form-uses : (go : List ℤ → Reading (List ℤ)) (inC : Bool) (p : List ℤ) (f : Form)
+    → ((q : List ℤ) → Keeps q (go q)) → formOf (numberAt p 0) ≡ f → Uses p (readForm go inC p f)
 unfolding readForm
 form-uses go inC p aNil h e = comes-got (form-later p e (omega arith))
 form-uses go inC p aFalse h e = comes-got (form-later p e (omega arith))
@@ -137,10 +144,15 @@ form-uses go inC p anIdentity h e =
     comes-test p (not inC) _ (λ c. uses-on (form-later p e (omega arith)) (uses-keeps (paths-use (drop 1 p)))) (λ c. part-refl p)
 form-uses go inC p noForm h e = comes-stop (part-refl p)
 
+-- an expression ends in a later part of the words, or is refused in a part of them
 pub expression-uses : (d : ℕ) (inC : Bool) (p : List ℤ) → Uses p (readExpression d inC p)
 unfolding readExpression
 expression-uses zero inC p = comes-stop (part-refl p)
 expression-uses (suc d) inC p = form-uses (λ q. readExpression d inC q) inC p (formOf (numberAt p 0)) (λ q. uses-keeps (expression-uses d inC q)) refl
+
+-- an expression, and what is read after it
+expression-then : (d : ℕ) (inC : Bool) (p : List ℤ) (f : List ℤ → Reading (List ℤ)) → ((q : List ℤ) → Keeps q (f q)) → Uses p (readExpression d inC p >>= f)
+expression-then d inC p f k = uses-then (readExpression d inC p) f k (expression-uses d inC p)
 
 pub part-uses : (p : List ℤ) → Uses p (readPart p)
 unfolding readPart
@@ -161,16 +173,18 @@ fields-keep zero seen p = comes-got (part-refl p)
 fields-keep (suc n) seen p =
     uses-keeps (number-uses 0 (labels - 1) p _ (omega arith) λ x l.
     comes-test p (not (among (x .0) seen)) _
-    (λ c. uses-on l (uses-keeps (uses-then (readExpression expressionDepth false (x .1)) _ (λ q. fields-keep n (x .0 ∷ seen) q) (expression-uses expressionDepth false (x .1)))))
+    (λ c. uses-on l (uses-keeps (expression-then expressionDepth false (x .1) _ λ q. fields-keep n (x .0 ∷ seen) q)))
     (λ c. part-refl p))
+
+pub new-uses : (p : List ℤ) → Uses p (readNew p)
+unfolding readNew
+new-uses p =
+    number-then 0 (variables - 1) p _ (omega arith) λ x.
+    uses-keeps (number-then 0 mostFields (x .1) _ (omega arith) λ y. fields-keep (y .0) [] (y .1))
 
 pub assign-uses : (p : List ℤ) → Uses p (readAssign p)
 unfolding readAssign
 assign-uses p = uses-then (readPath p) _ (λ q. uses-keeps (expression-uses expressionDepth false q)) (path-uses p)
-
-pub new-uses : (p : List ℤ) → Uses p (readNew p)
-unfolding readNew
-new-uses p = number-then 0 (variables - 1) p _ (omega arith) λ x. uses-keeps (number-then 0 mostFields (x .1) _ (omega arith) λ y. fields-keep (y .0) [] (y .1))
 
 module _ (block : List ℤ → Reading (List ℤ)) (h : (q : List ℤ) → Keeps q (block q)) where
   verb-uses : (p : List ℤ) (v : Verb) → verbOf (numberAt p 0) ≡ v → Uses p (readVerb block p v)
@@ -184,10 +198,8 @@ module _ (block : List ℤ → Reading (List ℤ)) (h : (q : List ℤ) → Keeps
   verb-uses p onceSame e = uses-on (verb-later p e (omega arith)) (uses-keeps (paths-use (drop 1 p)))
   verb-uses p branch e =
       uses-on (verb-later p e (omega arith))
-      (uses-keeps (uses-then (readExpression expressionDepth false (drop 1 p)) _ (λ q. keeps-then (block q) _ (λ r. h r) (h q)) (expression-uses expressionDepth false (drop 1 p))))
-  verb-uses p loop e =
-      uses-on (verb-later p e (omega arith))
-      (uses-keeps (uses-then (readExpression expressionDepth false (drop 1 p)) _ (λ q. h q) (expression-uses expressionDepth false (drop 1 p))))
+      (uses-keeps (expression-then expressionDepth false (drop 1 p) _ λ q. keeps-then (block q) _ (λ r. h r) (h q)))
+  verb-uses p loop e = uses-on (verb-later p e (omega arith)) (uses-keeps (expression-then expressionDepth false (drop 1 p) _ λ q. h q))
   verb-uses p noVerb e = comes-stop (part-refl p)
 
   pub with-uses : (p : List ℤ) → Uses p (readWith block p)
@@ -199,10 +211,13 @@ module _ (block : List ℤ → Reading (List ℤ)) (h : (q : List ℤ) → Keeps
   statements-keep zero p = comes-got (part-refl p)
   statements-keep (suc n) p = uses-keeps (uses-then (readWith block p) _ (λ q. statements-keep n q) (with-uses p))
 
+-- so does a block, and a statement
 pub block-uses : (d : ℕ) (p : List ℤ) → Uses p (readBlock d p)
 unfolding readBlock
 block-uses zero p = comes-stop (part-refl p)
-block-uses (suc d) p = number-then 0 mostStatements p _ (omega arith) λ x. statements-keep (λ r. readBlock d r) (λ q. uses-keeps (block-uses d q)) (x .0) (x .1)
+block-uses (suc d) p =
+    number-then 0 mostStatements p _ (omega arith) λ x.
+    statements-keep (λ r. readBlock d r) (λ q. uses-keeps (block-uses d q)) (x .0) (x .1)
 
 pub statement-uses : (d : ℕ) (p : List ℤ) → Uses p (readStatement d p)
 unfolding readStatement
@@ -218,3 +233,69 @@ after-part (stop q) c = c .bad q refl
 pub after-got : {m : Reading (List ℤ)} {q : List ℤ} → m ≡ got q → after m ≡ q
 unfolding after
 after-got e = rw e
+
+-- ---- deeper: what reads at a nesting reads the same at a longer one, and what reads inside C reads the same outside
+
+module _ (go to : List ℤ → Reading (List ℤ)) (h : (q r : List ℤ) → go q ≡ got r → to q ≡ got r) where
+  form-deeper : (inC : Bool) (p q : List ℤ) (f : Form) → readForm go inC p f ≡ got q → readForm to false p f ≡ got q
+  unfolding readForm
+  form-deeper inC p q aNil e = e
+  form-deeper inC p q aFalse e = e
+  form-deeper inC p q aTrue e = e
+  form-deeper inC p q anInteger e = e
+  form-deeper inC p q aPath e = e
+  form-deeper inC p q anOperation e =
+      step (number 1 operators (drop 1 p)) _ e λ x e1 k1.
+      step (go (x .1)) _ k1 λ r e2 k2.
+      rw (e1, h (x .1) r e2) (h r q k2)
+  form-deeper inC p q anIdentity e = tested p (not inC) _ e λ c k. k
+  form-deeper inC p q noForm e = stop≢got e
+
+  verb-deeper : (p q : List ℤ) (v : Verb) → readVerb go p v ≡ got q → readVerb to p v ≡ got q
+  unfolding readVerb
+  verb-deeper p q skip e = e
+  verb-deeper p q assign e = e
+  verb-deeper p q new e = e
+  verb-deeper p q always e = e
+  verb-deeper p q once e = e
+  verb-deeper p q alwaysSame e = e
+  verb-deeper p q onceSame e = e
+  verb-deeper p q branch e =
+      step (readExpression expressionDepth false (drop 1 p)) _ e λ r e1 k1.
+      step (go r) _ k1 λ s e2 k2.
+      rw (e1, h r s e2) (h s q k2)
+  verb-deeper p q loop e =
+      step (readExpression expressionDepth false (drop 1 p)) _ e λ r e1 k1.
+      rw e1 (h r q k1)
+  verb-deeper p q noVerb e = stop≢got e
+
+  with-deeper : (p q : List ℤ) → readWith go p ≡ got q → readWith to p ≡ got q
+  unfolding readWith
+  with-deeper p q e = verb-deeper p q (verbOf (numberAt p 0)) e
+
+  statements-deeper : (n : ℕ) (p q : List ℤ) → readStatements go n p ≡ got q → readStatements to n p ≡ got q
+  unfolding readStatements
+  statements-deeper zero p q e = e
+  statements-deeper (suc n) p q e = step (readWith go p) _ e λ r e1 k1. rw (with-deeper p r e1) (statements-deeper n r q k1)
+
+-- an expression
+pub expression-deeper : (d e : ℕ) (inC : Bool) (p q : List ℤ) → d ≤ e → readExpression d inC p ≡ got q → readExpression e false p ≡ got q
+unfolding readExpression
+expression-deeper zero e inC p q l h = stop≢got h
+expression-deeper (suc d) zero inC p q l h = absurd (omega arith)
+expression-deeper (suc d) (suc e) inC p q l h =
+    form-deeper (λ r. readExpression d inC r) (λ r. readExpression e false r) (λ r s k. expression-deeper d e inC r s (omega arith) k)
+    inC p q (formOf (numberAt p 0)) h
+
+-- a block, and a statement
+pub block-deeper : (d e : ℕ) (p q : List ℤ) → d ≤ e → readBlock d p ≡ got q → readBlock e p ≡ got q
+unfolding readBlock
+block-deeper zero e p q l h = stop≢got h
+block-deeper (suc d) zero p q l h = absurd (omega arith)
+block-deeper (suc d) (suc e) p q l h =
+    step (number 0 mostStatements p) _ h λ x e1 k1.
+    rw e1 (statements-deeper (λ r. readBlock d r) (λ r. readBlock e r) (λ r s k. block-deeper d e r s (omega arith) k) (x .0) (x .1) q k1)
+
+pub statement-deeper : (d e : ℕ) (p q : List ℤ) → d ≤ e → readStatement d p ≡ got q → readStatement e p ≡ got q
+unfolding readStatement
+statement-deeper d e p q l h = with-deeper (λ r. readBlock d r) (λ r. readBlock e r) (λ r s k. block-deeper d e r s l k) p q h

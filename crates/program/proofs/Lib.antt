@@ -2,6 +2,11 @@ pub mod NumberLaws
 pub mod FormLaws
 pub mod Comes
 pub mod LengthLaws
+pub mod GrammarSound
+pub mod GrammarLaws
+pub mod JudgeSteps
+pub mod JudgeLaws
+pub mod OneReading
 pub mod ReadLaws
 pub mod RowLaws
 pub mod BlockLaws
