@@ -1,0 +1,10 @@
+pub mod State
+pub mod Paths
+pub mod Evaluation
+pub mod Constraints
+pub mod Identities
+pub mod Proposals
+pub mod Statements
+pub mod Running
+pub mod Start
+pub mod Sheets
