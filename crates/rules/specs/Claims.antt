@@ -1,0 +1,1 @@
+-- What is claimed of the rules, one statement to a file. The proofs stand in proofs/.
