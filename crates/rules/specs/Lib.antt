@@ -8,3 +8,4 @@ pub mod Statements
 pub mod Running
 pub mod Start
 pub mod Sheets
+pub mod Claims

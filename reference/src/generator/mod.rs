@@ -6,7 +6,7 @@ mod compose;
 mod damage;
 mod draft;
 mod limits;
-mod numbers;
+pub mod numbers;
 mod search;
 mod solve;
 mod start;

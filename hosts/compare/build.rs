@@ -1,0 +1,70 @@
+//! Links the proved archive, which is x86-64 code. On another machine it goes
+//! into a small program that the kit's emulator runs.
+
+use std::path::{Path, PathBuf};
+use std::process::{exit, Command};
+
+const ARCHIVE: &str = "../../target/staticlib/libcompared.a";
+const BRIDGE: &str = "bridge/bridge.c";
+
+fn main() {
+    println!("cargo:rerun-if-changed={ARCHIVE}");
+    println!("cargo:rerun-if-changed={BRIDGE}");
+    let root = PathBuf::from(variable("CARGO_MANIFEST_DIR"));
+    let archive = root.join(ARCHIVE);
+    if !archive.is_file() {
+        fail("target/staticlib/libcompared.a is missing: run `rt staticlib compared` first");
+    }
+    if variable("CARGO_CFG_TARGET_ARCH") == "x86_64" {
+        let folder = archive.parent().unwrap_or(&root);
+        println!("cargo:rustc-link-search=native={}", folder.display());
+        println!("cargo:rustc-link-lib=static=compared");
+    } else {
+        bridge(&root.join(BRIDGE), &archive);
+    }
+}
+
+fn bridge(source: &Path, archive: &Path) {
+    let tools = tools();
+    let program = PathBuf::from(variable("OUT_DIR")).join("bridge");
+    let done = Command::new(tools.join("clang"))
+        .args([
+            "--target=x86_64-unknown-linux-gnu",
+            "-O2",
+            "-Wall",
+            "-Werror",
+        ])
+        .args(["-ffreestanding", "-fno-stack-protector", "-fno-pic"])
+        .args(["-nostdlib", "-static", "-fuse-ld=lld", "-o"])
+        .args([&program, source, archive])
+        .status();
+    if !done.is_ok_and(|status| status.success()) {
+        fail("the kit's clang did not make the bridge");
+    }
+    println!("cargo:rustc-env=BRIDGE={}", program.display());
+    let emulator = tools.join("qemu-x86_64");
+    println!("cargo:rustc-env=EMULATOR={}", emulator.display());
+}
+
+/// The folder of the kit's compiler and emulator for this machine.
+fn tools() -> PathBuf {
+    let output = Command::new("rt").arg("doc").output();
+    let Ok(output) = output else {
+        fail("rt, the command of the Rattle kit, is not there");
+    };
+    let guide = String::from_utf8_lossy(&output.stdout).trim().to_string();
+    let Some(kit) = Path::new(&guide).ancestors().nth(2) else {
+        fail("rt doc does not say where the kit is");
+    };
+    let machine = variable("CARGO_CFG_TARGET_ARCH");
+    kit.join("on").join(machine).join("toolchain/bin")
+}
+
+fn variable(name: &str) -> String {
+    std::env::var(name).unwrap_or_default()
+}
+
+fn fail(message: &str) -> ! {
+    eprintln!("compare: {message}");
+    exit(1)
+}

@@ -1,0 +1,10 @@
+//! Compares the proved functions with the independent program.
+
+pub mod comparison;
+pub mod damage;
+pub mod grown;
+pub mod independent;
+pub mod limits;
+pub mod lists;
+pub mod proved;
+pub mod tables;
