@@ -8,4 +8,8 @@ pub mod Statements
 pub mod Running
 pub mod Start
 pub mod Sheets
+pub mod EvaluationRules
+pub mod ConstraintRules
+pub mod IdentityRules
+pub mod Structure
 pub mod Claims

@@ -1,4 +1,4 @@
--- The sheets K1 to K12 of document 01, "Sheets to try", and a while: what is run, and the whole of what must come out.
+-- The sheets K1 to K12 of document 01, "Sheets to try", a while, and two of `and`: what is run, and the whole of what must come out.
 -- Assumes nothing: these are definitions.
 use Prim.Native.Nat.{ℕ, zero, suc, _+_, _-_}
 use mathlib.Core.List.{List, [], _∷_, _++_}
@@ -183,8 +183,25 @@ W1 = record {
   answer = record { outcome = 0; place = 25; steps = 12; accepted = 6; state = tables (table 128 (3 ∷ 5 ∷ [])) (table 1601 []) (table 98 []); unread = []; tests = false ∷ true ∷ true ∷ true ∷ true ∷ true ∷ [] };
 }
 
+-- x := false and 1; x := false and y, where y is absent: "Both operands are always evaluated"
+abbrev pub A1 : Sheet
+A1 = record {
+  program = words (1 ∷ 1 ∷ 0 ∷ 0 ∷ 25 ∷ 10 ∷ 21 ∷ 23 ∷ 1 ∷ []);
+  proposals = words (0 ∷ []);
+  budget = pos 100;
+  answer = record { outcome = 8; place = 1; steps = 1; accepted = 0; state = tables (table 128 []) (table 1601 []) (table 98 []); unread = words (0 ∷ []); tests = [] };
+}
+
+abbrev pub A2 : Sheet
+A2 = record {
+  program = words (1 ∷ 1 ∷ 0 ∷ 0 ∷ 25 ∷ 10 ∷ 21 ∷ 24 ∷ 1 ∷ 0 ∷ []);
+  proposals = words (0 ∷ []);
+  budget = pos 100;
+  answer = record { outcome = 7; place = 1; steps = 1; accepted = 0; state = tables (table 128 []) (table 1601 []) (table 98 []); unread = words (0 ∷ []); tests = [] };
+}
+
 abbrev pub sheets : List Sheet
-sheets = K1 ∷ K2 ∷ K3 ∷ K4 ∷ K5 ∷ K6 ∷ K7 ∷ K7' ∷ K8 ∷ K9 ∷ K10 ∷ K11 ∷ K12 ∷ K12' ∷ W1 ∷ []
+sheets = K1 ∷ K2 ∷ K3 ∷ K4 ∷ K5 ∷ K6 ∷ K7 ∷ K7' ∷ K8 ∷ K9 ∷ K10 ∷ K11 ∷ K12 ∷ K12' ∷ W1 ∷ A1 ∷ A2 ∷ []
 
 -- what the definitions give, and what 01 says
 unfoldable pub given : List Sheet → List Ended

@@ -153,3 +153,12 @@ fits-more n m c l h = shape-fits (pos m) (go (fits-shape (pos n) c h))
     go (a-truth b) = a-truth b
     go (an-integer z) = an-integer z
     go (a-reference r k e i) = let x : n ≡ k = cc in a-reference r m refl (omega arith)
+
+-- what a cell of kind 2 or 3 holds
+pub slot-boolean : (p : ℤ) → slotOf (cell (pos 2) p) ≡ Has (Truth (eqZ p (pos 1)))
+unfolding slotOf
+slot-boolean p = refl
+
+pub slot-integer : (p : ℤ) → slotOf (cell (pos 3) p) ≡ Has (Int p)
+unfolding slotOf
+slot-integer p = refl

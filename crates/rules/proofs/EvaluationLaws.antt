@@ -1,0 +1,142 @@
+-- The definition `evaluate` and the paper's E-rules say the same. Assumes nothing.
+use mathlib.Core.Path.{_≡_, sym, ap, _∙_}
+use mathlib.Core.Logic.{_≢_, _↔_}
+use mathlib.Core.Bool.{true, false}
+use mathlib.Core.List.{List, _∷_}
+use Prim.Native.Nat.{ℕ, zero, suc, _<_, _≤_}
+use native.Mathlib.Omega.{arith}
+use lib.IntN.{ℤ, pos}
+use lib.ListN.{drop}
+use Rattle.words.specs.Words.{numberAt, eqZ}
+use Rattle.words.specs.Answer.{got}
+use Rattle.words.proofs.AnswerLaws.{got-inj, stop≢got, step}
+use Rattle.words.proofs.Laws.{number-first, eqZ-refl, eqZ-true}
+use Rattle.tables.specs.declared.Value.{Value}
+use Rattle.tables.specs.Values.{cell, cellOf, slotOf, Sound}
+use Rattle.tables.specs.Cells.{Cells}
+use Rattle.tables.specs.declared.Slot.the-variants.{Has}
+use Rattle.tables.proofs.SearchLaws.{cases, and-left, and-right, and-true}
+use Rattle.tables.proofs.ValueLaws.{slot-of-cell}
+use Rattle.program.specs.Forms.{operators, Form, aNil, aFalse, aTrue, anInteger, aPath, anOperation, anIdentity, noForm, formOf}
+use Rattle.program.specs.Reading.{anyWord}
+use Rattle.program.proofs.NumberLaws.{number-of, any-fits}
+use Rattle.program.proofs.FormLaws.{numberOfForm}
+use Rattle.rules.specs.State.{Res, reads}
+use Rattle.rules.specs.Paths.{valueAt}
+use Rattle.rules.specs.Evaluation.{opOf, apply, at, same, evaluateForm, evaluate}
+use Rattle.rules.specs.EvaluationRules.{Evaluates, e-nil, e-false, e-true, e-integer, e-path, e-operation, e-same, e-differ, depth, Within}
+use Rattle.rules.proofs.WordSteps.{at-got, by-number, by-word, form-words, form-is, apart}
+use Rattle.rules.proofs.NameLaws.{holds-sound, holds-complete}
+
+-- ---- kind and payload
+
+module _ (a b : Value) where
+  pub same-true : same a b ≡ true → cellOf a ≡ cellOf b
+  unfolding same
+  same-true e =
+      let k : cellOf a .kind ≡ cellOf b .kind = eqZ-true _ _ (and-left (eqZ (cellOf a .kind) (cellOf b .kind)) _ e) in
+      let v : cellOf a .payload ≡ cellOf b .payload = eqZ-true _ _ (and-right (eqZ (cellOf a .kind) (cellOf b .kind)) _ e) in
+      let c : cell (cellOf a .kind) (cellOf a .payload) ≡ cell (cellOf b .kind) (cellOf b .payload) = cc in
+      c
+
+  pub cell-same : cellOf a ≡ cellOf b → same a b ≡ true
+  unfolding same
+  cell-same e =
+      rw e (and-true (eqZ (cellOf b .kind) (cellOf b .kind)) (eqZ (cellOf b .payload) (cellOf b .payload)) (eqZ-refl (cellOf b .kind)) (eqZ-refl (cellOf b .payload)))
+
+  pub same-false : same a b ≡ false → cellOf a ≢ cellOf b
+  same-false e q =
+      let c : true ≡ false = sym (cell-same q) ∙ e in
+      let z : _≡_ {A = ℕ} 0 1 = cc in
+      omega arith
+
+  pub cell-differs : cellOf a ≢ cellOf b → same a b ≡ false
+  cell-differs h = cases (same a b) (λ e. absurd (h (same-true e))) (λ e. e)
+
+  -- of values that a cell can hold: kind and payload are the same exactly where the value is
+  pub same-value : Sound a → Sound b → cellOf a ≡ cellOf b → a ≡ b
+  same-value x y e =
+      let q : Has a ≡ Has b = sym (slot-of-cell a x) ∙ ap slotOf e ∙ slot-of-cell b y in
+      cc
+
+-- ---- what the definition answers, the rules derive
+
+module _ (S : Cells) (d : ℕ) (go : List ℤ → Res (Value × List ℤ)) (ih : (q : List ℤ) (x : Value × List ℤ) → go q ≡ got x → Within S d q (x .0) (x .1)) where
+  form-sound : (f : Form) (p : List ℤ) (x : Value × List ℤ) → evaluateForm go S (pos (numberOfForm f) ∷ p) f ≡ got x
+      → Within S (suc d) (pos (numberOfForm f) ∷ p) (x .0) (x .1)
+  unfolding evaluateForm
+  form-sound aNil p x e = rw (← got-inj e) (record { rule = e-nil; deep = omega arith })
+  form-sound aFalse p x e = rw (← got-inj e) (record { rule = e-false; deep = omega arith })
+  form-sound aTrue p x e = rw (← got-inj e) (record { rule = e-true; deep = omega arith })
+  form-sound anInteger p x e =
+      step (reads (anyWord p)) _ e λ q e1 k1.
+      by-word p q e1 λ w s.
+      rw (← got-inj k1, s) (record { rule = e-integer; deep = omega arith })
+  form-sound aPath p x e = record { rule = e-path (holds-sound S p x e); deep = omega arith }
+  form-sound anOperation p x e =
+      by-number 1 operators p _ (omega arith) e λ o q a b s k.
+      step (go q) _ k λ y e2 k2.
+      step (go (y .1)) _ k2 λ z e3 k3.
+      step (at (pos 25 ∷ p) (apply (opOf o) (y .0) (z .0))) _ k3 λ v e4 k4.
+      operation o q a b s y z v (ih q y e2) (ih (y .1) z e3) (at-got (pos 25 ∷ p) (apply (opOf o) (y .0) (z .0)) e4) (got-inj k4)
+    where
+      operation : (o : ℕ) (q : List ℤ) → 1 ≤ o → o ≤ operators → p ≡ pos o ∷ q → (y z : Value × List ℤ) (v : Value)
+          → Within S d q (y .0) (y .1) → Within S d (y .1) (z .0) (z .1) → apply (opOf o) (y .0) (z .0) ≡ got v → (v, z .1) ≡ x
+          → Within S (suc d) (pos 25 ∷ p) (x .0) (x .1)
+      operation o q a b s y z v l r e4 i = rw (s, ← i) (record { rule = e-operation a b (l .rule) (r .rule) e4; deep = omega (arith, l .deep, r .deep) })
+  form-sound anIdentity p x e =
+      step (valueAt S p) _ e λ y e1 k1.
+      step (valueAt S (y .1)) _ k1 λ z e2 k2.
+      rw (← got-inj k2)
+      (cases (same (y .0) (z .0))
+      (λ c. rw c (record { rule = e-same (holds-sound S p y e1) (holds-sound S (y .1) z e2) (same-true (y .0) (z .0) c); deep = omega arith }))
+      (λ c. rw c (record { rule = e-differ (holds-sound S p y e1) (holds-sound S (y .1) z e2) (same-false (y .0) (z .0) c); deep = omega arith })))
+  form-sound noForm p x e = stop≢got e
+
+  words-sound : (p p' : List ℤ) (f : Form) (x : Value × List ℤ) → p ≡ pos (numberOfForm f) ∷ p' → evaluateForm go S p f ≡ got x → Within S (suc d) p (x .0) (x .1)
+  words-sound p p' f x w e = rw w (form-sound f p' x (rw w at e))
+
+pub evaluate-sound : (S : Cells) (d : ℕ) (p : List ℤ) (x : Value × List ℤ) → evaluate d S p ≡ got x → Within S d p (x .0) (x .1)
+unfolding evaluate evaluateForm
+evaluate-sound S zero p x e = stop≢got e
+evaluate-sound S (suc d) p x e =
+    words-sound S d (λ q. evaluate d S q) (λ q y h. evaluate-sound S d q y h) p (drop 1 p) (formOf (numberAt p 0)) x
+    (form-words p (λ q. stop≢got (rw q at e))) e
+
+-- ---- what the rules derive, the definition answers
+
+pub deep-pos : {S : Cells} {p : List ℤ} {v : Value} {q : List ℤ} (e : Evaluates S p v q) → 0 < depth e
+deep-pos e-nil = omega arith
+deep-pos e-false = omega arith
+deep-pos e-true = omega arith
+deep-pos e-integer = omega arith
+deep-pos (e-path h) = omega arith
+deep-pos (e-operation a b l r e) = omega arith
+deep-pos (e-same h k e) = omega arith
+deep-pos (e-differ h k e) = omega arith
+
+-- an expression that begins with the word of a form is evaluated by that form
+pub evaluate-opens : (S : Cells) (d : ℕ) (f : Form) (p : List ℤ) → (f ≡ noForm → ⊥)
+    → evaluate (suc d) S (pos (numberOfForm f) ∷ p) ≡ evaluateForm (λ q. evaluate d S q) S (pos (numberOfForm f) ∷ p) f
+unfolding evaluate
+evaluate-opens S d f p h = rw (number-first (pos (numberOfForm f)) p, form-is f h)
+
+pub evaluate-complete : {S : Cells} (d : ℕ) {p : List ℤ} {v : Value} {q : List ℤ} (e : Evaluates S p v q) → depth e ≤ d → evaluate d S p ≡ got (v, q)
+unfolding evaluateForm
+evaluate-complete zero e h = absurd (omega (arith, deep-pos e))
+evaluate-complete {S} (suc d) (e-nil {p = p}) h = evaluate-opens S d aNil p (apart λ z. omega arith)
+evaluate-complete {S} (suc d) (e-false {p = p}) h = evaluate-opens S d aFalse p (apart λ z. omega arith)
+evaluate-complete {S} (suc d) (e-true {p = p}) h = evaluate-opens S d aTrue p (apart λ z. omega arith)
+evaluate-complete {S} (suc d) (e-integer {w = w} {p = p}) h = evaluate-opens S d anInteger (w ∷ p) (apart λ z. omega arith) ∙ rw (any-fits (w ∷ p) (omega arith))
+evaluate-complete {S} (suc d) (e-path {p = p} k) h = evaluate-opens S d aPath p (apart λ z. omega arith) ∙ holds-complete S k
+evaluate-complete {S} (suc d) (e-operation {o = o} {p = p} a b l r e) h =
+    evaluate-opens S d anOperation (pos o ∷ p) (apart λ z. omega arith)
+    ∙ rw (number-of 1 operators o p a b, evaluate-complete d l (omega arith), evaluate-complete d r (omega arith), e)
+evaluate-complete {S} (suc d) (e-same {a = a} {b = b} {p = p} k l e) h =
+    evaluate-opens S d anIdentity p (apart λ z. omega arith) ∙ rw (holds-complete S k, holds-complete S l, cell-same a b e)
+evaluate-complete {S} (suc d) (e-differ {a = a} {b = b} {p = p} k l e) h =
+    evaluate-opens S d anIdentity p (apart λ z. omega arith) ∙ rw (holds-complete S k, holds-complete S l, cell-differs a b e)
+
+-- an expression evaluates to v, with q after it, exactly where the rules derive it within the nesting
+pub evaluate-iff : (d : ℕ) (S : Cells) (p : List ℤ) (v : Value) (q : List ℤ) → (evaluate d S p ≡ got (v, q)) ↔ Within S d p v q
+evaluate-iff d S p v q = (evaluate-sound S d p (v, q), λ w. evaluate-complete d (w .rule) (w .deep))

@@ -1,0 +1,161 @@
+-- One structure: an equivalence; what cells hold, and which field has a label, depend on it only.
+-- Assumes nothing.
+use mathlib.Core.Path.{_≡_, refl, sym, _∙_}
+use mathlib.Core.Bool.{Bool, true, false, cond}
+use mathlib.Core.List.{List}
+use Prim.Native.Nat.{ℕ, zero, suc, _+_, _<_}
+use native.Mathlib.Omega.{arith}
+use native.Mathlib.Decide.{decLt, ℕ-discrete}
+use borrow.Author.Tests.{eqb-true}
+use lib.Dec.{eqb}
+use lib.IntN.{ℤ, pos}
+use lib.ListN.{length}
+use Rattle.words.specs.Words.{numberOf, eqZ}
+use Rattle.tables.specs.declared.Cell.{Cell}
+use Rattle.tables.specs.declared.Value.{Value}
+use Rattle.tables.specs.declared.Value.the-variants.{Nil, Bool as Truth, Int, Ref}
+use Rattle.tables.specs.declared.Slot.{Slot}
+use Rattle.tables.specs.declared.Slot.the-variants.{Absent, Has}
+use Rattle.tables.specs.Sizes.{environmentWords, heapWords}
+use Rattle.tables.specs.Values.{cell, cellOf, slotOf}
+use Rattle.tables.specs.Cells.{Cells, cellAt, putCell}
+use Rattle.tables.specs.Records.{fieldCount, labelAt, fieldWith}
+use Rattle.tables.specs.Fit.{Sized, sized}
+use Rattle.tables.proofs.SearchLaws.{cases, Seeking, seeking-starts, seeking-goes-on}
+use Rattle.tables.proofs.FindLaws.{field-in, find-hits, find-ends}
+use Rattle.tables.proofs.WordLaws.{word-number}
+use Rattle.tables.proofs.ValueLaws.{a-truth, an-integer, shape-fits, cell-of-slot}
+use Rattle.tables.proofs.ValueLaws.{slot-boolean, slot-integer}
+use Rattle.tables.proofs.CellLaws.{no-cell, read-same, read-other, put-records, put-fields, put-label}
+use Rattle.rules.specs.State.{State}
+use Rattle.rules.specs.Structure.{AlikeCell, Same, SameState, Alike, nils, truths, ints, refs}
+
+-- ---- one structure is an equivalence
+
+pub alike-refl : (c : Cell) → AlikeCell c c
+alike-refl c = record { kind = refl; payload = λ m n. refl }
+
+pub alike-sym : {a b : Cell} → AlikeCell a b → AlikeCell b a
+alike-sym s = record { kind = sym (s .kind); payload = λ m n. sym (s .payload (rw (s .kind) m) (rw (s .kind) n)) }
+
+pub alike-trans : {a b c : Cell} → AlikeCell a b → AlikeCell b c → AlikeCell a c
+alike-trans s t = record {
+  kind = s .kind ∙ t .kind;
+  payload = λ m n. s .payload m n ∙ t .payload (rw (s .kind) at m) (rw (s .kind) at n);
+}
+
+pub same-refl : (S : Cells) → Same S S
+same-refl S = record { alike = λ l. alike-refl (cellAt S l); labels = λ r f b. refl; fields = λ r. refl; records = refl }
+
+pub same-sym : {S Z : Cells} → Same S Z → Same Z S
+same-sym s = record {
+  alike = λ l. alike-sym (s .alike l);
+  labels = λ r f b. sym (s .labels r f b);
+  fields = λ r. sym (s .fields r);
+  records = sym (s .records);
+}
+
+pub same-trans : {S Z W : Cells} → Same S Z → Same Z W → Same S W
+same-trans s t = record {
+  alike = λ l. alike-trans (s .alike l) (t .alike l);
+  labels = λ r f b. s .labels r f b ∙ t .labels r f b;
+  fields = λ r. s .fields r ∙ t .fields r;
+  records = s .records ∙ t .records;
+}
+
+pub state-refl : (S : State) → SameState S S
+state-refl S = record { cells = same-refl (S .cells); kept = refl }
+
+pub state-sym : {S Z : State} → SameState S Z → SameState Z S
+state-sym s = record { cells = same-sym (s .cells); kept = sym (s .kept) }
+
+pub state-trans : {S Z W : State} → SameState S Z → SameState Z W → SameState S W
+state-trans s t = record { cells = same-trans (s .cells) (t .cells); kept = s .kept ∙ t .kept }
+
+-- ---- values in alike cells
+
+pub value-refl : (v : Value) → Alike v v
+value-refl Nil = nils
+value-refl (Truth b) = truths
+value-refl (Int n) = ints
+value-refl (Ref r) = refs
+
+-- both absent, or alike values
+pub data AlikeSlot : Slot → Slot → Type 0 where
+  absents : AlikeSlot Absent Absent
+  held : {v w : Value} → Alike v w → AlikeSlot (Has v) (Has w)
+
+slot-refl : (x : Slot) → AlikeSlot x x
+slot-refl Absent = absents
+slot-refl (Has v) = held (value-refl v)
+
+same-cell : (a b : Cell) → a .kind ≡ b .kind → a .payload ≡ b .payload → a ≡ b
+same-cell a b e f = rw (e, f)
+
+-- alike cells hold alike values
+pub slots-alike : (a b : Cell) → AlikeCell a b → AlikeSlot (slotOf a) (slotOf b)
+slots-alike a b s = go (ℕ-discrete (numberOf (a .kind)) 2) (ℕ-discrete (numberOf (a .kind)) 3)
+  where
+    -- a cell whose kind is the number k
+    of-kind : (c : Cell) (k : ℕ) → k < 2147483648 → numberOf (c .kind) ≡ k → c ≡ cell (pos k) (c .payload)
+    of-kind c k l e = same-cell c (cell (pos k) (c .payload)) (word-number (c .kind) k e l) refl
+
+    go : Dec (numberOf (a .kind) ≡ 2) → Dec (numberOf (a .kind) ≡ 3) → AlikeSlot (slotOf a) (slotOf b)
+    go (yes e) d =
+        rw (of-kind a 2 (omega arith) e, of-kind b 2 (omega arith) (rw (s .kind) at e), slot-boolean (a .payload), slot-boolean (b .payload)) (held truths)
+    go (no m) (yes e) =
+        rw (of-kind a 3 (omega arith) e, of-kind b 3 (omega arith) (rw (s .kind) at e), slot-integer (a .payload), slot-integer (b .payload)) (held ints)
+    go (no m) (no n) = rw (same-cell a b (s .kind) (s .payload m n)) (slot-refl (slotOf b))
+
+cell-boolean : (b : Bool) → cellOf (Truth b) ≡ cell (pos 2) (cond b (pos 1) (pos 0))
+cell-boolean b = cell-of-slot (pos 0) (cell (pos 2) (cond b (pos 1) (pos 0))) (Truth b) (omega arith) (shape-fits (pos 0) (a-truth b)) (slot-boolean (cond b (pos 1) (pos 0)) ∙ go b)
+  where
+    go : (b : Bool) → Has (Truth (eqZ (cond b (pos 1) (pos 0)) (pos 1))) ≡ Has (Truth b)
+    go true = refl
+    go false = refl
+
+cell-integer : (n : ℤ) → cellOf (Int n) ≡ cell (pos 3) n
+cell-integer n = cell-of-slot (pos 0) (cell (pos 3) n) (Int n) (omega arith) (shape-fits (pos 0) (an-integer n)) (slot-integer n)
+
+-- alike values make alike cells
+pub cells-alike : {v w : Value} → Alike v w → AlikeCell (cellOf v) (cellOf w)
+cells-alike nils = alike-refl (cellOf Nil)
+cells-alike (truths {a = a} {b = b}) = rw (cell-boolean a, cell-boolean b) (record { kind = refl; payload = λ m n. absurd (m refl) })
+cells-alike (ints {a = a} {b = b}) = rw (cell-integer a, cell-integer b) (record { kind = refl; payload = λ m n. absurd (n refl) })
+cells-alike (refs {r = r}) = alike-refl (cellOf (Ref r))
+
+-- ---- the field with a label
+
+module _ (S Z : Cells) (s : Same S Z) where
+  -- looking for the label from field place i on, in both heaps at once
+  look : (r label left i : ℕ) → i + left ≡ fieldCount (S .heap) r
+      → Seeking (λ g. eqb (labelAt (S .heap) r g) label) (fieldCount (S .heap) r) i → Seeking (λ g. eqb (labelAt (Z .heap) r g) label) (fieldCount (Z .heap) r) i
+      → fieldWith (S .heap) r label ≡ fieldWith (Z .heap) r label
+  look r label zero i e a b = sym (find-ends (S .heap) r label i a (omega arith)) ∙ find-ends (Z .heap) r label i b (omega (arith, s .fields r))
+  look r label (suc left) i e a b =
+      let l : i < fieldCount (S .heap) r = omega arith in
+      let k : i < fieldCount (Z .heap) r = omega (arith, s .fields r) in
+      let h = field-in (S .heap) r i l in
+      let q : labelAt (S .heap) r i ≡ labelAt (Z .heap) r i = s .labels r i (h .1) in
+      cases (eqb (labelAt (S .heap) r i) label)
+      (λ c. let d : labelAt (S .heap) r i ≡ label = eqb-true (labelAt (S .heap) r i) label c in
+      sym (find-hits (S .heap) r label i a l d) ∙ find-hits (Z .heap) r label i b k (sym q ∙ d))
+      (λ c. look r label left (i + 1) (omega arith) (seeking-goes-on a l c) (seeking-goes-on b k (rw q at c)))
+
+  pub field-same : (r label : ℕ) → fieldWith (S .heap) r label ≡ fieldWith (Z .heap) r label
+  field-same r label = look r label (fieldCount (S .heap) r) 0 (omega arith) seeking-starts seeking-starts
+
+-- ---- another cell at a location
+
+pub put-same : (S Z : Cells) → Same S Z → Sized S → Sized Z → (l : ℕ) (c d : Cell) → AlikeCell c d → Same (putCell S l c) (putCell Z l d)
+put-same S Z s i j l c d a = record {
+  alike = λ k. at k (ℕ-discrete k l) (decLt k 576);
+  labels = λ r f x. put-label S l c r f ∙ s .labels r f x ∙ sym (put-label Z l d r f);
+  fields = λ r. put-fields S l c r ∙ s .fields r ∙ sym (put-fields Z l d r);
+  records = put-records S l c ∙ s .records ∙ sym (put-records Z l d);
+}
+  where
+    at : (k : ℕ) → Dec (k ≡ l) → Dec (k < 576) → AlikeCell (cellAt (putCell S l c) k) (cellAt (putCell Z l d) k)
+    at k (yes e) (yes h) = rw (e, read-same S l c i (omega arith), read-same Z l d j (omega arith)) a
+    at k (yes e) (no h) = rw (no-cell (putCell S l c) k (omega arith), no-cell (putCell Z l d) k (omega arith)) (alike-refl _)
+    at k (no n) h = rw (read-other S l k c n, read-other Z l k d n) (s .alike k)
