@@ -11,3 +11,4 @@ pub mod ReadLaws
 pub mod RowLaws
 pub mod BlockLaws
 pub mod WhereLaws
+pub mod StandLaws

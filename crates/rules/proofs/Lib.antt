@@ -31,3 +31,14 @@ pub mod SameStatements
 pub mod SameRuns
 pub mod Refusals
 pub mod OneStructure
+pub mod EffectLaws
+pub mod NearLaws
+pub mod AcceptanceLaws
+pub mod KeepLaws
+pub mod HoldLaws
+pub mod PhaseHolds
+pub mod AssignHolds
+pub mod NewHolds
+pub mod SpotLaws
+pub mod WalkLaws
+pub mod Holding

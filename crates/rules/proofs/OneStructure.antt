@@ -21,7 +21,7 @@ use Rattle.rules.specs.Running.{Tally, Out, on, end, thenOut, paid, take
 use Rattle.rules.specs.Start.{Early, budgetFits, early, starts, ended, run}
 use Rattle.rules.specs.Structure.{SameState}
 use Rattle.rules.specs.Claims.OneStructure.{OneStructure}
-use Rattle.tables.proofs.FitLaws.{sized-lengths}
+use Rattle.tables.proofs.StartLaws.{sized-lengths}
 use Rattle.rules.proofs.Structure.{state-refl}
 use Rattle.rules.proofs.SameRuns.{end≢on, blocks-same}
 use Rattle.rules.proofs.Refusals.{Refuses, NotZero, when-got, when-stop, when-next, simple-not, test-not}
@@ -131,7 +131,7 @@ starts-sized program budget S e =
     step-on (early 1 (want 0 (sized (S .cells .environment) (S .cells .heap) (S .kept) && budgetFits budget))) _ e λ x e1 k1.
     let l = sized-lengths (S .cells .environment) (S .cells .heap) (S .kept)
     (and-left (sized (S .cells .environment) (S .cells .heap) (S .kept)) (budgetFits budget) (early-want 1 0 _ e1)) in
-    record { environment = l .0; heap = l .1 }
+    record { environment = l .0; heap = l .1 .0 }
 
 -- ---- whole runs
 

@@ -6,3 +6,6 @@ pub mod PathsAfter
 pub mod IdentitiesAfter
 pub mod OneUpdate
 pub mod OneStructure
+pub mod Effect
+pub mod Acceptance
+pub mod Holding

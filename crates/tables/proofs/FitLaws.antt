@@ -5,17 +5,16 @@ use mathlib.Core.List.{List}
 use Prim.Native.Nat.{ℕ, _+_, _-_, _*_, _/_, _%_, _≤_, _<_}
 use native.Mathlib.Omega.{arith}
 use native.Mathlib.Decide.{decLt, ℕ-discrete}
-use borrow.Author.Tests.{lt-ltb, le-ltb, le-leb, ltb-true, leb-true, eqb-true, eqb-false, ne-eqb, not-true}
+use borrow.Author.Tests.{lt-ltb, le-ltb, le-leb, ltb-true, leb-true, eqb-false, ne-eqb, not-true}
 use lib.Dec.{ltb, leb, eqb}
 use lib.IntN.{ℤ, pos}
-use lib.ListN.{length}
 use Rattle.words.specs.Words.{wordAt, numberAt, numberOf}
 use Rattle.tables.specs.Sizes.{fieldLocation, fieldWord, countWord, labelWord}
 use Rattle.tables.specs.Search.{every}
 use Rattle.tables.specs.Values.{absent, slotOf, cellOf}
 use Rattle.tables.specs.Cells.{Cells, pairAt, cellAt}
 use Rattle.tables.specs.Records.{recordCount, fieldCount, labelAt, withRecord, withoutRecord}
-use Rattle.tables.specs.Fit.{cellFits, environmentFits, labelFits, fieldFits, zeros, placeFits, recordFits, numberFits, heapFits, cellsFit, sized, Sized, Fit}
+use Rattle.tables.specs.Fit.{cellFits, environmentFits, labelFits, fieldFits, zeros, placeFits, recordFits, numberFits, heapFits, cellsFit, Sized, Fit}
 use Rattle.tables.specs.declared.Value.{Value}
 use Rattle.tables.specs.declared.Value.the-variants.{Ref}
 use Rattle.tables.specs.declared.Slot.the-variants.{Has}
@@ -314,14 +313,3 @@ module _ (S : Cells) (sized : Sized S) (facts : FitFacts S) where
         (and-true (leb (numberAt (S .heap) 0) 64) (every (numberFits (S .heap) (numberAt (S .heap) 0)) 64)
         (le-leb (numberAt (S .heap) 0) 64 (facts .count)) (every-all (numberFits (S .heap) (numberAt (S .heap) 0)) 64 number-passes));
   }
-
--- tables of the right lengths
-pub sized-lengths : (e h c : List ℤ) → sized e h c ≡ true → (length e ≡ 128) × (length h ≡ 1601)
-unfolding sized
-sized-lengths e h c k =
-    let a = and-left (eqb (length e) 128 && eqb (length h) 1601) (eqb (length c) 98) k in
-    (eqb-true (length e) 128 (and-left (eqb (length e) 128) (eqb (length h) 1601) a), eqb-true (length h) 1601 (and-right (eqb (length e) 128) (eqb (length h) 1601) a))
-
-pub sized-constraints : (e h c : List ℤ) → sized e h c ≡ true → length c ≡ 98
-unfolding sized
-sized-constraints e h c k = eqb-true (length c) 98 (and-right (eqb (length e) 128 && eqb (length h) 1601) (eqb (length c) 98) k)

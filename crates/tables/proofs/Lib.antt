@@ -8,3 +8,4 @@ pub mod CellLaws
 pub mod RecordLaws
 pub mod FitLaws
 pub mod FitChanges
+pub mod StartLaws
