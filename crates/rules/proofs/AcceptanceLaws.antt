@@ -23,7 +23,8 @@ use Rattle.rules.specs.State.{Res, refused}
 use Rattle.rules.specs.Evaluation.{at}
 use Rattle.rules.specs.Constraints.{Part, counted, allHold, requiredHold}
 use Rattle.rules.specs.Proposals.{Entry, entries, proposal, mayTake, isTarget, entryFits, entriesFit, applied, none?, Asked, settle}
-use Rattle.rules.specs.Claims.Acceptance.{Each, none as no-each, more as and-each, Rising, none as no-rising, more as rises, wordsOf, Formed, Allowed, Satisfied, Met, Needed, Acceptable, Judged, accepted, failed, AcceptedExactly, RefusedExactly, EveryJudged, Fails, no-words, not-formed, not-allowed, not-needed, not-met}
+use Rattle.rules.specs.Conditions.{Each, none as no-each, more as and-each, Rising, none as no-rising, more as rises, wordsOf, Formed, Allowed, Satisfied, Met, Needed, Acceptable, Judged, accepted, failed, Fails, no-words, not-formed, not-allowed, not-needed, not-met}
+use Rattle.rules.specs.Claims.Acceptance.{AcceptedExactly, RefusedExactly, EveryJudged}
 use Rattle.rules.proofs.EffectLaws.{takes-other, kind-takes, entry-kind, entry-free, applied-near, entries-rise, settled}
 use Rattle.rules.proofs.NearLaws.{counted-again}
 

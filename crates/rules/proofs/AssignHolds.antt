@@ -31,7 +31,7 @@ use Rattle.rules.specs.Identities.{identityPhase}
 use Rattle.rules.specs.IdentityRules.{by-path, as-before}
 use Rattle.rules.specs.Proposals.{settle}
 use Rattle.rules.specs.Statements.{Left, valuePhase, doAssign}
-use Rattle.rules.specs.Claims.Holding.{Holds}
+use Rattle.rules.specs.Holds.{Holds}
 use Rattle.rules.proofs.WordSteps.{at-got}
 use Rattle.rules.proofs.HoldLaws.{Half, half-of, settle-half, settle-values}
 use Rattle.rules.proofs.IdentitiesAfter.{value-of}

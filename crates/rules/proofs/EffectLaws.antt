@@ -28,8 +28,9 @@ use Rattle.rules.specs.Evaluation.{at}
 use Rattle.rules.specs.State.{refused}
 use Rattle.rules.specs.Proposals.{Entry, entries, proposal, mayTake, isTarget, entryFits, entriesFit, putEntry, applied, none?, Asked, settle}
 use Rattle.rules.proofs.WordSteps.{at-got}
-use Rattle.rules.specs.Claims.Acceptance.{Rising, none as no-more, more}
-use Rattle.rules.specs.Claims.Effect.{OfKind, a-boolean, an-integer, Moved, unmoved, another, Effect, ProposalsMove}
+use Rattle.rules.specs.Conditions.{Rising, none as no-more, more}
+use Rattle.rules.specs.Effects.{OfKind, a-boolean, an-integer, Moved, unmoved, another, Effect}
+use Rattle.rules.specs.Claims.Effect.{ProposalsMove}
 
 -- ---- what an entry may be
 

@@ -26,8 +26,8 @@ use Rattle.rules.specs.Constraints.{Part, constraintAt, fifteen, keptAt,
 use Rattle.rules.specs.Identities.{isNode, sameNow}
 use Rattle.rules.specs.Proposals.{Asked, settle}
 use Rattle.rules.specs.Statements.{Left, positionOf, hasRoom, doConstraint, doIdentity}
-use Rattle.rules.specs.Claims.Acceptance.{Each, none as no-each, more, Met}
-use Rattle.rules.specs.Claims.Holding.{ValueHolds, IdentityHolds, Holds}
+use Rattle.rules.specs.Conditions.{Each, none as no-each, more, Met}
+use Rattle.rules.specs.Holds.{ValueHolds, IdentityHolds, Holds}
 use Rattle.rules.proofs.WordSteps.{or-got}
 use Rattle.rules.proofs.EffectLaws.{Near, settled, settle-near}
 use Rattle.rules.proofs.NearLaws.{Shifted, stays, truth, int, slot-shifted, way-same, fifteen-got}

@@ -30,8 +30,9 @@ use Rattle.rules.specs.Constraints.{keptAt, requiredHold}
 use Rattle.rules.specs.Statements.{Left, positionOf, doSimple}
 use Rattle.rules.specs.Running.{Out, on, end}
 use Rattle.rules.specs.Start.{Early, budgetFits, valuesHold, early, starts, ended, run}
-use Rattle.rules.specs.Claims.Acceptance.{Each, none, more}
-use Rattle.rules.specs.Claims.Holding.{ValueHolds, Holds, AtStatement, StatementsHold, Started, finished, stopped, RunsHold}
+use Rattle.rules.specs.Conditions.{Each, none, more}
+use Rattle.rules.specs.Holds.{ValueHolds, Holds, AtStatement}
+use Rattle.rules.specs.Claims.Holding.{StatementsHold, Started, finished, stopped, RunsHold}
 use Rattle.rules.proofs.AcceptanceLaws.{met-iff}
 use Rattle.rules.proofs.HoldLaws.{Stands, once-holds, always-holds, once-same-holds, always-same-holds}
 use Rattle.rules.proofs.PhaseHolds.{identities-iff}

@@ -21,8 +21,8 @@ use Rattle.rules.specs.Evaluation.{same}
 use Rattle.rules.specs.Identities.{isNode, sameNow, Tie, tiesOf, ties, identityPhase}
 use Rattle.rules.specs.IdentityRules.{OneOf, Tied, itself, by-tie, backwards, onwards, Relevant, Names, as-one, as-two, Satisfies, Phase, Target, Ready}
 use Rattle.rules.specs.Start.{identitiesHold}
-use Rattle.rules.specs.Claims.PathsAfter.{PathsAfter}
-use Rattle.rules.specs.Claims.IdentitiesAfter.{IdentitiesAfter}
+use Rattle.rules.specs.Steps.PathsAfter.{PathsAfter}
+use Rattle.rules.specs.Steps.IdentitiesAfter.{IdentitiesAfter}
 use Rattle.rules.proofs.WayLaws.{one-of-cons, or-refuse-is}
 use Rattle.rules.proofs.PhaseLaws.{same-self, same-is, slot-sound, phase-iff}
 use Rattle.rules.proofs.ReadyLaws.{tie-at, tie-from, tie-inside, ready-slot}

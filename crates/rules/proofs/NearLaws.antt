@@ -29,7 +29,7 @@ use Rattle.rules.specs.Paths.{aRecord, aField, follow, Way, wayAt, value
 use Rattle.rules.specs.Evaluation.{Kind, aBool, kindOf, evaluate, kindForm, kind}
 use Rattle.rules.specs.Constraints.{Part, satisfies, partAt, partsAt, constraintAt, fifteen, keptAt, keptParts, ownParts, counted}
 use Rattle.rules.specs.Proposals.{Asked}
-use Rattle.rules.specs.Claims.Effect.{OfKind, a-boolean, an-integer, Moved, unmoved, another}
+use Rattle.rules.specs.Effects.{OfKind, a-boolean, an-integer, Moved, unmoved, another}
 use Rattle.rules.proofs.EffectLaws.{Near}
 
 -- what a cell holds before and after

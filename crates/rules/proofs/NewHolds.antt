@@ -38,7 +38,7 @@ use Rattle.rules.specs.Evaluation.{evaluate}
 use Rattle.rules.specs.Identities.{identityPhase}
 use Rattle.rules.specs.IdentityRules.{by-variable, with-record}
 use Rattle.rules.specs.Statements.{Left, fieldWords, doNew}
-use Rattle.rules.specs.Claims.Holding.{Holds}
+use Rattle.rules.specs.Holds.{Holds}
 use Rattle.rules.proofs.RestLaws.{evaluate-rest}
 use Rattle.rules.proofs.HoldLaws.{half-of}
 use Rattle.rules.proofs.PhaseHolds.{phase-half}

@@ -20,7 +20,7 @@ use Rattle.tables.proofs.FitLaws.{fit-facts, fit-count-word, fit-slot, label-is
 use Rattle.rules.specs.State.{slotAt}
 use Rattle.rules.specs.Identities.{Tie, member, classOf}
 use Rattle.rules.specs.IdentityRules.{Relevant, Update}
-use Rattle.rules.specs.Claims.OneUpdate.{OneUpdate}
+use Rattle.rules.specs.Steps.OneUpdate.{OneUpdate}
 use Rattle.rules.proofs.ClassLaws.{class-iff, false≢true}
 
 module _ (S Z : Cells) (fit : Fit S) (fit' : Fit Z) (same-cells : (l : ℕ) → cellAt S l ≡ cellAt Z l) (records : recordCount (S .heap) ≡ recordCount (Z .heap))

@@ -18,7 +18,7 @@ use Rattle.rules.specs.State.{slotAt, positions}
 use Rattle.rules.specs.Paths.{Way, wayAt}
 use Rattle.rules.specs.Identities.{Tie, tieAt, tiesOf, ties, classOf, identityPhase}
 use Rattle.rules.specs.IdentityRules.{OneOf, Frozen, of-target, of-side, Target, Ready}
-use Rattle.rules.specs.Claims.PathsAfter.{PathsAfter, SamePaths}
+use Rattle.rules.specs.Steps.PathsAfter.{PathsAfter, SamePaths}
 use Rattle.rules.proofs.PutAllLaws.{put-all-found}
 use Rattle.rules.proofs.WayLaws.{one-of-cons, way-same}
 use Rattle.rules.proofs.ReadyLaws.{TieOf, tie-of, tie-from, ready-found}

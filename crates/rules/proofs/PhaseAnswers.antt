@@ -16,7 +16,7 @@ use Rattle.tables.proofs.SearchLaws.{cases}
 use Rattle.rules.specs.State.{Fault, Res, refused, refuse, slotAt}
 use Rattle.rules.specs.Identities.{Tie, ties, isNode, member, frozenBy, classOf, names, is, clashFree, putAll, identityPhase}
 use Rattle.rules.specs.IdentityRules.{Names, Clash}
-use Rattle.rules.specs.Claims.PhaseAnswers.{PhaseAnswers, Refuses, PhaseRefuses}
+use Rattle.rules.specs.Steps.PhaseAnswers.{PhaseAnswers, Refuses, PhaseRefuses}
 use Rattle.rules.proofs.ClassLaws.{false≢true, member-head, member-tail, class-iff}
 use Rattle.rules.proofs.PhaseLaws.{phase-iff, frozen-iff, names-iff, clash-iff, is-has, node-iff}
 

@@ -19,8 +19,8 @@ use Rattle.rules.specs.State.{positions}
 use Rattle.rules.specs.Identities.{sameNow, identityPhase}
 use Rattle.rules.specs.IdentityRules.{Target, Ready, Phase}
 use Rattle.rules.specs.Start.{identitiesHold}
-use Rattle.rules.specs.Claims.Acceptance.{Each, none, more}
-use Rattle.rules.specs.Claims.Holding.{IdentityHolds}
+use Rattle.rules.specs.Conditions.{Each, none, more}
+use Rattle.rules.specs.Holds.{IdentityHolds}
 use Rattle.rules.proofs.PhaseLaws.{small-sound, phase-iff}
 use Rattle.rules.proofs.PhaseFit.{phase-fit}
 use Rattle.rules.proofs.IdentitiesAfter.{identities-after}

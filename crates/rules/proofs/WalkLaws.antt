@@ -24,7 +24,7 @@ use Rattle.program.proofs.WhereLaws.{spot-here, spot-loop, spot-branch, Looking
 use Rattle.rules.specs.State.{Res}
 use Rattle.rules.specs.Statements.{Left, positionOf, doSimple}
 use Rattle.rules.specs.Running.{Tally, Out, on, end, thenOut, oneMore, paid, leaves, taken, noted, test, tested, turns, pastTest, doVerb, doStatement, doStatements, doBlock}
-use Rattle.rules.specs.Claims.Holding.{AtStatement}
+use Rattle.rules.specs.Holds.{AtStatement}
 use Rattle.rules.proofs.SpotLaws.{append-part, long, row-finds, row-goes-on, out-statement, row-starts, out-block}
 
 -- the tally with which a piece goes on or ends

@@ -11,5 +11,9 @@ pub mod Sheets
 pub mod EvaluationRules
 pub mod ConstraintRules
 pub mod IdentityRules
+pub mod Effects
+pub mod Conditions
+pub mod Holds
 pub mod Structure
 pub mod Claims
+pub mod Steps

@@ -1,53 +1,15 @@
 -- Wherever a run stops, what is kept holds: the solver need not be trusted. Assumes nothing: these are statements.
-use Prim.Native.Nat.{ℕ, _+_, _≤_}
+use Prim.Native.Nat.{ℕ, _≤_}
 use mathlib.Core.Path.{_≡_}
-use mathlib.Core.Bool.{true}
 use mathlib.Core.List.{List}
 use lib.IntN.{ℤ}
-use lib.ListN.{length, drop}
 use Rattle.words.specs.Words.{numberAt}
 use Rattle.words.specs.Answer.{got}
-use Rattle.tables.specs.declared.Sort.the-variants.{Values, Identities}
-use Rattle.tables.specs.Sizes.{constraintsWords}
-use Rattle.tables.specs.Cells.{Cells}
-use Rattle.tables.specs.Fit.{Fit}
-use Rattle.program.specs.declared.Spot.the-variants.{At}
-use Rattle.program.specs.Forms.{mostWords, verbOf}
-use Rattle.program.specs.Reading.{readStatement}
-use Rattle.program.specs.Where.{statementAt, constraintsStand}
-use Rattle.rules.specs.State.{State, positions}
-use Rattle.rules.specs.Constraints.{Part, keptAt}
-use Rattle.rules.specs.Identities.{sameNow}
-use Rattle.rules.specs.Statements.{Left, positionOf, doSimple}
+use Rattle.program.specs.Forms.{verbOf}
+use Rattle.rules.specs.State.{State}
+use Rattle.rules.specs.Statements.{Left, doSimple}
 use Rattle.rules.specs.Start.{run}
-use Rattle.rules.specs.Claims.Acceptance.{Each, Met}
-
--- the value constraint at a position reads, and each of its required parts is true
-pub record ValueHolds (program : List ℤ) (S : Cells) (position : ℕ) : Type 0 where
-  pub parts : List Part
-  pub reads : keptAt program S position ≡ got parts
-  pub met : Each Met parts
-
--- both sides of the identity at a position hold the same reference, or nil
-abbrev pub IdentityHolds : List ℤ → Cells → ℕ → Type 0
-IdentityHolds program S position = sameNow S (drop position program) (drop (position + 1) program) ≡ got tt
-
--- the tables are fit, every kept position is that of an always-statement of its sort, and every kept constraint holds
-pub record Holds (program : List ℤ) (S : State) : Type 0 where
-  pub fit : Fit (S .cells)
-  pub long : length (S .kept) ≡ constraintsWords
-  pub stands : constraintsStand program (S .kept) ≡ true
-  pub values : Each (ValueHolds program (S .cells)) (positions (S .kept) Values)
-  pub identities : Each (IdentityHolds program (S .cells)) (positions (S .kept) Identities)
-
--- p is the part of the program that begins at a statement of it
-pub record AtStatement (program p : List ℤ) : Type 0 where
-  pub short : length program ≤ mostWords
-  pub part : drop (positionOf program p) program ≡ p
-  pub nest : ℕ
-  pub there : statementAt program (positionOf program p) ≡ At (numberAt p 0) nest
-  pub rest : List ℤ
-  pub reads : readStatement nest p ≡ got rest
+use Rattle.rules.specs.Holds.{Holds, AtStatement}
 
 -- an accepted statement that holds no block takes a state that holds to one that holds, whatever the proposals say
 abbrev pub StatementsHold : Type 0
