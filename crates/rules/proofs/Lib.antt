@@ -42,3 +42,6 @@ pub mod NewHolds
 pub mod SpotLaws
 pub mod WalkLaws
 pub mod Holding
+pub mod PathClauses
+pub mod OperatorClauses
+pub mod EvaluateClauses

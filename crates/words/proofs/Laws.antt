@@ -11,6 +11,8 @@ use lib.Dec.{eqb, ltb}
 use lib.IntN.{ℤ, pos, negsuc}
 use lib.ListN.{length, getD, set, take, drop, replicate, length-drop, length-set, length-replicate, getD-replicate, drop-of-length-le, List·getD-eq-default}
 use lib.Seq.{take-all, drop-length, getD-drop, getD-set-same, getD-set-other, set-out, ext-getD}
+use Rattle.words.specs.Range.{fits, ranged}
+use Rattle.words.specs.declared.Ranged.the-variants.{Within, Outside}
 use Rattle.words.specs.Words.{wordAt, numberOf, numberAt, wordOf, copied, cleared, eqZ}
 
 -- ---- parts
@@ -163,3 +165,9 @@ module _ {s₀ t s : List ℤ} {at n i : ℕ} (inv : Copying s₀ t s at n i) wh
 pub copying-starts : {s₀ t : List ℤ} {at n : ℕ} → Copying s₀ t s₀ at n 0
 unfolding copied
 copying-starts = record { inside = omega arith; kept = refl; done = refl }
+
+-- ---- the range of a result
+
+pub ranged-is : (z : ℤ) → ranged z ≡ cond (fits z) (Within z) Outside
+unfolding ranged
+ranged-is z = refl

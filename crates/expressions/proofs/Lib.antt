@@ -1,0 +1,3 @@
+pub mod PathLaws
+pub mod OperatorLaws
+pub mod EvaluateLaws

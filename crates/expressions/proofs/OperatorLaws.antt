@@ -1,0 +1,65 @@
+-- What the code of the operators comes to. Assumes nothing.
+use mathlib.Core.Path.{_≡_, refl, sym, ap, _∙_}
+use mathlib.Core.Bool.{Bool, true, false, not, cond, _&&_, _||_}
+use Prim.Native.Nat.{ℕ, zero, suc, _≤_, _<_}
+use native.Mathlib.Omega.{arith}
+use lib.Dec.{eqb}
+use borrow.Author.Tests.{eqb-true}
+use Rattle.words.specs.declared.Ranged.the-variants.{Within, Outside}
+use lib.IntN.{ℤ}
+use Rattle.words.specs.Range.{fits, ranged}
+use Rattle.words.specs.Answer.{Answer, got, stop, _>>_, want}
+use Rattle.words.proofs.Laws.{ranged-is}
+use Rattle.tables.specs.declared.Value.{Value}
+use Rattle.tables.specs.declared.Value.the-variants.{Nil, Bool as Truth, Int, Ref}
+use Rattle.tables.proofs.SearchLaws.{cases}
+use Rattle.rules.specs.Evaluation.{Kind, isNil, isBool, isInt, isRef, kindOf, anInt, aBool, aRef, takes, opOf, made, apply}
+use Rattle.rules.specs.Evaluation.{ranged as inRange}
+use Rattle.rules.proofs.OperatorClauses.{ranged-is as in-range-is, apply-is, no-op, takes-none, made-0, made-none}
+use Rattle.expressions.specs.declared.Applied.{Applied}
+use Rattle.expressions.specs.declared.Applied.the-variants.{Is, Not}
+use Rattle.expressions.specs.Told.{kindNumber, kindFrom, appliedOf, rangedOf}
+
+-- kinds by their numbers
+pub int-number : (n : ℕ) → eqb n 3 ≡ anInt (kindFrom n)
+int-number n = cases (eqb n 2)
+    (λ e. rw (e, eqb-true n 2 e))
+    (λ e. cases (eqb n 3) (λ f. rw (e, f)) (λ f. cases (eqb n 4) (λ g. rw (e, f, g)) (λ g. rw (e, f, g))))
+
+pub bool-number : (n : ℕ) → eqb n 2 ≡ aBool (kindFrom n)
+bool-number n = cases (eqb n 2) (λ e. rw e) (λ e. cases (eqb n 3) (λ f. rw (e, f)) (λ f. cases (eqb n 4) (λ g. rw (e, f, g)) (λ g. rw (e, f, g))))
+
+pub ref-number : (n : ℕ) → not (eqb n 4) ≡ not (aRef (kindFrom n))
+ref-number n = cases (eqb n 2)
+    (λ e. rw (e, eqb-true n 2 e))
+    (λ e. cases (eqb n 3) (λ f. rw (e, f, eqb-true n 3 f)) (λ f. cases (eqb n 4) (λ g. rw (e, f, g)) (λ g. rw (e, f, g))))
+
+pub kind-back : (k : Kind) → kindFrom (kindNumber k) ≡ k
+kind-back isNil = refl
+kind-back isBool = refl
+kind-back isInt = refl
+kind-back isRef = refl
+
+-- a result in its range, or 9
+pub range-is : (z : ℤ) → rangedOf (ranged z) ≡ appliedOf (inRange z)
+range-is z = rw (ranged-is z, in-range-is z) (by (fits z))
+  where
+    by : (b : Bool) → rangedOf (cond b (Within z) Outside) ≡ appliedOf (want 9 b >> got (Int z))
+    by true = refl
+    by false = refl
+
+-- kinds, then range
+module _ (o : ℕ) (a b : Value) where
+  pub kinds-fail : takes (opOf o) (kindOf a) (kindOf b) ≡ false → Not 8 ≡ appliedOf (apply (opOf o) a b)
+  kinds-fail e = rw (apply-is a b (opOf o), e)
+
+  pub kinds-pass : takes (opOf o) (kindOf a) (kindOf b) ≡ true → appliedOf (made (opOf o) a b) ≡ appliedOf (apply (opOf o) a b)
+  kinds-pass e = rw (apply-is a b (opOf o), e)
+
+-- a number that is none of the operators
+pub past : {n k : ℕ} → k ≤ n → (n ≡ k → ⊥) → suc k ≤ n
+past h f = omega (arith, f)
+
+pub made-other : (o : ℕ) (a b : Value) → (1 ≤ o → 11 < o) → Not 8 ≡ appliedOf (made (opOf o) a b)
+made-other zero a b h = rw (made-0 a b)
+made-other (suc o) a b h = rw (made-none a b (suc o) (h (omega arith)))

@@ -1,0 +1,119 @@
+// The operators: the kinds that they take, and what they make of two values. A kind is told by its number: 1 nil, 2 boolean, 3 integer, 4 reference.
+use crate::Applied;
+use tables::Value;
+use words::Ranged;
+ghost use mathlib.Core.Path.{_≡_};
+ghost use Rattle.rules.specs.Evaluation.{kindOf, intOf, boolOf, same, takes, made, apply, opOf};
+ghost use Rattle.expressions.specs.Told.{kindNumber, kindFrom, rangedOf, appliedOf};
+
+// The number of a value's kind.
+pub fn kind(v: Value) -> usize
+    ensures { λ r. ⌜ r ≡ kindNumber (kindOf v) ⌝ }
+{
+    match v {
+        Value::Nil => 1,
+        Value::Bool(_) => 2,
+        Value::Int(_) => 3,
+        Value::Ref(_) => 4,
+    }
+}
+
+// The number of an integer, 0 for any other value.
+pub fn int_of(v: Value) -> i32
+    ensures { λ r. ⌜ r ≡ intOf v ⌝ }
+{
+    match v {
+        Value::Nil => 0,
+        Value::Bool(_) => 0,
+        Value::Int(n) => n,
+        Value::Ref(_) => 0,
+    }
+}
+
+// A boolean, false for any other value.
+pub fn bool_of(v: Value) -> bool
+    ensures { λ r. ⌜ r ≡ boolOf v ⌝ }
+{
+    match v {
+        Value::Nil => false,
+        Value::Bool(b) => b,
+        Value::Int(_) => false,
+        Value::Ref(_) => false,
+    }
+}
+
+// The same kind and the same payload.
+pub fn are_same(a: Value, b: Value) -> bool
+    ensures { λ r. ⌜ r ≡ same a b ⌝ }
+{
+    let x = tables::cells::cell_of(a);
+    let y = tables::cells::cell_of(b);
+    words::same(x.kind, y.kind) & words::same(x.payload, y.payload)
+}
+
+// Whether operator o takes operands of these kinds.
+pub fn takes_kinds(o: usize, a: usize, b: usize) -> bool
+    ensures { λ r. ⌜ r ≡ takes (opOf o) (kindFrom a) (kindFrom b) ⌝ }
+{
+    if o == 0 {
+        return false;
+    }
+    if o <= 5 {
+        return (a == 3) & (b == 3);
+    }
+    match o {
+        6 => (a != 4) & (b != 4),
+        7 => (a != 4) & (b != 4),
+        8 => (a == 3) & (b == 3),
+        9 => (a == 3) & (b == 3),
+        10 => (a == 2) & (b == 2),
+        11 => (a == 2) & (b == 2),
+        _ => false,
+    }
+}
+
+// A result that must be a word: 9 where it is none.
+fn in_range(r: Ranged) -> Applied
+    ensures { λ a. ⌜ a ≡ rangedOf r ⌝ }
+{
+    match r {
+        Ranged::Within(n) => Applied::Is(Value::Int(n)),
+        Ranged::Outside => Applied::Not(9),
+    }
+}
+
+fn truth(b: bool) -> Applied
+    ensures { λ r. ⌜ r ≡ Applied.Is (Value.Bool b) ⌝ }
+{
+    Applied::Is(Value::Bool(b))
+}
+
+// What operator o makes of two values whose kinds it takes.
+fn make(o: usize, a: Value, b: Value) -> Applied
+    ensures { λ r. ⌜ r ≡ appliedOf (made (opOf o) a b) ⌝ }
+{
+    match o {
+        1 => in_range(words::plus(int_of(a), int_of(b))),
+        2 => in_range(words::minus(int_of(a), int_of(b))),
+        3 => in_range(words::times(int_of(a), int_of(b))),
+        4 => truth(words::below(int_of(a), int_of(b))),
+        5 => truth(words::at_most(int_of(a), int_of(b))),
+        6 => truth(are_same(a, b)),
+        7 => truth(!are_same(a, b)),
+        8 => truth(words::at_most(int_of(b), int_of(a))),
+        9 => truth(words::below(int_of(b), int_of(a))),
+        10 => truth(bool_of(a) & bool_of(b)),
+        11 => truth(bool_of(a) | bool_of(b)),
+        _ => Applied::Not(8),
+    }
+}
+
+// Operator o on two values: kinds (8), then range (9).
+pub fn apply_to(o: usize, a: Value, b: Value) -> Applied
+    ensures { λ r. ⌜ r ≡ appliedOf (apply (opOf o) a b) ⌝ }
+{
+    if !takes_kinds(o, kind(a), kind(b)) {
+        return Applied::Not(8);
+    }
+    make(o, a, b)
+}
