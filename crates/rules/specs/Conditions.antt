@@ -81,3 +81,11 @@ pub data Fails (program kept : List ℤ) (asked : Asked) (S : Cells) (before : L
 pub data Judged (program kept : List ℤ) (asked : Asked) (S : Cells) (before : List Part) (ws : List ℤ) : Type 0 where
   accepted : {Z : Cells} {rest : List ℤ} → Acceptable program kept asked S before ws Z rest → Judged program kept asked S before ws
   failed : {n : ℕ} → Fails program kept asked S before ws n → Judged program kept asked S before ws
+
+-- ---- one proposal is accepted: S is the state before it, and the words ws leave Z and the unread words
+
+pub record Settles (program kept : List ℤ) (asked : Asked) (S : Cells) (ws : List ℤ) (Z : Cells) (rest : List ℤ) : Type 0 where
+  pub before : List Part
+  pub counts : counted program kept (asked .own) S ≡ got before
+  pub room : asked .room ≡ true
+  pub acceptable : Acceptable program kept asked S before ws Z rest

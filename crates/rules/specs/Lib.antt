@@ -13,6 +13,9 @@ pub mod ConstraintRules
 pub mod IdentityRules
 pub mod Effects
 pub mod Conditions
+pub mod StatementRules
+pub mod Derivations
+pub mod Reaching
 pub mod Holds
 pub mod Structure
 pub mod Claims
