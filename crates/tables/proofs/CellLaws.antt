@@ -17,6 +17,7 @@ use Rattle.tables.specs.Cells.{Cells, cells, pairAt, putPair, locationWo
 use Rattle.tables.specs.Records.{recordCount, fieldCount, labelAt, placeWith, fieldWith}
 use Rattle.tables.specs.Fit.{Sized}
 use Rattle.tables.specs.declared.Cell.{Cell}
+use Rattle.tables.proofs.WordLaws.{number-same}
 use Rattle.tables.proofs.SearchLaws.{cases, first-same, and-right}
 
 -- ---- where words stand
@@ -275,8 +276,7 @@ module _ (S : Cells) (l : ℕ) (c : Cell) where
       go {j} (nowhere a) = rw (put-nowhere S j c a)
 
   pub put-number : (k : ℕ) → NoCell k → numberAt (putCell S l c .heap) k ≡ numberAt (S .heap) k
-  unfolding numberAt
-  put-number k n = ap numberOf (put-word k (negsuc 0) n)
+  put-number k n = number-same (putCell S l c .heap) (S .heap) k (put-lengths .1) (put-word k (pos 0) n)
 
   pub put-count-word : wordAt (putCell S l c .heap) 0 ≡ wordAt (S .heap) 0
   put-count-word = put-word 0 (pos 0) (λ r f h. (λ e. omega arith, λ e. omega arith))

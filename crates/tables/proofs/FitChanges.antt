@@ -358,6 +358,15 @@ fresh-word n k = go (decLt k n)
 pub fresh-fit : Fit (cells (fresh 128) (fresh 1601))
 fresh-fit = blank-fit (cells (fresh 128) (fresh 1601)) (record { environment = length-replicate 128 (pos 0); heap = length-replicate 1601 (pos 0) }) (fresh-word 128) (fresh-word 1601)
 
+fresh-number : (k : ℕ) → k < 98 → numberAt (fresh 98) k ≡ 0
+fresh-number k h = number-of (fresh 98) k (pos 0) (rw (length-replicate 98 (pos 0)) h) (fresh-word 98 k)
+
+fresh-sort : (s : Sort) → keptWord s < 98 → sortFits (fresh 98) s ≡ true
+unfolding sortFits roomFits
+fresh-sort s h =
+    rw (fresh-number (keptWord s) h, le-leb 0 (mostKept s) (omega arith))
+    (every-all _ (mostKept s) (λ i l. rw (le-ltb i 0 (omega arith), fresh-word 98 (firstKept s + i))))
+
 pub fresh-constraints-fit : constraintsFit (fresh 98) ≡ true
-unfolding constraintsFit sortFits roomFits every numberAt
-fresh-constraints-fit = refl
+unfolding constraintsFit
+fresh-constraints-fit = rw (fresh-sort Values (omega arith), fresh-sort Identities (omega arith))

@@ -8,7 +8,7 @@ use lib.Dec.{ltb, eqb}
 use lib.IntN.{ℤ, pos, negsuc}
 use lib.Signed.{ltZ, leZ}
 use Rattle.words.specs.Words.{numberOf, wordOf, eqZ}
-use Rattle.words.proofs.Laws.{number-word, word-is, eqZ-true}
+use Rattle.words.proofs.Laws.{number-word, word-is, word-greatest, eqZ-true}
 use Rattle.tables.specs.Sizes.{noNumber}
 use Rattle.tables.specs.Values.{cell, absent, cellOf, slotOf, Sound}
 use Rattle.tables.specs.Fit.{admits, cellFits}
@@ -128,14 +128,14 @@ ref-below n c r h e = go (fits-shape (pos n) c h) e
 
 -- the cell of a value fits, where the value is no reference or one below the count
 pub cell-fits : (n : ℕ) (v : Value) → ((r : ℕ) → v ≡ Ref r → r < n) → cellFits (pos n) (cellOf v) ≡ true
-unfolding cellFits cellOf wordOf
+unfolding cellFits cellOf
 cell-fits n Nil h = refl
 cell-fits n (Truth true) h = refl
 cell-fits n (Truth false) h = refl
 cell-fits n (Int z) h = refl
 cell-fits n (Ref r) h = let l : r < n = h r refl in cases (ltb r 2147483648)
-    (λ e. rw e (lt-ltb r n l))
-    (λ e. rw e (lt-ltb 2147483647 n (omega (arith, ltb-false r 2147483648 e))))
+    (λ e. rw (word-is r (ltb-true r 2147483648 e)) (lt-ltb r n l))
+    (λ e. rw (word-greatest r (ltb-false r 2147483648 e)) (lt-ltb 2147483647 n (omega (arith, ltb-false r 2147483648 e))))
 
 pub cell-used : (v : Value) → numberOf (cellOf v .kind) ≡ 0 → ⊥
 unfolding cellOf

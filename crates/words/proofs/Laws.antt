@@ -6,7 +6,7 @@ use Prim.Native.Nat.{ℕ, zero, suc, _+_, _-_, _≤_, _<_}
 use native.Mathlib.Omega.{arith}
 use native.Mathlib.Decide.{decLt}
 use native.Mathlib.Numerals.{add-one}
-use borrow.Author.Tests.{eqb-true, eq-eqb, lt-ltb}
+use borrow.Author.Tests.{eqb-true, eq-eqb, lt-ltb, le-ltb}
 use lib.Dec.{eqb, ltb}
 use lib.IntN.{ℤ, pos, negsuc}
 use lib.ListN.{length, getD, set, take, drop, replicate, length-drop, length-set, length-replicate, getD-replicate, drop-of-length-le, List·getD-eq-default}
@@ -69,6 +69,10 @@ number-cons (negsuc n ∷ p) h = let z : ⊥ = omega arith in absurd z
 pub word-is : (n : ℕ) → n < 2147483648 → wordOf n ≡ pos n
 unfolding wordOf
 word-is n h = rw (lt-ltb n 2147483648 h)
+
+pub word-greatest : (n : ℕ) → 2147483648 ≤ n → wordOf n ≡ pos 2147483647
+unfolding wordOf
+word-greatest n h = rw (le-ltb n 2147483648 h)
 
 pub number-word : (n : ℕ) → n < 2147483648 → numberOf (wordOf n) ≡ n
 unfolding wordOf
