@@ -57,9 +57,6 @@ module _ (o : ℕ) (a b : Value) where
   kinds-pass e = rw (apply-is a b (opOf o), e)
 
 -- a number that is none of the operators
-pub past : {n k : ℕ} → k ≤ n → (n ≡ k → ⊥) → suc k ≤ n
-past h f = omega (arith, f)
-
 pub made-other : (o : ℕ) (a b : Value) → (1 ≤ o → 11 < o) → Not 8 ≡ appliedOf (made (opOf o) a b)
 made-other zero a b h = rw (made-0 a b)
 made-other (suc o) a b h = rw (made-none a b (suc o) (h (omega arith)))

@@ -21,7 +21,7 @@ use Rattle.program.specs.Told.{told, verdictOf}
 use Rattle.program.specs.Reading.{Reading, readPath, readExpression, among, readFields, readNew, readAssign, readVerb, readWith, readStatements, readBlock, readStatement, ends, placeIn, readProgram, after}
 use Rattle.program.proofs.NumberLaws.{number-fits, number-low, number-high, verb-high}
 use Rattle.program.proofs.LengthLaws.{Part, part-trans, part-drop}
-use Rattle.program.proofs.ReadLaws.{halted, onward, told-left}
+use Rattle.program.proofs.ReadLaws.{halted, onward, told-left, past}
 use Rattle.program.proofs.RowLaws.{many, statements-many, last-part, last-length, last-all, last-but-one}
 
 -- ---- assign and new
@@ -122,9 +122,6 @@ fields-end {n = n} {i = i} {left = left} {p = p} inv h =
     rw (last-length left p (inv .short)) at (ap told e)
 
 -- ---- a statement
-
-past : {n k : ℕ} → k ≤ n → (n ≡ k → ⊥) → suc k ≤ n
-past h f = omega (arith, f)
 
 -- a number that is none of the verbs
 pub verb-none : (n : ℕ) → (n ≡ 0 → ⊥) → (n ≡ 1 → ⊥) → (n ≡ 2 → ⊥) → (n ≡ 3 → ⊥) → (n ≡ 4 → ⊥) → (n ≡ 5 → ⊥) → (n ≡ 6 → ⊥) → (n ≡ 7 → ⊥) → (n ≡ 8 → ⊥) → verbOf n ≡ noVerb

@@ -118,7 +118,8 @@ module _ (p : List ℤ) where
 
 -- ---- e
 
-past : {n k : ℕ} → k ≤ n → (n ≡ k → ⊥) → suc k ≤ n
+-- a number that is none of those up to k
+pub past : {n k : ℕ} → k ≤ n → (n ≡ k → ⊥) → suc k ≤ n
 past h f = omega (arith, f)
 
 -- a number that is none of the forms

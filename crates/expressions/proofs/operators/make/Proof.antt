@@ -8,7 +8,8 @@ use Rattle.words.specs.Range.{ranged}
 use Rattle.rules.specs.Evaluation.{intOf, boolOf, same}
 use Rattle.rules.proofs.OperatorClauses.{made-0, made-1, made-2, made-3, made-4, made-5, made-6, made-7, made-8, made-9, made-10, made-11, made-none}
 use Rattle.expressions.specs.Told.{appliedOf, rangedOf}
-use Rattle.expressions.proofs.OperatorLaws.{range-is, past, made-other}
+use Rattle.expressions.proofs.OperatorLaws.{range-is, made-other}
+use Rattle.program.proofs.ReadLaws.{past}
 use borrow.Author.Needs.{needs}
 use Rattle.expressions.proofs.operators.make.Statement.{statement}
 use Rattle.expressions.proofs.operators.make.Tie as tie

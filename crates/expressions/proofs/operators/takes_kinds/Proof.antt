@@ -4,7 +4,8 @@ use native.Mathlib.Omega.{arith}
 use Prim.Native.Nat.{_<_, _≤_}
 use Rattle.rules.proofs.OperatorClauses.{takes-zero, takes-first, takes-equal, takes-unequal, takes-eight, takes-nine, takes-ten, takes-eleven, takes-none}
 use Rattle.expressions.specs.Told.{kindFrom}
-use Rattle.expressions.proofs.OperatorLaws.{int-number, bool-number, ref-number, past}
+use Rattle.expressions.proofs.OperatorLaws.{int-number, bool-number, ref-number}
+use Rattle.program.proofs.ReadLaws.{past}
 use Rattle.expressions.proofs.operators.takes_kinds.Statement.{statement}
 use Rattle.expressions.proofs.operators.takes_kinds.Tie as tie
 use Rattle.expressions.proofs.operators.takes_kinds.Reads as reads
