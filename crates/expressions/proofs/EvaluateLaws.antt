@@ -78,7 +78,7 @@ module _ (S : Cells) (d : ℕ) (p : List ℤ) (ne : d ≡ 0 → ⊥) (is : numbe
     operator-high h = ap evaluatedOf (rw (number-high 1 11 (drop 1 p) (omega (arith, one)) h) at (evaluate-operation S d p ne is))
 
     module _ (most : numberAt (drop 1 p) 0 ≤ 11) where
-      operands : (evaluate (d - 1) S (drop 1 (drop 1 p)) >>= λ a. evaluate (d - 1) S (a .1) >>= λ b. at p (apply (opOf (numberAt (drop 1 p) 0)) (a .0) (b .0)) >>= λ v. got (v, b .1)) ≡ evaluate d S p
+      pub operands : (evaluate (d - 1) S (drop 1 (drop 1 p)) >>= λ a. evaluate (d - 1) S (a .1) >>= λ b. at p (apply (opOf (numberAt (drop 1 p) 0)) (a .0) (b .0)) >>= λ v. got (v, b .1)) ≡ evaluate d S p
       operands = rw (number-fits 1 11 (drop 1 p) (omega (arith, one)) most) at (evaluate-operation S d p ne is)
 
       pub left-fails : {r : Evaluated} {n w : ℕ} → r ≡ evaluatedOf (evaluate (d - 1) S (drop 1 (drop 1 p))) → r ≡ Fails n w → Fails n w ≡ evaluatedOf (evaluate d S p)

@@ -1,3 +1,5 @@
 pub mod PathLaws
 pub mod OperatorLaws
 pub mod EvaluateLaws
+pub mod JudgeLaws
+pub mod ConstraintLaws

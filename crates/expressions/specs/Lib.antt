@@ -1,3 +1,4 @@
 pub mod Told
 pub mod Following
 pub mod Evaluating
+pub mod Judging

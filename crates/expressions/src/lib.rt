@@ -2,6 +2,9 @@
 pub mod paths; // paths.rt: the cell that an L names
 pub mod operators; // operators.rt: kinds and results of the operators
 pub mod values; // values.rt: what an expression evaluates to
+pub mod testing; // testing.rt: the test of an if or while
+pub mod judging; // judging.rt: kind and value of an expression inside C, in one walk
+pub mod constraints; // constraints.rt: the parts of a constraint, of the kept ones, and of those that count for a statement
 
 // The cell that an L names and the words left after it, or a refusal's number and word.
 pub enum Named {
@@ -19,4 +22,30 @@ pub enum Evaluated {
 pub enum Applied {
     Is(tables::Value),
     Not(usize),
+}
+
+// How the test of an if or while comes out, or a refusal's number and word.
+pub enum Tested {
+    Is(bool),
+    Fails(usize, usize),
+}
+
+// An expression inside C. Known: its value, and the words left after it. Unknown: its arithmetic leaves 32 bits; the number of its kind, and
+// the words left. Fails: it does not read; the refusal's number and word.
+pub enum Judged {
+    Known(tables::Value, usize),
+    Unknown(usize, usize),
+    Fails(usize, usize),
+}
+
+// A part of C: its priority, whether it is satisfied, and the words left after it; or a refusal's number and word.
+pub enum Rated {
+    Part(usize, bool, usize),
+    Fails(usize, usize),
+}
+
+// Parts of constraints that read: whether all are satisfied, and whether all required ones are; or a refusal's number and word.
+pub enum Weighed {
+    Reads(bool, bool),
+    Fails(usize, usize),
 }

@@ -3,7 +3,7 @@ use crate::Applied;
 use tables::Value;
 use words::Ranged;
 ghost use mathlib.Core.Path.{_≡_};
-ghost use Rattle.rules.specs.Evaluation.{kindOf, intOf, boolOf, same, takes, made, apply, opOf};
+ghost use Rattle.rules.specs.Evaluation.{kindOf, intOf, boolOf, same, takes, gives, made, apply, opOf};
 ghost use Rattle.expressions.specs.Told.{kindNumber, kindFrom, rangedOf, appliedOf};
 
 // The number of a value's kind.
@@ -70,6 +70,22 @@ pub fn takes_kinds(o: usize, a: usize, b: usize) -> bool
         11 => (a == 2) & (b == 2),
         _ => false,
     }
+}
+
+// The number of the kind that operator o gives; 1 where there is no such operator.
+pub fn gives_kind(o: usize) -> usize
+    ensures { λ r. ⌜ r ≡ kindNumber (gives (opOf o)) ⌝ }
+{
+    if o == 0 {
+        return 1;
+    }
+    if o <= 3 {
+        return 3;
+    }
+    if o <= program::OPERATORS {
+        return 2;
+    }
+    1
 }
 
 // A result that must be a word: 9 where it is none.

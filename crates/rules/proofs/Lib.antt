@@ -61,3 +61,5 @@ pub mod RulesClaim
 pub mod ReadingLaws
 pub mod KeptReading
 pub mod RunFacts
+pub mod KindClauses
+pub mod ConstraintClauses
