@@ -240,7 +240,7 @@ returns-9 c =
 
 -- src/operators.rt:92:1
 returns-10 : tie.Need-returns-10
-returns-10 c = rw (c .before .before .before .match .keys10, made-10 (c .before .before .before .before .args .a) (c .before .before .before .before .args .b)) (cc)
+returns-10 c = rw (c .before .before .before .match .keys10, made-10 (c .before .before .before .before .args .a) (c .before .before .before .before .args .b), c .truth7 .ensures, c .before .before .bool-of .ensures, c .before .bool-of2 .ensures)
 
 -- src/operators.rt:92:1
 returns-11 : tie.Need-returns-11
