@@ -144,6 +144,34 @@ impl Statement {
     }
 }
 
+impl Path {
+    /// Reads an L from the middle of a program, with the word after it.
+    pub fn decode(words: &[i32], start: usize) -> Result<(Path, usize), usize> {
+        let mut reader = Reader { words, next: start };
+        let path = reader.path()?;
+        Ok((path, reader.next))
+    }
+}
+
+impl Constraint {
+    /// Reads a C from the middle of a program, with the word after it.
+    pub fn decode(words: &[i32], start: usize) -> Result<(Constraint, usize), usize> {
+        let mut reader = Reader { words, next: start };
+        let constraint = reader.constraint()?;
+        Ok((constraint, reader.next))
+    }
+}
+
+impl Expression {
+    /// Reads an expression outside C from the middle of a program, with the
+    /// word after it.
+    pub fn decode(words: &[i32], start: usize) -> Result<(Expression, usize), usize> {
+        let mut reader = Reader { words, next: start };
+        let expression = reader.expression(1, Within::Statement)?;
+        Ok((expression, reader.next))
+    }
+}
+
 impl Always {
     fn gather_block(&mut self, block: &Block) {
         for statement in &block.statements {

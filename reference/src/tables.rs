@@ -85,6 +85,15 @@ pub fn field_location(record: usize, place: usize) -> Location {
 }
 
 impl Tables {
+    /// Tables that need not be fit: present cells, and each record's labels.
+    pub fn of(cells: BTreeMap<Location, Value>, records: Vec<Vec<usize>>) -> Tables {
+        Tables {
+            cells,
+            records,
+            ..Tables::default()
+        }
+    }
+
     pub fn cell(&self, location: Location) -> Option<Value> {
         self.cells.get(&location).copied()
     }

@@ -1,4 +1,6 @@
 // Hands proved functions to the comparison program of hosts/compare, as numbers; it has no other use.
+pub mod answers; // answers.rt: paths, expressions and constraints, in four words
+
 use program::Spot;
 use program::Verdict;
 ghost use mathlib.Core.Path.{_≡_};

@@ -1,17 +1,25 @@
-/* Answers from the proved archive, for a machine that cannot link it. A question on standard input is three counts, of the
-   program's words, places and tables; the places; the program; the tables. The answer is the program's number, then one
-   for each place and each table. */
+/* Answers from the proved archive, for a machine that cannot link it. A question on standard input begins with a 0 or a 1.
+   0, of the reader: three counts, of the program's words, places and tables; the places; the program; the tables. The
+   answer is the program's number, then one for each place and each table.
+   1, of pieces: five counts, of the words of the program, the environment, the heap and the constraints, and of pieces;
+   each piece's call and first word; the program; the tables. The answer is four words for each piece. */
 typedef __INT32_TYPE__ word;
 typedef __SIZE_TYPE__ number;
 
-enum { WORDS = 8192, PLACES = 1024, TABLES = 64, TABLE_WORDS = 98 };
+enum { WORDS = 8192, PLACES = 1024, TABLES = 64, TABLE_WORDS = 98, PIECES = 256 };
 
 number compared_program(const word *program, number words);
 number compared_statement(const word *program, number words, number at);
 number compared_constraints(const word *program, number words, const word *constraints, number count);
+void compared_path(const word *environment, number e, const word *heap, number h, const word *p, number n, word *answer, number a);
+void compared_expression(const word *environment, number e, const word *heap, number h, const word *p, number n, word *answer, number a);
+void compared_test(const word *environment, number e, const word *heap, number h, const word *p, number n, word *answer, number a);
+void compared_parts(const word *environment, number e, const word *heap, number h, const word *p, number n, word *answer, number a);
+void compared_kept(const word *program, number words, const word *environment, number e, const word *heap, number h,
+                   const word *constraints, number c, word *answer, number a);
 
-static number counts[3], places[PLACES], answers[1 + PLACES + TABLES];
-static word program[WORDS], tables[TABLES][TABLE_WORDS];
+static number what, counts[5], places[PLACES], answers[1 + PLACES + TABLES], pieces[PIECES][2];
+static word program[WORDS], tables[TABLES][TABLE_WORDS], environment[WORDS], heap[WORDS], constraints[WORDS], fours[PIECES][4];
 
 static long call(long what, long first, const void *second, number third)
 {
@@ -38,10 +46,10 @@ static void pass(long way, void *bytes, number count, int at_start)
     }
 }
 
-static void answer(void)
+static void answer_reader(void)
 {
     number n = 0;
-    pass(0, counts, sizeof counts, 1);
+    pass(0, counts, 3 * sizeof *counts, 0);
     if (counts[0] > WORDS || counts[1] > PLACES || counts[2] > TABLES)
         leave(2);
     pass(0, places, counts[1] * sizeof *places, 0);
@@ -55,10 +63,44 @@ static void answer(void)
     pass(1, answers, n * sizeof *answers, 0);
 }
 
+static void answer_piece(number call, number start, word *four)
+{
+    number at = start < counts[0] ? start : counts[0], left = counts[0] - at;
+    const word *p = program + at;
+    switch (call) {
+    case 0: compared_path(environment, counts[1], heap, counts[2], p, left, four, 4); break;
+    case 1: compared_expression(environment, counts[1], heap, counts[2], p, left, four, 4); break;
+    case 2: compared_test(environment, counts[1], heap, counts[2], p, left, four, 4); break;
+    case 3: compared_parts(environment, counts[1], heap, counts[2], p, left, four, 4); break;
+    case 4: compared_kept(program, counts[0], environment, counts[1], heap, counts[2], constraints, counts[3], four, 4); break;
+    default: leave(2);
+    }
+}
+
+static void answer_pieces(void)
+{
+    pass(0, counts, 5 * sizeof *counts, 0);
+    if (counts[0] > WORDS || counts[1] > WORDS || counts[2] > WORDS || counts[3] > WORDS || counts[4] > PIECES)
+        leave(2);
+    pass(0, pieces, counts[4] * sizeof *pieces, 0);
+    pass(0, program, counts[0] * sizeof *program, 0);
+    pass(0, environment, counts[1] * sizeof *environment, 0);
+    pass(0, heap, counts[2] * sizeof *heap, 0);
+    pass(0, constraints, counts[3] * sizeof *constraints, 0);
+    for (number i = 0; i < counts[4]; i++)
+        answer_piece(pieces[i][0], pieces[i][1], fours[i]);
+    pass(1, fours, counts[4] * sizeof *fours, 0);
+}
+
 __attribute__((noreturn, used)) static void serve(void)
 {
-    for (;;)
-        answer();
+    for (;;) {
+        pass(0, &what, sizeof what, 1);
+        if (what == 0)
+            answer_reader();
+        else
+            answer_pieces();
+    }
 }
 
 __asm__(".globl _start\n_start: xorl %ebp, %ebp\n andq $-16, %rsp\n call serve\n");

@@ -1,13 +1,13 @@
 //! The proved archive in a program of its own, run by the kit's emulator.
 
-use super::{Answer, Question};
-use std::io::{self, Read, Write};
+use super::{Answer, Four, Pieces, Question};
+use std::io::{self, BufReader, Read, Write};
 use std::process::{Child, ChildStdin, ChildStdout, Command, Stdio};
 
 pub struct Proved {
     bridge: Child,
     questions: Option<ChildStdin>,
-    answers: ChildStdout,
+    answers: BufReader<ChildStdout>,
 }
 
 impl Proved {
@@ -21,15 +21,12 @@ impl Proved {
         Ok(Proved {
             questions: bridge.stdin.take(),
             bridge,
-            answers,
+            answers: BufReader::new(answers),
         })
     }
 
     pub fn ask(&mut self, question: &Question) -> io::Result<Answer> {
-        let questions = self.questions.as_mut();
-        let questions = questions.ok_or(io::ErrorKind::BrokenPipe)?;
-        questions.write_all(&bytes(question))?;
-        questions.flush()?;
+        self.send(&bytes(question))?;
         let program = self.number()?;
         let statements = self.numbers(question.places.len())?;
         let tables = self.numbers(question.tables.len())?;
@@ -38,6 +35,28 @@ impl Proved {
             statements,
             tables,
         })
+    }
+
+    pub fn ask_pieces(&mut self, question: &Pieces) -> io::Result<Vec<Four>> {
+        self.send(&piece_bytes(question))?;
+        (0..question.pieces.len()).map(|_| self.four()).collect()
+    }
+
+    fn send(&mut self, bytes: &[u8]) -> io::Result<()> {
+        let questions = self.questions.as_mut();
+        let questions = questions.ok_or(io::ErrorKind::BrokenPipe)?;
+        questions.write_all(bytes)?;
+        questions.flush()
+    }
+
+    fn four(&mut self) -> io::Result<Four> {
+        let mut four = [0; 4];
+        for word in &mut four {
+            let mut bytes = [0; 4];
+            self.answers.read_exact(&mut bytes)?;
+            *word = i32::from_le_bytes(bytes);
+        }
+        Ok(four)
     }
 
     fn numbers(&mut self, count: usize) -> io::Result<Vec<usize>> {
@@ -63,7 +82,7 @@ fn bytes(question: &Question) -> Vec<u8> {
     let (program, tables) = (&question.program, &question.tables);
     let places = &question.places;
     let mut bytes = Vec::new();
-    for number in [program.len(), places.len(), tables.len()] {
+    for number in [0, program.len(), places.len(), tables.len()] {
         bytes.extend(number.to_le_bytes());
     }
     for place in places {
@@ -72,5 +91,28 @@ fn bytes(question: &Question) -> Vec<u8> {
     for word in program.iter().chain(tables.iter().flatten()) {
         bytes.extend(word.to_le_bytes());
     }
+    bytes
+}
+
+fn piece_bytes(question: &Pieces) -> Vec<u8> {
+    let lists = [
+        &question.words,
+        &question.environment,
+        &question.heap,
+        &question.constraints,
+    ];
+    let mut numbers = vec![1];
+    numbers.extend(lists.map(Vec::len));
+    numbers.push(question.pieces.len());
+    for piece in &question.pieces {
+        numbers.extend([piece.call as usize, piece.start]);
+    }
+    let mut bytes: Vec<u8> = numbers.into_iter().flat_map(usize::to_le_bytes).collect();
+    bytes.extend(
+        lists
+            .into_iter()
+            .flatten()
+            .flat_map(|word| word.to_le_bytes()),
+    );
     bytes
 }

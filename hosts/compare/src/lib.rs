@@ -2,6 +2,7 @@
 
 pub mod comparison;
 pub mod damage;
+pub mod expressions;
 pub mod grown;
 pub mod independent;
 pub mod limits;

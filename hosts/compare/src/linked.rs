@@ -1,6 +1,6 @@
 //! The proved archive linked into this program.
 
-use super::{Answer, Question};
+use super::{Answer, Call, Four, Piece, Pieces, Question};
 use std::io;
 
 extern "C" {
@@ -12,6 +12,58 @@ extern "C" {
         constraints: *const i32,
         count: usize,
     ) -> usize;
+    fn compared_kept(
+        program: *const i32,
+        words: usize,
+        environment: *const i32,
+        e: usize,
+        heap: *const i32,
+        h: usize,
+        constraints: *const i32,
+        c: usize,
+        answer: *mut i32,
+        a: usize,
+    );
+    fn compared_path(
+        environment: *const i32,
+        e: usize,
+        heap: *const i32,
+        h: usize,
+        p: *const i32,
+        n: usize,
+        answer: *mut i32,
+        a: usize,
+    );
+    fn compared_expression(
+        environment: *const i32,
+        e: usize,
+        heap: *const i32,
+        h: usize,
+        p: *const i32,
+        n: usize,
+        answer: *mut i32,
+        a: usize,
+    );
+    fn compared_test(
+        environment: *const i32,
+        e: usize,
+        heap: *const i32,
+        h: usize,
+        p: *const i32,
+        n: usize,
+        answer: *mut i32,
+        a: usize,
+    );
+    fn compared_parts(
+        environment: *const i32,
+        e: usize,
+        heap: *const i32,
+        h: usize,
+        p: *const i32,
+        n: usize,
+        answer: *mut i32,
+        a: usize,
+    );
 }
 
 pub struct Proved;
@@ -31,10 +83,15 @@ impl Proved {
             tables: tables.map(|table| constraints(program, table)).collect(),
         })
     }
+
+    pub fn ask_pieces(&mut self, question: &Pieces) -> io::Result<Vec<Four>> {
+        let pieces = question.pieces.iter();
+        Ok(pieces.map(|piece| answer(question, *piece)).collect())
+    }
 }
 
 // In each call below the pointer and the count are those of one slice, which
-// is only read and which lives until the call returns.
+// is only read, or is lent for writing, and which lives until the call returns.
 
 fn whole(program: &[i32]) -> usize {
     unsafe { compared_program(program.as_ptr(), program.len()) }
@@ -46,4 +103,50 @@ fn statement(program: &[i32], at: usize) -> usize {
 
 fn constraints(program: &[i32], table: &[i32]) -> usize {
     unsafe { compared_constraints(program.as_ptr(), program.len(), table.as_ptr(), table.len()) }
+}
+
+fn answer(question: &Pieces, piece: Piece) -> Four {
+    let ask = match piece.call {
+        Call::Path => compared_path,
+        Call::Expression => compared_expression,
+        Call::Test => compared_test,
+        Call::Constraint => compared_parts,
+        Call::Kept => return kept(question),
+    };
+    let (environment, heap) = (&question.environment, &question.heap);
+    let part = question.words.get(piece.start..).unwrap_or(&[]);
+    let mut four = [0; 4];
+    unsafe {
+        ask(
+            environment.as_ptr(),
+            environment.len(),
+            heap.as_ptr(),
+            heap.len(),
+            part.as_ptr(),
+            part.len(),
+            four.as_mut_ptr(),
+            four.len(),
+        );
+    }
+    four
+}
+
+fn kept(question: &Pieces) -> Four {
+    let (environment, heap) = (&question.environment, &question.heap);
+    let mut four = [0; 4];
+    unsafe {
+        compared_kept(
+            question.words.as_ptr(),
+            question.words.len(),
+            environment.as_ptr(),
+            environment.len(),
+            heap.as_ptr(),
+            heap.len(),
+            question.constraints.as_ptr(),
+            question.constraints.len(),
+            four.as_mut_ptr(),
+            four.len(),
+        );
+    }
+    four
 }

@@ -1,10 +1,12 @@
 //! The command line of the comparison.
 
-use compare::comparison::{compare, Stop};
+use compare::comparison::{self, Stop};
+use compare::expressions;
+use std::fmt::Display;
 use std::process::ExitCode;
 use std::time::Instant;
 
-const USAGE: &str = "usage: compare reader SEED COUNT";
+const USAGE: &str = "usage: compare reader|expressions SEED COUNT";
 
 fn main() -> ExitCode {
     let arguments: Vec<String> = std::env::args_os()
@@ -13,8 +15,9 @@ fn main() -> ExitCode {
         .collect();
     let words: Vec<&str> = arguments.iter().map(String::as_str).collect();
     match words.as_slice() {
-        ["reader", seed, count] => match (seed.parse(), count.parse()) {
-            (Ok(seed), Ok(count)) => reader(seed, count),
+        [what, seed, count] => match (*what, seed.parse(), count.parse()) {
+            ("reader", Ok(seed), Ok(count)) => report(|| comparison::compare(seed, count)),
+            ("expressions", Ok(seed), Ok(count)) => report(|| expressions::compare(seed, count)),
             _ => usage(),
         },
         _ => usage(),
@@ -26,9 +29,9 @@ fn usage() -> ExitCode {
     ExitCode::from(2)
 }
 
-fn reader(seed: u64, count: u64) -> ExitCode {
+fn report<T: Display>(compare: impl FnOnce() -> Result<T, Stop>) -> ExitCode {
     let start = Instant::now();
-    match compare(seed, count) {
+    match compare() {
         Ok(tally) => {
             println!("{tally}; {:.1} s", start.elapsed().as_secs_f64());
             ExitCode::SUCCESS

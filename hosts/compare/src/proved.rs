@@ -6,6 +6,40 @@ mod way;
 
 pub use way::Proved;
 
+/// Which function is asked about a piece, under the number that the bridge
+/// knows it by.
+#[derive(Clone, Copy, Debug, PartialEq, Eq, PartialOrd, Ord)]
+pub enum Call {
+    Path = 0,
+    Expression = 1,
+    Test = 2,
+    Constraint = 3,
+    Kept = 4,
+}
+
+/// A piece of the words by its first word. `Call::Kept` is of all the words.
+#[derive(Clone, Copy, Debug, PartialEq, Eq)]
+pub struct Piece {
+    pub call: Call,
+    pub start: usize,
+}
+
+/// Pieces in a list of words, over tables that may be unfit and of any length.
+#[derive(Debug, Default)]
+pub struct Pieces {
+    pub words: Vec<i32>,
+    pub environment: Vec<i32>,
+    pub heap: Vec<i32>,
+    pub constraints: Vec<i32>,
+    pub pieces: Vec<Piece>,
+}
+
+/// 0 and what was found, or the number of a refusal and how many words are
+/// left from the word at fault on. A path: location, words left. An
+/// expression: kind, payload, words left. A test: 1 or 0. Constraints: 1 where
+/// all parts are satisfied, 1 where the required ones are.
+pub type Four = [i32; 4];
+
 /// All that is asked about one program; each table has 98 words.
 #[derive(Debug, Default)]
 pub struct Question {

@@ -1,0 +1,81 @@
+//! Words that do not read: what comes before the first unfit word may be
+//! refused first, as pieces are evaluated where they are met.
+
+use super::faults::{path_end, Fault};
+use super::held;
+use reference::program::{Constraint, Expression, Path, Term};
+
+/// Words that are fit where others are not, in the order in which they are tried.
+const FILLING: [i32; 3] = [20, 0, 1];
+
+/// The piece that begins with the fit words, ended with words of this module.
+/// The first unfit word is at `place`.
+pub fn completed<T>(
+    words: &[i32],
+    start: usize,
+    place: usize,
+    decode: impl Fn(&[i32], usize) -> Result<(T, usize), usize>,
+) -> Option<T> {
+    let mut words = words.get(..place)?.to_vec();
+    loop {
+        if let Ok((piece, _)) = decode(&words, start) {
+            return Some(piece);
+        }
+        let fit = FILLING.into_iter().find(|word| {
+            words.push(*word);
+            let fits = decode(&words, start).map_or_else(|at| at >= words.len(), |_| true);
+            words.pop();
+            fits
+        });
+        match fit {
+            Some(word) => words.push(word),
+            // A level too deep: a leaf that ends past `place` instead of the
+            // operation that holds it.
+            None => {
+                words.truncate(words.len().checked_sub(2).filter(|n| *n >= start)?);
+                words.extend([24, 0, 0]);
+            }
+        }
+    }
+}
+
+/// The refusal of a piece whose first unfit word is at `place`, from its
+/// completed form's fault and paths: the number, and the word at fault.
+/// Labels are not tested when a path is followed, so a path whose labels are
+/// unfit is 7; where a table has such a label there is no answer to compare.
+pub fn refusal(
+    words: &[i32],
+    place: usize,
+    fault: Option<Fault>,
+    paths: &[&Path],
+    leads: impl Fn(&Path) -> bool,
+) -> Option<(i32, usize)> {
+    if let Some(fault) = fault.filter(|fault| fault.end <= place) {
+        return Some((fault.outcome.number(), fault.word));
+    }
+    let holds = |path: &&&Path| path.position + 2 <= place && place < path_end(path);
+    let Some(path) = paths.iter().find(holds) else {
+        return Some((2, place));
+    };
+    let labels = (0..path.labels.len()).map(|i| held::number(words, path.position + 2 + i));
+    let written = Path {
+        position: path.position,
+        variable: path.variable,
+        labels: labels.collect(),
+    };
+    (!leads(&written)).then_some((7, path.position))
+}
+
+pub fn paths(expression: &Expression) -> Vec<&Path> {
+    match &expression.term {
+        Term::Read(path) => vec![path],
+        Term::Identical(identity) => vec![&identity.left, &identity.right],
+        Term::Apply(_, left, right) => [paths(left), paths(right)].concat(),
+        _ => Vec::new(),
+    }
+}
+
+pub fn constraint_paths(constraint: &Constraint) -> Vec<&Path> {
+    let parts = constraint.parts.iter();
+    parts.flat_map(|part| paths(&part.expression)).collect()
+}
