@@ -3,3 +3,4 @@ pub mod OperatorLaws
 pub mod EvaluateLaws
 pub mod JudgeLaws
 pub mod ConstraintLaws
+pub mod TraceLaws

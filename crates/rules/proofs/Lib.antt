@@ -63,3 +63,8 @@ pub mod KeptReading
 pub mod RunFacts
 pub mod KindClauses
 pub mod ConstraintClauses
+pub mod ProposalClauses
+pub mod IdentityClauses
+pub mod StatementClauses
+pub mod RunningClauses
+pub mod StartClauses

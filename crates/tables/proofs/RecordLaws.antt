@@ -5,16 +5,16 @@ use mathlib.Core.List.{List, []}
 use Prim.Native.Nat.{ℕ, _+_, _-_, _*_, _≤_, _<_}
 use native.Mathlib.Omega.{arith}
 use native.Mathlib.Decide.{decLt, ℕ-discrete}
-use borrow.Author.Tests.{lt-ltb, le-ltb, le-leb, ltb-true}
+use borrow.Author.Tests.{lt-ltb, le-ltb, le-leb, ltb-true, leb-true}
 use lib.Dec.{ltb, leb}
 use lib.IntN.{ℤ, pos}
-use lib.ListN.{length, set, length-set}
-use lib.Seq.{getD-set-same, getD-set-other, ext-getD}
+use lib.ListN.{length, set, drop, length-set}
+use lib.Seq.{getD-set-same, getD-set-other, getD-drop, ext-getD}
 use Rattle.words.specs.Words.{wordAt, numberAt, numberOf, copied, cleared, eqZ}
-use Rattle.words.proofs.Laws.{length-copied, copied-in, copied-out, eqZ-true}
+use Rattle.words.proofs.Laws.{length-copied, copied-in, copied-out, eqZ-true, number-in}
 use Rattle.tables.specs.Sizes.{fieldLocation, fieldWord, countWord, labelWord}
 use Rattle.tables.specs.Cells.{cells, pairAt, cellAt}
-use Rattle.tables.specs.Records.{recordCount, fieldCount, labelAt, withRecord, withoutRecord}
+use Rattle.tables.specs.Records.{recordCount, fieldCount, labelAt, withRecord, withoutRecord, laidBy, broughtBack}
 use Rattle.tables.specs.Fit.{zeros}
 use Rattle.tables.proofs.SearchLaws.{cases, and-right, every-at, every-all}
 use Rattle.tables.proofs.WordLaws.{word-of, number-of, number-same}
@@ -182,3 +182,111 @@ module _ (h fs : List ℤ) (n : ℕ) (long : length h ≡ 1601) (room : recordCo
           getD-set-other emptied 0 i (pos (recordCount h)) (pos 0) m
           ∙ rw e at (copied-in [] (countWord (recordCount h)) 25 (withRecord h fs n) (i - countWord (recordCount h)) o (rw (add-length h fs n) (omega arith)))
           ∙ sym (rw e at (zeros-at h (countWord (recordCount h)) 25 z (i - countWord (recordCount h)) o))
+
+-- ---- the words that a record more may change
+
+copied-same : (t u : List ℤ) (at m : ℕ) (s : List ℤ) → ((i : ℕ) → i < m → wordAt t i ≡ wordAt u i) → copied t at m s ≡ copied u at m s
+copied-same t u at m s e = ext-getD (pos 0) (copied t at m s) (copied u at m s) (length-copied t at m s ∙ sym (length-copied u at m s)) (λ k l. go k (rw (length-copied t at m s) at l) (decLt k at) (decLt k (at + m)))
+  where
+    go : (k : ℕ) → k < length s → Dec (k < at) → Dec (k < at + m) → wordAt (copied t at m s) k ≡ wordAt (copied u at m s) k
+    go k l (yes a) b = copied-out t at m s k (λ x. omega arith) ∙ sym (copied-out u at m s k (λ x. omega arith))
+    go k l (no a) (no b) = copied-out t at m s k (λ x. omega arith) ∙ sym (copied-out u at m s k (λ x. omega arith))
+    go k l (no a) (yes b) =
+        let i : at + (k - at) ≡ k = omega arith in
+        let in-t = rw i at (copied-in t at m s (k - at) (omega arith) (rw i l)) in
+        let in-u = rw i at (copied-in u at m s (k - at) (omega arith) (rw i l)) in
+        in-t ∙ e (k - at) (omega arith) ∙ sym in-u
+
+-- only the first 3 * n words of the fields count
+pub add-same : (h fs gs : List ℤ) (n : ℕ) → ((i : ℕ) → i < 3 * n → wordAt fs i ≡ wordAt gs i) → withRecord h fs n ≡ withRecord h gs n
+unfolding withRecord
+add-same h fs gs n same = rw (copied-same fs gs (countWord (recordCount h) + 1) (3 * n) h same)
+
+-- a record more changes the count word and the words of the first record that is not used, and no other
+add-elsewhere : (h fs : List ℤ) (n k : ℕ) → (k ≡ 0 → ⊥) → (countWord (recordCount h) ≤ k → countWord (recordCount h) + 25 ≤ k) → wordAt (withRecord h fs n) k ≡ wordAt h k
+unfolding withRecord
+add-elsewhere h fs n k a b =
+    cases (ltb (recordCount h) 64 && leb n 8)
+    (λ e.
+    let few : n ≤ 8 = leb-true n 8 (and-right (ltb (recordCount h) 64) (leb n 8) e) in
+    rw e
+    (getD-set-other (set (copied fs (countWord (recordCount h) + 1) (3 * n) h) (countWord (recordCount h)) (pos n)) 0 k (pos (recordCount h + 1)) (pos 0) a
+    ∙ getD-set-other (copied fs (countWord (recordCount h) + 1) (3 * n) h) (countWord (recordCount h)) k (pos n) (pos 0) (λ x. omega (arith, b (omega arith)))
+    ∙ copied-out fs (countWord (recordCount h) + 1) (3 * n) h k (λ x. omega (arith, b (omega arith)))))
+    (λ e. rw e)
+
+brought-length : (saved h : List ℤ) → length (broughtBack saved h) ≡ length h
+unfolding broughtBack
+brought-length saved h = cases (ltb (numberAt saved 0) 64) (λ e. rw e (simp (length-set, length-copied))) (λ e. rw e (simp length-set))
+
+module _ (h fs saved : List ℤ) (n : ℕ) (long : 26 ≤ length saved) where
+  abbrev counts : List ℤ
+  counts = set saved 0 (wordAt h 0)
+
+  abbrev at-first : ℕ
+  at-first = countWord (recordCount h)
+
+  laid-room : recordCount h < 64 → laidBy h saved ≡ copied (drop at-first h) 1 25 counts
+  unfolding laidBy
+  laid-room r = rw (lt-ltb (recordCount h) 64 r)
+
+  laid-full : 64 ≤ recordCount h → laidBy h saved ≡ counts
+  unfolding laidBy
+  laid-full r = rw (le-ltb (recordCount h) 64 r)
+
+  laid-length : length (laidBy h saved) ≡ length saved
+  unfolding laidBy
+  laid-length = cases (ltb (recordCount h) 64) (λ e. rw e (simp (length-set, length-copied))) (λ e. rw e (simp length-set))
+
+  laid-count : wordAt (laidBy h saved) 0 ≡ wordAt h 0
+  unfolding laidBy
+  laid-count =
+      let is : wordAt counts 0 ≡ wordAt h 0 = getD-set-same saved 0 (wordAt h 0) (pos 0) (omega arith) in
+      cases (ltb (recordCount h) 64) (λ e. rw e (copied-out (drop at-first h) 1 25 counts 0 (λ x. omega arith) ∙ is)) (λ e. rw e is)
+
+  laid-number : 0 < length h → numberAt (laidBy h saved) 0 ≡ recordCount h
+  unfolding recordCount
+  laid-number l = number-of (laidBy h saved) 0 (wordAt h 0) (rw laid-length (omega arith)) laid-count ∙ number-in h 0 (pos 0) l
+
+  laid-word : recordCount h < 64 → (i : ℕ) → i < 25 → wordAt (drop 1 (laidBy h saved)) i ≡ wordAt h (at-first + i)
+  laid-word r i l =
+      getD-drop 1 (laidBy h saved) i (pos 0)
+      ∙ rw (laid-room r) (copied-in (drop at-first h) 1 25 counts i l (rw (length-set saved 0 (wordAt h 0)) (omega arith)))
+      ∙ getD-drop at-first h i (pos 0)
+
+  brought-room : 0 < length h → recordCount h < 64
+      → broughtBack (laidBy h saved) (withRecord h fs n) ≡ copied (drop 1 (laidBy h saved)) at-first 25 (set (withRecord h fs n) 0 (wordAt h 0))
+  unfolding broughtBack
+  brought-room l r = rw (laid-number l, lt-ltb (recordCount h) 64 r, laid-count)
+
+  brought-full : 0 < length h → 64 ≤ recordCount h → broughtBack (laidBy h saved) (withRecord h fs n) ≡ set (withRecord h fs n) 0 (wordAt h 0)
+  unfolding broughtBack
+  brought-full l r = rw (laid-number l, le-ltb (recordCount h) 64 r, laid-count)
+
+  pub add-back : broughtBack (laidBy h saved) (withRecord h fs n) ≡ h
+  add-back = ext-getD (pos 0) (broughtBack (laidBy h saved) (withRecord h fs n)) h (brought-length (laidBy h saved) (withRecord h fs n) ∙ add-length h fs n) (λ k l. go k (rw (brought-length (laidBy h saved) (withRecord h fs n) ∙ add-length h fs n) at l) (decLt (recordCount h) 64) (ℕ-discrete k 0) (decLt k at-first) (decLt k (at-first + 25)))
+    where
+      size : length (withRecord h fs n) ≡ length h
+      size = add-length h fs n
+
+      first : 0 < length h → wordAt (set (withRecord h fs n) 0 (wordAt h 0)) 0 ≡ wordAt h 0
+      first l = getD-set-same (withRecord h fs n) 0 (wordAt h 0) (pos 0) (rw size l)
+
+      later : (k : ℕ) → (k ≡ 0 → ⊥) → wordAt (withRecord h fs n) k ≡ wordAt h k → wordAt (set (withRecord h fs n) 0 (wordAt h 0)) k ≡ wordAt h k
+      later k m e = getD-set-other (withRecord h fs n) 0 k (wordAt h 0) (pos 0) m ∙ e
+
+      outside : (k : ℕ) → 0 < length h → recordCount h < 64 → (at-first ≤ k → at-first + 25 ≤ k) → wordAt (set (withRecord h fs n) 0 (wordAt h 0)) k ≡ wordAt h k
+          → wordAt (broughtBack (laidBy h saved) (withRecord h fs n)) k ≡ wordAt h k
+      outside k l r b e = rw (brought-room l r) (copied-out (drop 1 (laidBy h saved)) at-first 25 (set (withRecord h fs n) 0 (wordAt h 0)) k b ∙ e)
+
+      go : (k : ℕ) → k < length h → Dec (recordCount h < 64) → Dec (k ≡ 0) → Dec (k < at-first) → Dec (k < at-first + 25) → wordAt (broughtBack (laidBy h saved) (withRecord h fs n)) k ≡ wordAt h k
+      go k l (no r) (yes z) x y = rw (brought-full (omega arith) (omega arith), z) (first (omega arith))
+      go k l (no r) (no z) x y = rw (brought-full (omega arith) (omega arith)) (later k z (rw (full h fs n (omega arith))))
+      go k l (yes r) (yes z) x y = rw z (outside 0 (omega arith) r (λ e. omega arith) (first (omega arith)))
+      go k l (yes r) (no z) (yes x) y = outside k (omega arith) r (λ e. omega arith) (later k z (add-elsewhere h fs n k z (λ e. omega arith)))
+      go k l (yes r) (no z) (no x) (no y) = outside k (omega arith) r (λ e. omega arith) (later k z (add-elsewhere h fs n k z (λ e. omega arith)))
+      go k l (yes r) (no z) (no x) (yes y) =
+          let e : at-first + (k - at-first) ≡ k = omega arith in
+          let there : wordAt (copied (drop 1 (laidBy h saved)) at-first 25 (set (withRecord h fs n) 0 (wordAt h 0))) k ≡ wordAt (drop 1 (laidBy h saved)) (k - at-first) =
+          rw e at (copied-in (drop 1 (laidBy h saved)) at-first 25 (set (withRecord h fs n) 0 (wordAt h 0)) (k - at-first) (omega arith) (rw (e, length-set (withRecord h fs n) 0 (wordAt h 0), size) l)) in
+          rw (brought-room (omega arith) r) (there ∙ rw e at (laid-word r (k - at-first) (omega arith)))

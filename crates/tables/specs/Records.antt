@@ -5,8 +5,8 @@ use mathlib.Core.Bool.{Bool, cond, _&&_}
 use mathlib.Core.List.{List}
 use lib.Dec.{ltb, leb, eqb}
 use lib.IntN.{ℤ, pos}
-use lib.ListN.{set}
-use Rattle.words.specs.Words.{numberAt, copied, cleared}
+use lib.ListN.{set, drop}
+use Rattle.words.specs.Words.{wordAt, numberAt, copied, cleared}
 use Rattle.tables.specs.Sizes.{mostRecords, mostFields, recordWords, countWord, labelWord, fieldLocation, noNumber}
 use Rattle.tables.specs.Search.{first}
 use Rattle.tables.specs.declared.Found.{Found}
@@ -46,3 +46,17 @@ withoutRecord h =
     cond (ltb 0 (recordCount h) && leb (recordCount h) mostRecords)
     (set (cleared (countWord (recordCount h - 1)) recordWords h) 0 (pos (recordCount h - 1)))
     h
+
+-- the words that a record more may change, laid by in `saved`: the count word, and those of the first record that is not used
+unfoldable pub laidBy : List ℤ → List ℤ → List ℤ
+laidBy h saved =
+    cond (ltb (recordCount h) mostRecords)
+    (copied (drop (countWord (recordCount h)) h) 1 recordWords (set saved 0 (wordAt h 0)))
+    (set saved 0 (wordAt h 0))
+
+-- the heap with the words that were laid by
+unfoldable pub broughtBack : List ℤ → List ℤ → List ℤ
+broughtBack saved h =
+    cond (ltb (numberAt saved 0) mostRecords)
+    (copied (drop 1 saved) (countWord (numberAt saved 0)) recordWords (set h 0 (wordAt saved 0)))
+    (set h 0 (wordAt saved 0))

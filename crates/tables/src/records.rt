@@ -5,7 +5,7 @@ use crate::RECORD_WORDS;
 use crate::RECORDS;
 use crate::VARIABLES;
 ghost use mathlib.Core.Path.{_≡_};
-ghost use Rattle.tables.specs.Records.{recordCount, fieldCount, labelAt, fieldWith, withRecord, withoutRecord};
+ghost use Rattle.tables.specs.Records.{recordCount, fieldCount, labelAt, fieldWith, withRecord, withoutRecord, laidBy, broughtBack};
 
 // The count word as a number.
 pub fn record_count(heap: &[i32]) -> usize
@@ -86,4 +86,28 @@ pub fn drop_record(heap: &mut [i32])
     }
     words::clear(heap, 25 * (n - 1) + 1, RECORD_WORDS);
     words::store(heap, 0, words::word_of(n - 1));
+}
+
+// The words that a record more may change are laid by: the count word, and those of the first record that is not used.
+pub fn lay_by(heap: &[i32], saved: &mut [i32])
+    ensures { λ _. ⌜ now (saved .exit) ≡ laidBy (now (heap .entry)) (now (saved .entry)) ⌝ }
+{
+    words::store(saved, 0, words::word_at(heap, 0));
+    let r = record_count(heap);
+    if RECORDS <= r {
+        return;
+    }
+    words::copy(saved, 1, words::part_from(heap, 25 * r + 1), RECORD_WORDS);
+}
+
+// The words that were laid by are put back.
+pub fn bring_back(heap: &mut [i32], saved: &[i32])
+    ensures { λ _. ⌜ now (heap .exit) ≡ broughtBack (now (saved .entry)) (now (heap .entry)) ⌝ }
+{
+    words::store(heap, 0, words::word_at(saved, 0));
+    let r = words::number_at(saved, 0);
+    if RECORDS <= r {
+        return;
+    }
+    words::copy(heap, 25 * r + 1, words::part_from(saved, 1), RECORD_WORDS);
 }
