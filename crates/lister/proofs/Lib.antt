@@ -1,0 +1,10 @@
+pub mod ByteLaws
+pub mod BufferLaws
+pub mod NumeralLaws
+pub mod ListingLaws
+pub mod ReadingLaws
+pub mod NumeralGrammar
+pub mod LineGrammar
+pub mod InputGrammar
+pub mod SizeLaws
+pub mod Sheets
