@@ -1,0 +1,29 @@
+// The call for a host in C or Rust.
+ghost use Rattle.rules.specs.Start.{run as runBy};
+ghost use Rattle.statements.specs.Told.{tables};
+ghost use Rattle.cordbasin.specs.Told.{Answers};
+
+// A run: the four words of the answer are outcome, place, steps and accepted proposals; it returns how many words of the proposals are unread.
+#[no_mangle]
+pub extern "C" fn cordbasin_run(
+    program: &[i32],
+    environment: &mut [i32],
+    heap: &mut [i32],
+    constraints: &mut [i32],
+    proposals: &[i32],
+    budget: i32,
+    answer: &mut [i32; 4],
+) -> usize
+    ensures { λ r. ⌜ Answers (tables (now (environment .exit)) (now (heap .exit)) (now (constraints .exit))) (now (answer .exit)) r (runBy (now (program .entry)) (now (proposals .entry)) budget (tables (now (environment .entry)) (now (heap .entry)) (now (constraints .entry)))) ⌝ }
+{
+    let unread = run::whole::run(
+        program,
+        environment,
+        heap,
+        constraints,
+        proposals,
+        budget,
+        answer,
+    );
+    unread.len()
+}

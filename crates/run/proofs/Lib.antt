@@ -1,0 +1,4 @@
+pub mod BeginLaws
+pub mod ExactLaws
+pub mod WholeLaws
+pub mod CodeClaims

@@ -1,0 +1,86 @@
+-- What a run hands back is the rules' answer, whole. Assumes nothing.
+use mathlib.Core.Path.{_≡_, refl, sym, ap, _∙_}
+use mathlib.Core.List.{List, [], _∷_}
+use Prim.Native.Nat.{ℕ, _+_, _-_, _≤_, _<_}
+use native.Mathlib.Omega.{arith}
+use lib.IntN.{ℤ, pos}
+use lib.ListN.{length}
+use Rattle.words.specs.Words.{numberOf, wordOf, lastOf}
+use Rattle.words.specs.Answer.{Answer, got, stop}
+use Rattle.words.proofs.Laws.{word-is}
+use Rattle.words.proofs.AnswerLaws.{either}
+use Rattle.rules.specs.State.{State}
+use Rattle.rules.specs.Running.{Out, on, end, doBlock}
+use Rattle.rules.specs.Running.{Tally as Carries}
+use Rattle.rules.specs.Start.{Early, Ended, starts, run}
+use Rattle.rules.specs.Derivations.{firstTally, finished}
+use Rattle.rules.proofs.RunLaws.{refusedWith, whole, run-early, run-on, run-end}
+use Rattle.statements.specs.declared.Tally.{Tally}
+use Rattle.statements.specs.declared.Ran.{Ran}
+use Rattle.statements.specs.declared.Ran.the-variants.{On, Ends}
+use Rattle.statements.specs.Tallied.{carries, outOf, untold, untoldOut, Runs}
+use Rattle.run.specs.declared.Started.{Started}
+use Rattle.run.specs.declared.Started.the-variants.{Begins}
+use Rattle.run.specs.declared.Started.the-variants.{Early as Refused}
+use Rattle.run.specs.Told.{startedOf, answerOf, Meets}
+use Rattle.run.proofs.ExactLaws.{Exact, exact}
+
+never : {A : Type 0} → _≡_ {A = ℕ} 0 1 → A
+never e = absurd (omega arith)
+
+-- the four words of an answer tell its numbers
+words-are : (e : Ended) → Exact e → wordOf (e .outcome) ∷ wordOf (e .place) ∷ wordOf (e .steps) ∷ wordOf (e .accepted) ∷ [] ≡ answerOf e
+words-are e x = rw (word-is (e .outcome) (x .outcome), word-is (e .place) (x .place), word-is (e .steps) (x .steps), word-is (e .accepted) (x .accepted))
+
+module _ (program ws : List ℤ) (budget : ℤ) (S : State) where
+  meets : (given : Ended) → run program ws budget S ≡ given → {Z : State} {answer unread : List ℤ}
+      → answer ≡ wordOf (given .outcome) ∷ wordOf (given .place) ∷ wordOf (given .steps) ∷ wordOf (given .accepted) ∷ [] → Z ≡ given .state → unread ≡ given .unread
+      → Meets Z answer unread (run program ws budget S)
+  meets given r a z u = rw r (record { answers = a ∙ words-are given (rw r at (exact program ws budget S)); leaves = z; hands-back = u })
+
+  -- a run that did not begin
+  pub meets-early : {h : Started} {outcome place : ℕ} {answer : List ℤ} → h ≡ startedOf (starts program budget S) → h ≡ Refused outcome place
+      → answer ≡ wordOf outcome ∷ wordOf place ∷ wordOf 0 ∷ wordOf 0 ∷ [] → Meets S answer ws (run program ws budget S)
+  meets-early {outcome = n} {place = k} e h a =
+      either (starts program budget S)
+      (λ u x. never (let y = sym (rw x at e) ∙ h in cc))
+      (λ f x.
+      let y = sym (rw x at e) ∙ h in
+      let y1 : f .number ≡ n = cc in
+      let y2 : f .place ≡ k = cc in
+      meets (refusedWith (f .number) (f .place) (firstTally S ws)) (run-early program ws budget S x) (rw (y1, y2) a) refl refl)
+
+  pub begins : {h : Started} → h ≡ startedOf (starts program budget S) → h ≡ Begins → starts program budget S ≡ got tt
+  begins e h = either {X = starts program budget S ≡ got tt} (starts program budget S) (λ u x. x) (λ f x. never (let y = sym (rw x at e) ∙ h in cc))
+
+  -- a run that began
+  module _ (x : starts program budget S ≡ got tt) {Z : State} {r : Ran} (ran : Runs ws Z r (whole program ws budget S)) where
+    pub meets-on : {t : Tally} {answer : List ℤ} → r ≡ On t → answer ≡ wordOf 0 ∷ wordOf (length program) ∷ wordOf (t .steps) ∷ wordOf (t .accepted) ∷ []
+        → Meets Z answer (lastOf (t .unread) ws) (run program ws budget S)
+    meets-on {t = t} {answer = answer} h a = by (whole program ws budget S) refl (rw h at (ran .is))
+      where
+        by : (o : Out) → whole program ws budget S ≡ o → on (carries ws Z t) ≡ untoldOut o → Meets Z answer (lastOf (t .unread) ws) (run program ws budget S)
+        by (on u) w e =
+            let k : carries ws Z t ≡ untold u = cc in
+            let y1 : Z ≡ u .state = ap (λ (c : Carries). c .state) k in
+            let y2 : t .steps ≡ u .steps = ap (λ (c : Carries). c .steps) k in
+            let y3 : t .accepted ≡ u .accepted = ap (λ (c : Carries). c .accepted) k in
+            let y4 : lastOf (t .unread) ws ≡ u .unread = ap (λ (c : Carries). c .unread) k in
+            meets (finished program u) (run-on program ws budget S x w) (rw (← y2, ← y3) a) y1 y4
+        by (end n place u) w e = never (cc)
+
+    pub meets-end : {outcome place : ℕ} {t : Tally} {answer : List ℤ} → r ≡ Ends outcome place t → answer ≡ wordOf outcome ∷ wordOf place ∷ wordOf (t .steps) ∷ wordOf (t .accepted) ∷ []
+        → Meets Z answer (lastOf (t .unread) ws) (run program ws budget S)
+    meets-end {outcome = n} {place = k} {t = t} {answer = answer} h a = by (whole program ws budget S) refl (rw h at (ran .is))
+      where
+        by : (o : Out) → whole program ws budget S ≡ o → end n k (carries ws Z t) ≡ untoldOut o → Meets Z answer (lastOf (t .unread) ws) (run program ws budget S)
+        by (on u) w e = never (cc)
+        by (end m place u) w e =
+            let w6 : carries ws Z t ≡ untold u = cc in
+            let y1 : Z ≡ u .state = ap (λ (c : Carries). c .state) w6 in
+            let y2 : t .steps ≡ u .steps = ap (λ (c : Carries). c .steps) w6 in
+            let y3 : t .accepted ≡ u .accepted = ap (λ (c : Carries). c .accepted) w6 in
+            let y4 : lastOf (t .unread) ws ≡ u .unread = ap (λ (c : Carries). c .unread) w6 in
+            let y5 : n ≡ m = cc in
+            let y6 : k ≡ place = cc in
+            meets (refusedWith m place u) (run-end program ws budget S x w) (rw (← y2, ← y3, ← y5, ← y6) a) y1 y4
