@@ -100,14 +100,14 @@ module _ {one two : ℕ} {marks class : List ℤ} {count : ℕ} where
     is = rw (ends-one (marked marks) one two, ne-eqb (numberAt marks one) 1 h, append-none (cellsIn class count));
   }
 
-  pub tie-listed : {class′ : List ℤ} → numberAt marks one ≡ 1 → one < 576 → two < 576 → count ≤ 63 → 130 ≤ length class
-      → class′ ≡ set (set class (2 * count) (wordOf one)) (2 * count + 2) (wordOf two)
+  pub tie-listed : {middle class′ : List ℤ} {w x : ℤ} → numberAt marks one ≡ 1 → one < 576 → two < 576 → count ≤ 63 → 130 ≤ length class
+      → w ≡ wordOf one → middle ≡ set class (2 * count) w → x ≡ wordOf two → class′ ≡ set middle (2 * count + 2) x
       → ListsTie one two marks class class′ count (count + 2)
-  tie-listed h a b c d e = record {
+  tie-listed h a b c d p e q f = record {
     few = omega arith;
     is = let z : count + 2 ≡ (count + 1) + 1 = omega arith in
         let y : 2 * count + 2 ≡ 2 * (count + 1) = omega arith in
-        rw (e, z, y, ends-one (marked marks) one two, h, cells-more (set class (2 * count) (wordOf one)) (count + 1) two (simp length-set (omega arith)) b, cells-more class count one (omega arith) a)
+        rw (f, e, p, q, z, y, ends-one (marked marks) one two, h, cells-more (set class (2 * count) (wordOf one)) (count + 1) two (simp length-set (omega arith)) b, cells-more class count one (omega arith) a)
         (append-assoc (cellsIn class count) (one ∷ []) (two ∷ []));
   }
 
@@ -122,12 +122,12 @@ pub record Listing (target : ℕ) (ends : List ℤ) (n : ℕ) (marks class₀ cl
   pub few : count ≤ 1 + 2 * i
   pub rest : cellsIn class count ++ endsOf (marked marks) (listed (tieIn ends) i (n - i)) ≡ target ∷ endsOf (marked marks) (tiesIn ends n)
 
-pub listing-starts : (before : List ℤ) {target : ℕ} {ends : List ℤ} {n : ℕ} {marks class : List ℤ} → target < 576 → 130 ≤ length before → class ≡ set before 0 (wordOf target)
+pub listing-starts : (before : List ℤ) {target : ℕ} {ends : List ℤ} {n : ℕ} {marks class : List ℤ} {w : ℤ} → target < 576 → 130 ≤ length before → w ≡ wordOf target → class ≡ set before 0 w
     → Listing target ends n marks class class 1 0
-listing-starts before {target} {ends} {n} {marks} {class} small long e =
+listing-starts before {target} {ends} {n} {marks} {class} small long p e =
     let z : n - 0 ≡ n = omega arith in
     let w : cellsIn (set before 0 (wordOf target)) 1 ≡ target ∷ [] = cells-more before 0 target (omega arith) small ∙ rw (listed-none (λ (i : ℕ). numberAt before (2 * i)) 0) in
-    record { inside = omega arith; long = refl; few = omega arith; rest = rw (z, e, w) }
+    record { inside = omega arith; long = refl; few = omega arith; rest = rw (z, e, p, w) }
 
 module _ {target : ℕ} {ends : List ℤ} {n : ℕ} {marks class₀ class : List ℤ} {count i : ℕ} (inv : Listing target ends n marks class₀ class count i) where
   pub listing-goes-on : {one two r : ℕ} {class′ : List ℤ} → i < n → one ≡ numberAt ends (2 * i) → two ≡ numberAt ends (2 * i + 1) → length class′ ≡ length class

@@ -111,11 +111,11 @@ module _ (program kept : List ℤ) (S : Cells) (word : List ℤ) (target : ℕ) 
     unfolding classFor
     alone-clashes d = classed-refuses (rw (no-ties, names-none target, alone, alone-free, d))
 
-    pub alone-listed : (class : List ℤ) {class′ : List ℤ} → free ≡ true → target < 576 → 130 ≤ length class → class′ ≡ set class 0 (wordOf target) → Classes class′ (Found 1) (classFor program kept S word target prefix v)
+    pub alone-listed : (class : List ℤ) {class′ : List ℤ} {x : ℤ} → free ≡ true → target < 576 → 130 ≤ length class → x ≡ wordOf target → class′ ≡ set class 0 x → Classes class′ (Found 1) (classFor program kept S word target prefix v)
     unfolding classFor
-    alone-listed class d small long e = classed-finds (record {
+    alone-listed class d small long p e = classed-finds (record {
       list = classOf [] target;
       is = rw (no-ties, names-none target, alone, alone-free, d);
       few = omega arith;
-      same = λ l. rw (e, alone) (ap (member l) (cells-more class 0 target (omega arith) small ∙ rw (listed-none (λ (i : ℕ). numberAt class (2 * i)) 0)));
+      same = λ l. rw (e, p, alone) (ap (member l) (cells-more class 0 target (omega arith) small ∙ rw (listed-none (λ (i : ℕ). numberAt class (2 * i)) 0)));
     })

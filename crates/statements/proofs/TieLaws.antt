@@ -68,10 +68,10 @@ module _ {S : Cells} {p before after : List ℤ} {r : Named} (t : Traces S p bef
   pub side-few : {l left : ℕ} → r ≡ Cell l left → numberAt p 1 ≤ 7
   side-few e = let w = named-at (wayAt S p) (sym e ∙ t .is) in trace-few S p before (w .way) (w .is)
 
-  pub side-found : {ends ends′ frozen frozen′ : List ℤ} {j k l left m : ℕ} → r ≡ Cell l left → length before ≡ 7 → m ≡ numberAt p 1
-      → k ≤ 500 → length frozen ≡ 512 → ends′ ≡ set ends j (wordOf l) → frozen′ ≡ copied after k m frozen
+  pub side-found : {ends ends′ frozen frozen′ : List ℤ} {j k l left m : ℕ} {x : ℤ} → r ≡ Cell l left → length before ≡ 7 → m ≡ numberAt p 1
+      → k ≤ 500 → length frozen ≡ 512 → x ≡ wordOf l → ends′ ≡ set ends j x → frozen′ ≡ copied after k m frozen
       → Sides S p ends ends′ j frozen frozen′ k (At (k + m) left)
-  side-found {ends} {ends′} {frozen} {frozen′} {j} {k} {l} {left} {m} e seven count small long stored written = record {
+  side-found {ends} {ends′} {frozen} {frozen′} {j} {k} {l} {left} {m} {x} e seven count small long told stored written = record {
     lost = λ a w h. astray-at (sym h);
     at = λ used rest h. let u : k + m ≡ used = cc in let v : left ≡ rest = cc in rw (← u, ← v) found;
   }
@@ -87,7 +87,7 @@ module _ {S : Cells} {p before after : List ℤ} {r : Named} (t : Traces S p bef
         way = w .way;
         is = w .is;
         rest = w .rest;
-        writes = stored ∙ ap (λ x. set ends j (wordOf x)) (w .cell);
+        writes = stored ∙ rw told (ap (λ y. set ends j (wordOf y)) (w .cell));
         few = omega (arith, few);
         freezes = rw written (copied-cells frozen after k m (omega (arith, few)) (rw (t .on, trace-length S p before) (omega (arith, few)))
             ∙ rw (t .on, count, trace-prefix S p before (w .way) (w .is) (omega arith)));

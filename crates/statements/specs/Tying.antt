@@ -23,9 +23,13 @@ use Rattle.statements.specs.Undoing.{cellsIn}
 
 -- ---- ties as words
 
--- the two cells of tie number i, and those of n ties; what they froze is not told by them
+-- a tie by its two ends; what it freezes is told elsewhere
+abbrev pub tie : ℕ → ℕ → Tie
+tie one two = record { one = one; two = two; prefix = [] }
+
+-- tie number i, whose ends are told by two words, and n ties
 unfoldable pub tieIn : List ℤ → ℕ → Tie
-tieIn ends i = record { one = numberAt ends (2 * i); two = numberAt ends (2 * i + 1); prefix = [] }
+tieIn ends i = tie (numberAt ends (2 * i)) (numberAt ends (2 * i + 1))
 
 abbrev pub tiesIn : List ℤ → ℕ → List Tie
 tiesIn ends n = listed (tieIn ends) 0 n
@@ -33,7 +37,7 @@ tiesIn ends n = listed (tieIn ends) 0 n
 -- ties without what they freeze
 unfoldable pub bare : List Tie → List Tie
 bare [] = []
-bare (t ∷ ts) = record { one = t .one; two = t .two; prefix = [] } ∷ bare ts
+bare (t ∷ ts) = tie (t .one) (t .two) ∷ bare ts
 
 -- the cells told by the first n words
 abbrev pub firstCells : List ℤ → ℕ → List ℕ
@@ -93,16 +97,12 @@ pub record Marks (marks : List ℤ) (c : List ℕ) : Type 0 where
   pub long : length marks ≡ 576
   pub is : (l : ℕ) → marked marks l ≡ member l c
 
--- a tie by its two ends
-abbrev pub tie : ℕ → ℕ → Tie
-tie one two = record { one = one; two = two; prefix = [] }
-
--- the same for one tie
+-- the marks of the cells c become those of the cells grown by one tie; they are as they were where none is new
 pub record GrowsTie (one two : ℕ) (marks marks′ : List ℤ) (r : Bool) : Type 0 where
   pub same : r ≡ false → marks′ ≡ marks
   pub grows : (c : List ℕ) → Marks marks c → Marks marks′ (grown (tie one two ∷ []) c)
 
--- the marks of the cells c become those of the cells grown by n ties; they are as they were where none is new
+-- the same for n ties
 pub record Grows (ends : List ℤ) (n : ℕ) (marks marks′ : List ℤ) (r : Bool) : Type 0 where
   pub same : r ≡ false → marks′ ≡ marks
   pub grows : (c : List ℕ) → Marks marks c → Marks marks′ (grown (tiesIn ends n) c)

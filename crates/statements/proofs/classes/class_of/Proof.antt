@@ -1,3 +1,6 @@
+use mathlib.Core.Path.{_≡_, refl, sym, ap, _∙_}
+use lib.ListN.{set}
+use Rattle.words.specs.Words.{wordOf}
 use mathlib.Core.Path.{sym, _∙_}
 use borrow.Author.Tests.{not-true, not-false}
 use Rattle.words.proofs.Signed.{back32}
@@ -53,9 +56,7 @@ same-length-2 c = search needs
 
 -- src/classes.rt:346:1
 returns-3 : tie.Need-returns-3
-returns-3 c =
-    let q = back32 (c .before .before .word-of .result) (record { sfits = c .before .before .word-of .ok }) in
-    alone-listed (c .before .before .before .before .before .before .before .before .args .program .now) (c .before .before .before .before .before .before .before .before .args .constraints .now) (cells (c .before .before .before .before .before .before .before .before .args .environment .now) (c .before .before .before .before .before .before .before .before .args .heap .now)) (c .before .before .before .before .before .before .before .before .args .p .now) (c .before .before .before .before .before .before .before .before .args .target) (firstCells (c .before .before .before .before .before .before .before .before .args .on .now) (c .before .before .before .before .before .before .before .before .args .m)) (c .before .before .before .before .before .before .before .before .args .v) (sym (c .before .before .before .before .before .before .before .kept-count .ensures) ∙ c .before .before .before .before .before .before .if1 .left) (c .before .before .before .before .before .is-free .ensures) (c .before .before .before .before .before .before .before .before .args .class .now) (not-false _ (c .before .before .before .before .if2 .left)) (c .before .before .before .before .before .before .before .before .pre .1 .1 .0) (c .before .before .before .before .before .before .before .before .pre .1 .1 .1) (cc (c .before .store .ensures, c .before .before .word-of .ensures))
+returns-3 c = alone-listed (c .before .before .before .before .before .before .before .before .args .program .now) (c .before .before .before .before .before .before .before .before .args .constraints .now) (cells (c .before .before .before .before .before .before .before .before .args .environment .now) (c .before .before .before .before .before .before .before .before .args .heap .now)) (c .before .before .before .before .before .before .before .before .args .p .now) (c .before .before .before .before .before .before .before .before .args .target) (firstCells (c .before .before .before .before .before .before .before .before .args .on .now) (c .before .before .before .before .before .before .before .before .args .m)) (c .before .before .before .before .before .before .before .before .args .v) (sym (c .before .before .before .before .before .before .before .kept-count .ensures) ∙ c .before .before .before .before .before .before .if1 .left) (c .before .before .before .before .before .is-free .ensures) (c .before .before .before .before .before .before .before .before .args .class .now) (not-false _ (c .before .before .before .before .if2 .left)) (c .before .before .before .before .before .before .before .before .pre .1 .1 .0) (c .before .before .before .before .before .before .before .before .pre .1 .1 .1) (back32 (c .before .before .word-of .result) (record { sfits = c .before .before .word-of .ok }) ∙ c .before .before .word-of .ensures) (c .before .store .ensures)
 
 pub class-of-spec : {M : Type 1} → statement M
 class-of-spec =

@@ -1,3 +1,7 @@
+use mathlib.Core.Path.{_≡_, sym, ap, _∙_}
+use Prim.Native.Nat.{_-_, _*_, _+_, _≤_}
+use lib.ListN.{set, length}
+use Rattle.words.specs.Words.{wordOf}
 use borrow.Author.Needs.{needs}
 use mathlib.Core.Path.{_∙_}
 use Prim.Native.Nat.{_-_, _*_, _+_}
@@ -29,9 +33,7 @@ store-requires c κs = search needs
 
 -- src/classes.rt:267:5
 loop-holds : tie.Need-loop-holds Inv-loop μ-loop
-loop-holds c =
-    let p = back32 (c .before .before .word-of .result) (record { sfits = c .before .before .word-of .ok }) in
-    listing-starts (c .before .before .before .before .args .class .now) (c .before .before .before .before .pre .1 .0) (c .before .before .before .before .pre .1 .1 .1) (cc (c .before .store .ensures, c .before .before .word-of .ensures))
+loop-holds c = listing-starts (c .before .before .before .before .args .class .now) (c .before .before .before .before .pre .1 .0) (c .before .before .before .before .pre .1 .1 .1) (back32 (c .before .before .word-of .result) (record { sfits = c .before .before .word-of .ok }) ∙ c .before .before .word-of .ensures) (c .before .store .ensures)
 
 -- src/classes.rt:268:42
 mul-number-at : tie.Need-mul-number-at Inv-loop μ-loop

@@ -1,3 +1,6 @@
+use mathlib.Core.Path.{_≡_, sym, ap, _∙_}
+use lib.ListN.{set}
+use Rattle.words.specs.Words.{wordOf}
 use mathlib.Core.Path.{sym, _∙_}
 use Rattle.words.proofs.Signed.{back32}
 use Rattle.statements.proofs.ClassLaws.{tie-unlisted, tie-listed}
@@ -56,10 +59,7 @@ same-length c = search needs
 
 -- src/classes.rt:241:1
 returns-2 : tie.Need-returns-2
-returns-2 c =
-    let p = back32 (c .before .before .before .before .before .before .word-of .result) (record { sfits = c .before .before .before .before .before .before .word-of .ok }) in
-    let q = back32 (c .before .before .word-of2 .result) (record { sfits = c .before .before .word-of2 .ok }) in
-    tie-listed (sym (c .before .before .before .before .before .before .before .before .before .number-at .ensures) ∙ c .before .before .before .before .before .before .before .before .if1 .left) (c .before .before .before .before .before .before .before .before .before .before .pre .0) (c .before .before .before .before .before .before .before .before .before .before .pre .1 .0) (c .before .before .before .before .before .before .before .before .before .before .pre .1 .1 .0) (c .before .before .before .before .before .before .before .before .before .before .pre .1 .1 .1) (cc (c .before .before .before .before .before .store .ensures, c .before .store2 .ensures, c .before .before .before .before .before .before .word-of .ensures, c .before .before .word-of2 .ensures))
+returns-2 c = tie-listed (sym (c .before .before .before .before .before .before .before .before .before .number-at .ensures) ∙ c .before .before .before .before .before .before .before .before .if1 .left) (c .before .before .before .before .before .before .before .before .before .before .pre .0) (c .before .before .before .before .before .before .before .before .before .before .pre .1 .0) (c .before .before .before .before .before .before .before .before .before .before .pre .1 .1 .0) (c .before .before .before .before .before .before .before .before .before .before .pre .1 .1 .1) (back32 (c .before .before .before .before .before .before .word-of .result) (record { sfits = c .before .before .before .before .before .before .word-of .ok }) ∙ c .before .before .before .before .before .before .word-of .ensures) (c .before .before .before .before .before .store .ensures) (back32 (c .before .before .word-of2 .result) (record { sfits = c .before .before .word-of2 .ok }) ∙ c .before .before .word-of2 .ensures) (c .before .store2 .ensures)
 
 pub list-tie-spec : {M : Type 1} → statement M
 list-tie-spec =

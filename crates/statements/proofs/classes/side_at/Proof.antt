@@ -1,3 +1,6 @@
+use mathlib.Core.Path.{_≡_, refl, sym, ap, _∙_}
+use lib.ListN.{set}
+use Rattle.words.specs.Words.{wordOf}
 use mathlib.Core.Path.{refl}
 use native.Mathlib.Omega.{arith}
 use Rattle.words.proofs.Signed.{back32}
@@ -67,9 +70,7 @@ same-length-2 c = search needs
 
 -- src/classes.rt:22:1
 returns-2 : tie.Need-returns-2
-returns-2 c =
-    let q = back32 (c .before .before .before .before .before .before .word-of .result) (record { sfits = c .before .before .before .before .before .before .word-of .ok }) in
-    side-found (c .before .before .before .before .before .before .before .before .before .before .before .before .before .follow-on .ensures) (c .before .before .before .before .before .before .before .before .before .before .l .given .1) refl (c .before .before .before .before .before .before .before .before .number-at .ensures) (c .before .before .before .before .before .before .before .before .before .before .before .before .before .before .before .pre .0) (c .before .before .before .before .before .before .before .before .before .before .before .before .before .before .before .pre .1) (cc (c .before .before .before .before .before .store .ensures, c .before .before .before .before .before .before .word-of .ensures)) (c .before .copy .ensures)
+returns-2 c = side-found (c .before .before .before .before .before .before .before .before .before .before .before .before .before .follow-on .ensures) (c .before .before .before .before .before .before .before .before .before .before .l .given .1) refl (c .before .before .before .before .before .before .before .before .number-at .ensures) (c .before .before .before .before .before .before .before .before .before .before .before .before .before .before .before .pre .0) (c .before .before .before .before .before .before .before .before .before .before .before .before .before .before .before .pre .1) (back32 (c .before .before .before .before .before .before .word-of .result) (record { sfits = c .before .before .before .before .before .before .word-of .ok }) ∙ c .before .before .before .before .before .before .word-of .ensures) (c .before .before .before .before .before .store .ensures) (c .before .copy .ensures)
 
 pub side-at-spec : {M : Type 1} → statement M
 side-at-spec =
