@@ -1,27 +1,40 @@
-//! Links the proved archive, which is x86-64 code. On another machine it goes
-//! into a small program that the kit's emulator runs.
+//! Links the proved archives. That of crates/cordbasin is for this machine. That
+//! of crates/compared is x86-64 code; on another machine it goes into a small
+//! program that the kit's emulator runs.
 
 use std::path::{Path, PathBuf};
 use std::process::{exit, Command};
 
-const ARCHIVE: &str = "../../target/staticlib/libcompared.a";
+const COMPARED: &str = "../../target/staticlib/libcompared.a";
+const CORDBASIN: &str = "../../target/native/libcordbasin.a";
 const BRIDGE: &str = "bridge/bridge.c";
 
 fn main() {
-    println!("cargo:rerun-if-changed={ARCHIVE}");
-    println!("cargo:rerun-if-changed={BRIDGE}");
     let root = PathBuf::from(variable("CARGO_MANIFEST_DIR"));
-    let archive = root.join(ARCHIVE);
-    if !archive.is_file() {
+    for file in [COMPARED, CORDBASIN, BRIDGE] {
+        println!("cargo:rerun-if-changed={file}");
+    }
+    let compared = root.join(COMPARED);
+    if !compared.is_file() {
         fail("target/staticlib/libcompared.a is missing: run `rt staticlib compared` first");
     }
-    if variable("CARGO_CFG_TARGET_ARCH") == "x86_64" {
-        let folder = archive.parent().unwrap_or(&root);
-        println!("cargo:rustc-link-search=native={}", folder.display());
-        println!("cargo:rustc-link-lib=static=compared");
-    } else {
-        bridge(&root.join(BRIDGE), &archive);
+    let cordbasin = root.join(CORDBASIN);
+    if !cordbasin.is_file() {
+        fail("target/native/libcordbasin.a is missing: run `tools/native cordbasin` first");
     }
+    if variable("CARGO_CFG_TARGET_ARCH") == "x86_64" {
+        link(&compared, "compared");
+    } else {
+        bridge(&root.join(BRIDGE), &compared);
+    }
+    link(&cordbasin, "cordbasin");
+}
+
+fn link(archive: &Path, name: &str) {
+    if let Some(folder) = archive.parent() {
+        println!("cargo:rustc-link-search=native={}", folder.display());
+    }
+    println!("cargo:rustc-link-lib=static={name}");
 }
 
 fn bridge(source: &Path, archive: &Path) {

@@ -1,6 +1,7 @@
 //! Compares the proved functions with the independent program.
 
 pub mod comparison;
+pub mod cordbasin;
 pub mod damage;
 pub mod expressions;
 pub mod grown;
@@ -8,4 +9,5 @@ pub mod independent;
 pub mod limits;
 pub mod lists;
 pub mod proved;
+pub mod sheets;
 pub mod tables;

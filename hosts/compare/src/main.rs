@@ -1,12 +1,12 @@
 //! The command line of the comparison.
 
 use compare::comparison::{self, Stop};
-use compare::expressions;
+use compare::{expressions, sheets};
 use std::fmt::Display;
 use std::process::ExitCode;
 use std::time::Instant;
 
-const USAGE: &str = "usage: compare reader|expressions SEED COUNT";
+const USAGE: &str = "usage: compare reader|expressions|sheets SEED COUNT";
 
 fn main() -> ExitCode {
     let arguments: Vec<String> = std::env::args_os()
@@ -18,6 +18,7 @@ fn main() -> ExitCode {
         [what, seed, count] => match (*what, seed.parse(), count.parse()) {
             ("reader", Ok(seed), Ok(count)) => report(|| comparison::compare(seed, count)),
             ("expressions", Ok(seed), Ok(count)) => report(|| expressions::compare(seed, count)),
+            ("sheets", Ok(seed), Ok(count)) => report(|| sheets::compare(seed, count)),
             _ => usage(),
         },
         _ => usage(),

@@ -1,0 +1,105 @@
+/* Cordbasin's call for a host in C or C++. Link libcordbasin.a; it needs at most memcpy, memset, memmove and memcmp. */
+#ifndef CORDBASIN_H
+#define CORDBASIN_H
+
+#include <stddef.h>
+#include <stdint.h>
+
+#ifdef __cplusplus
+extern "C" {
+#endif
+
+/* How many words each lent table has. Fresh tables are all zero. */
+enum {
+    CORDBASIN_ENVIRONMENT_WORDS = 128, /* kind and payload of the variables 0 to 63 */
+    CORDBASIN_HEAP_WORDS = 1601,       /* record count; 64 records of field count and 8 times label, kind, payload */
+    CORDBASIN_CONSTRAINTS_WORDS = 98   /* value count, identity count, 64 value positions, 32 identity positions */
+};
+
+/* The kinds of a cell, the first of its two words. */
+enum {
+    CORDBASIN_ABSENT = 0,   /* payload 0 */
+    CORDBASIN_NIL = 1,      /* payload 0 */
+    CORDBASIN_BOOLEAN = 2,  /* payload 0 or 1 */
+    CORDBASIN_INTEGER = 3,  /* payload any word */
+    CORDBASIN_REFERENCE = 4 /* payload a record number below the record count */
+};
+
+/* Outcomes, and the place that each comes with. 1 to 4 are tried in this order; they cost no steps, accept no proposal and change no
+   table. From 5 on the place is the word of the statement that is refused (the while's for a later test of it), and the tables hold
+   what the last accepted statement left. */
+enum {
+    /* place: the program's length */
+    CORDBASIN_FINISHED = 0,
+    /* a table's length or the budget is wrong; place: 0 */
+    CORDBASIN_WRONG_SIZE = 1,
+    /* the program does not read; place: its first unfit word, its length if words run out, 4096 if it has over 4,096 words */
+    CORDBASIN_UNFIT_PROGRAM = 2,
+    /* a table's content is unfit; place: the first such table, 0 environment, 1 heap, 2 constraints */
+    CORDBASIN_UNFIT_TABLE = 3,
+    /* at the start a kept constraint does not read, or a required part or an identity does not hold; place: its position */
+    CORDBASIN_UNFIT_START = 4,
+    /* the next step would pass the budget */
+    CORDBASIN_BUDGET_SPENT = 5,
+    /* no proposal words are left */
+    CORDBASIN_NO_PROPOSAL = 6,
+    /* an absent variable, a missing field, or a path through what is no record */
+    CORDBASIN_NO_CELL = 7,
+    /* a value of the wrong kind */
+    CORDBASIN_WRONG_KIND = 8,
+    /* a sum, difference or product, outside constraints, leaves 32 bits */
+    CORDBASIN_OUT_OF_RANGE = 9,
+    /* there are 64 records already */
+    CORDBASIN_HEAP_FULL = 10,
+    /* an identity does not hold now */
+    CORDBASIN_NOT_IDENTICAL = 11,
+    /* the identities would move a frozen cell, one that a path leads through */
+    CORDBASIN_IDENTITY_CLASH = 12,
+    /* the target of an identity is given a boolean or an integer */
+    CORDBASIN_PLAIN_IDENTITY = 13,
+    /* there is no room for a position that is not yet kept */
+    CORDBASIN_NO_ROOM = 14,
+    /* a kept value constraint no longer reads */
+    CORDBASIN_LOST_CONSTRAINT = 15,
+    /* the proposal is cut short, its n is out of range, or its locations do not rise or are outside 0 to 575 */
+    CORDBASIN_UNFIT_PROPOSAL = 16,
+    /* an entry of the proposal names a cell or a payload that it may not */
+    CORDBASIN_UNFIT_ENTRY = 17,
+    /* the proposal changes something, and every part was satisfied without it */
+    CORDBASIN_NEEDLESS_CHANGE = 18,
+    /* a required part is not met after the proposal */
+    CORDBASIN_REQUIRED_UNMET = 19
+};
+
+/* Where each number stands in the answer. */
+enum {
+    CORDBASIN_OUTCOME = 0,
+    CORDBASIN_PLACE = 1,
+    CORDBASIN_STEPS = 2,   /* statements begun, refused ones too, and later tests of whiles */
+    CORDBASIN_ACCEPTED = 3 /* proposals accepted */
+};
+
+/* Runs a program on lent tables.
+
+   Each pointer is to as many words as the count beside it says; with a count of 0 it is not followed. The tables and the answer
+   overlap nothing else that is handed over. That is all that is asked of the caller: every content and every length has its answer.
+   The call allocates nothing and keeps nothing, so that two threads may run on tables of their own. It ends within the budget.
+
+   program       the sheet's program, one block of at most 4,096 words; only read
+   environment   the variables, 128 words; holds what the run leaves
+   heap          the records, 1,601 words; holds what the run leaves
+   constraints   the kept positions, 98 words; holds what the run leaves
+   proposals     the solver's proposals, one after another, any number of words; only read
+   budget        how many steps may be taken, 0 to 1,000,000
+   answer        where outcome, place, steps and accepted proposals are stored
+
+   Returns how many words of the proposals are unread: the last so many. A proposal that is turned down is unread. */
+size_t cordbasin_run(const int32_t *program, size_t program_words, int32_t *environment, size_t environment_words,
+                     int32_t *heap, size_t heap_words, int32_t *constraints, size_t constraints_words,
+                     const int32_t *proposals, size_t proposals_words, int32_t budget, int32_t answer[4]);
+
+#ifdef __cplusplus
+}
+#endif
+
+#endif

@@ -1,0 +1,116 @@
+//! Whole sheets: the C call and the independent program on the same words.
+
+use crate::comparison::Stop;
+use crate::cordbasin;
+use reference::batch::{Finish, Sheet};
+use reference::generator;
+use reference::outcome::Outcome;
+use std::fmt;
+use std::io;
+use std::sync::atomic::{AtomicU64, Ordering};
+use std::thread;
+use std::time::Instant;
+
+const OUTCOMES: usize = Outcome::ALL.len();
+
+/// How many sheets were compared, all of them the same, by outcome.
+#[derive(Debug)]
+pub struct Tally {
+    pub outcomes: [u64; OUTCOMES],
+    pub seconds: f64,
+}
+
+/// What one thread saw: a count for each outcome, and the first difference.
+#[derive(Default)]
+struct Seen {
+    outcomes: [u64; OUTCOMES],
+    difference: Option<(u64, String)>,
+}
+
+/// The sheets are dealt out to a thread for each processor. The call has no
+/// state, so that the sheets of one do not touch those of another.
+pub fn compare(seed: u64, count: u64) -> Result<Tally, Stop> {
+    let start = Instant::now();
+    let threads = thread::available_parallelism().map_or(1, usize::from);
+    let end = AtomicU64::new(count);
+    let all = thread::scope(|scope| {
+        let work = |own: usize| compare_some(seed, &end, (own as u64..).step_by(threads));
+        let started: Vec<_> = (0..threads)
+            .map(|own| scope.spawn(move || work(own)))
+            .collect();
+        let ended = started.into_iter().map(|thread| thread.join());
+        ended.collect::<Result<Vec<Seen>, _>>()
+    });
+    let all = all.map_err(|_| io::Error::other("a thread panicked"))?;
+    let differences = all.iter().filter_map(|seen| seen.difference.as_ref());
+    if let Some((_, text)) = differences.min() {
+        return Err(Stop::Difference(text.clone()));
+    }
+    Ok(Tally {
+        outcomes: std::array::from_fn(|n| all.iter().map(|seen| seen.outcomes[n]).sum()),
+        seconds: start.elapsed().as_secs_f64(),
+    })
+}
+
+/// Compares the sheets of these numbers up to the end, which the first
+/// difference of any thread brings nearer.
+fn compare_some(seed: u64, end: &AtomicU64, numbers: impl Iterator<Item = u64>) -> Seen {
+    let mut seen = Seen::default();
+    for index in numbers.take_while(|index| *index < end.load(Ordering::Relaxed)) {
+        match compare_sheet(&generator::sheet(seed, index)) {
+            Ok(outcome) => seen.outcomes[outcome] += 1,
+            Err(text) => {
+                end.fetch_min(index, Ordering::Relaxed);
+                let text = format!("sheet {index} of seed {seed}\n{text}");
+                seen.difference = Some((index, text));
+            }
+        }
+    }
+    seen
+}
+
+/// The outcome, where both give the same answer and tables.
+fn compare_sheet(sheet: &Sheet) -> Result<usize, String> {
+    let (proved, independent) = (call(sheet), sheet.answer());
+    match usize::try_from(independent.answer.outcome) {
+        Ok(outcome) if outcome < OUTCOMES && proved == independent => Ok(outcome),
+        _ => Err(format!(
+            "{}\nproved: {}\nindependent: {}",
+            sheet.line(),
+            proved.line(sheet),
+            independent.line(sheet)
+        )),
+    }
+}
+
+/// What the C call gives, on copies of the sheet's tables.
+pub fn call(sheet: &Sheet) -> Finish {
+    let mut environment = sheet.environment.clone();
+    let mut heap = sheet.heap.clone();
+    let mut constraints = sheet.constraints.clone();
+    let answer = cordbasin::run(
+        &sheet.program,
+        &mut environment,
+        &mut heap,
+        &mut constraints,
+        &sheet.proposals,
+        sheet.budget,
+    );
+    Finish {
+        answer,
+        environment,
+        heap,
+        constraints,
+    }
+}
+
+impl fmt::Display for Tally {
+    fn fmt(&self, out: &mut fmt::Formatter<'_>) -> fmt::Result {
+        let sheets: u64 = self.outcomes.iter().sum();
+        write!(out, "{sheets} sheets the same; outcomes")?;
+        for (outcome, sheets) in self.outcomes.iter().enumerate() {
+            write!(out, " {outcome}: {sheets}")?;
+        }
+        write!(out, "; {:.0} sheets a second", sheets as f64 / self.seconds)
+    }
+}
