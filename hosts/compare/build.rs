@@ -1,33 +1,38 @@
-//! Links the proved archives. That of crates/cordbasin is for this machine. That
-//! of crates/compared is x86-64 code; on another machine it goes into a small
-//! program that the kit's emulator runs.
+//! Links the proved archives. Those of crates/cordbasin and crates/sheet are for
+//! this machine. That of crates/compared is x86-64 code; on another machine it
+//! goes into a small program that the kit's emulator runs.
 
 use std::path::{Path, PathBuf};
 use std::process::{exit, Command};
 
 const COMPARED: &str = "../../target/staticlib/libcompared.a";
-const CORDBASIN: &str = "../../target/native/libcordbasin.a";
+const NATIVE: [&str; 2] = ["cordbasin", "sheet"];
 const BRIDGE: &str = "bridge/bridge.c";
 
 fn main() {
     let root = PathBuf::from(variable("CARGO_MANIFEST_DIR"));
-    for file in [COMPARED, CORDBASIN, BRIDGE] {
+    for file in [COMPARED, BRIDGE] {
         println!("cargo:rerun-if-changed={file}");
     }
     let compared = root.join(COMPARED);
     if !compared.is_file() {
         fail("target/staticlib/libcompared.a is missing: run `rt staticlib compared` first");
     }
-    let cordbasin = root.join(CORDBASIN);
-    if !cordbasin.is_file() {
-        fail("target/native/libcordbasin.a is missing: run `tools/native cordbasin` first");
-    }
     if variable("CARGO_CFG_TARGET_ARCH") == "x86_64" {
         link(&compared, "compared");
     } else {
         bridge(&root.join(BRIDGE), &compared);
     }
-    link(&cordbasin, "cordbasin");
+    for name in NATIVE {
+        let file = format!("../../target/native/lib{name}.a");
+        println!("cargo:rerun-if-changed={file}");
+        if !root.join(&file).is_file() {
+            fail(&format!(
+                "target/native/lib{name}.a is missing: run `tools/native {name}` first"
+            ));
+        }
+        link(&root.join(&file), name);
+    }
 }
 
 fn link(archive: &Path, name: &str) {

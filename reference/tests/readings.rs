@@ -1,4 +1,4 @@
-//! Every sheet of the decisions gets its expected answer line.
+//! Every batch sheet, of the decisions and of the outcomes, gets its expected answer line.
 //!
 //! A file holds groups of three lines: `#` and what is shown, the sheet, its answer.
 
@@ -7,9 +7,9 @@ use std::ffi::OsStr;
 use std::fs;
 use std::path::{Path, PathBuf};
 
-fn files() -> Vec<PathBuf> {
-    let directory = Path::new(env!("CARGO_MANIFEST_DIR")).join("../sheets/readings");
-    let entries = fs::read_dir(directory).expect("the directory of the decisions' sheets");
+fn files(directory: &str) -> Vec<PathBuf> {
+    let sheets = Path::new(env!("CARGO_MANIFEST_DIR")).join("../sheets");
+    let entries = fs::read_dir(sheets.join(directory)).expect("a directory of sheets");
     let mut files: Vec<PathBuf> = entries
         .map(|entry| entry.expect("an entry").path())
         .filter(|path| path.extension() == Some(OsStr::new("txt")))
@@ -20,8 +20,17 @@ fn files() -> Vec<PathBuf> {
 
 #[test]
 fn every_reading_has_its_answer() {
-    let files = files();
-    assert!(!files.is_empty(), "no sheets of decisions");
+    test_directory("readings");
+}
+
+#[test]
+fn every_outcome_of_the_start_has_its_answer() {
+    test_directory("outcomes");
+}
+
+fn test_directory(directory: &str) {
+    let files = files(directory);
+    assert!(!files.is_empty(), "no batch sheets in {directory}");
     let mut wrong = Vec::new();
     for file in &files {
         let name = file.display();

@@ -24,7 +24,7 @@ use Rattle.tables.proofs.SearchLaws.{cases}
 use Rattle.tables.proofs.FindLaws.{kept-in}
 use Rattle.tables.proofs.FitLaws.{fields-small}
 use Rattle.lister.specs.Numerals.{digitsBy, digits, numeral}
-use Rattle.lister.specs.Listing.{valueText, givenText, namedLine, countedLine, eachBelow, cellLine, variableText, variablesText, fieldText, fieldsText, recordText, shownRecords, recordsText, positionsText, tablesText, outcomeName, placeName, stepsName, answerText, listing, listingBytes, Listed}
+use Rattle.lister.specs.Listing.{valueText, givenText, namedLine, countedLine, eachBelow, cellLine, variableText, variablesText, fieldText, fieldsText, recordText, shownRecords, recordsText, positionsText, tablesText, outcomeName, placeName, stepsName, inputName, answerText, listing, unfitText, listingBytes, Listed}
 use Rattle.lister.specs.Reading.{proposalsName}
 use Rattle.lister.proofs.BufferLaws.{laid-fits}
 
@@ -171,6 +171,10 @@ pub listing-length : (outcome place steps proposals : ℕ) (S : Cells) (c : List
 unfolding listing
 listing-length outcome place steps proposals S c =
     both (answerText outcome place steps proposals) (tablesText S c) {n = 114} {m = 30816} (answer-length outcome place steps proposals) (tables-length S c)
+
+pub unfit-length : (line : ℕ) → length (unfitText line) ≤ listingBytes
+unfolding unfitText
+unfit-length line = let h = named-length inputName line {k = 6} (omega arith) (digits-twenty line) in omega arith
 
 -- where there is room the text stands whole, the bytes behind it are as they were, and the answer is its length
 pub listed-whole : {text before after : List ℕ} {n : ℕ} → Listed text before after n → length text ≤ length before

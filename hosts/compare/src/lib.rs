@@ -1,5 +1,6 @@
 //! Compares the proved functions with the independent program.
 
+pub mod answering;
 pub mod comparison;
 pub mod cordbasin;
 pub mod damage;
@@ -7,7 +8,9 @@ pub mod expressions;
 pub mod grown;
 pub mod independent;
 pub mod limits;
+pub mod lister;
 pub mod lists;
 pub mod proved;
 pub mod sheets;
 pub mod tables;
+pub mod texts;
