@@ -1,12 +1,13 @@
-//! Links the proved archives. Those of crates/cordbasin and crates/sheet are for
-//! this machine. That of crates/compared is x86-64 code; on another machine it
-//! goes into a small program that the kit's emulator runs.
+//! Links the proved archives. That of crates/sheet is for this machine. That of
+//! crates/compared is x86-64 code; on another machine it goes into a small
+//! program that the kit's emulator runs. That of crates/cordbasin comes with the
+//! crate of hosts/rust.
 
 use std::path::{Path, PathBuf};
 use std::process::{exit, Command};
 
 const COMPARED: &str = "../../target/staticlib/libcompared.a";
-const NATIVE: [&str; 2] = ["cordbasin", "sheet"];
+const NATIVE: [&str; 1] = ["sheet"];
 const BRIDGE: &str = "bridge/bridge.c";
 
 fn main() {

@@ -2,7 +2,6 @@
 
 pub mod answering;
 pub mod comparison;
-pub mod cordbasin;
 pub mod damage;
 pub mod expressions;
 pub mod grown;

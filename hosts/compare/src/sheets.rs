@@ -1,10 +1,10 @@
 //! Whole sheets: the C call and the independent program on the same words.
 
 use crate::comparison::Stop;
-use crate::cordbasin;
 use reference::batch::{Finish, Sheet};
 use reference::generator;
 use reference::outcome::Outcome;
+use reference::run::Answer;
 use std::fmt;
 use std::io;
 use std::sync::atomic::{AtomicU64, Ordering};
@@ -88,7 +88,7 @@ pub fn call(sheet: &Sheet) -> Finish {
     let mut environment = sheet.environment.clone();
     let mut heap = sheet.heap.clone();
     let mut constraints = sheet.constraints.clone();
-    let answer = cordbasin::run(
+    let answer = cordbasin::run_words(
         &sheet.program,
         &mut environment,
         &mut heap,
@@ -97,7 +97,13 @@ pub fn call(sheet: &Sheet) -> Finish {
         sheet.budget,
     );
     Finish {
-        answer,
+        answer: Answer {
+            outcome: answer.outcome.number(),
+            place: answer.place,
+            steps: answer.steps,
+            accepted: answer.accepted,
+            unread: answer.unread.len(),
+        },
         environment,
         heap,
         constraints,

@@ -1,0 +1,75 @@
+//! The table of instructions, which valgrind counts.
+
+use crate::cases::{self, Case};
+use crate::measured::{self, Answer, Side};
+use crate::times;
+use cordbasin::Tables;
+use std::path::Path;
+use std::process::Command;
+
+/// The most steps that are run here, where each instruction is emulated.
+const MOST_STEPS: i32 = 2_000;
+
+/// Counts the instructions of each case on both programs, in a process each.
+pub fn print() -> Result<(), String> {
+    println!("| Case | Unit | Here, instructions | reference/, instructions | Ratio |");
+    println!("|---|---|---:|---:|---:|");
+    for case in cases::all() {
+        let steps = run(&case, Side::Proved, &mut case.tables.clone()).2;
+        let (unit, units) = times::unit(&case, steps);
+        let here = count(&case, Side::Proved)? / units;
+        let there = count(&case, Side::Independent)? / units;
+        let (title, ratio) = (case.title, there / here);
+        println!("| {title} | {unit} | {here:.0} | {there:.0} | {ratio:.2} |");
+    }
+    println!("\nLoops end after {MOST_STEPS} steps.");
+    Ok(())
+}
+
+/// Runs a case once or twice, for valgrind.
+pub fn some(name: &str, side: &str, runs: usize) -> Result<(), String> {
+    let mut cases = cases::all().into_iter();
+    let case = cases.find(|case| case.name == name);
+    let case = case.ok_or(format!("there is no case {name}"))?;
+    let side = Side::BOTH.into_iter().find(|own| own.name() == side);
+    let side = side.ok_or("there is no such program")?;
+    let mut tables = vec![case.tables.clone(); 2];
+    for tables in tables.iter_mut().take(runs) {
+        std::hint::black_box(run(&case, side, tables));
+    }
+    Ok(())
+}
+
+fn run(case: &Case, side: Side, tables: &mut Tables) -> Answer {
+    measured::run(side, case, tables, case.budget.min(MOST_STEPS))
+}
+
+/// The instructions of one run: what a process of two has more than one of one.
+/// Callgrind does not see every return on every machine, so that whole
+/// processes are counted and not the call.
+fn count(case: &Case, side: Side) -> Result<f64, String> {
+    Ok(process(case, side, 2)? - process(case, side, 1)?)
+}
+
+/// The instructions of a process, from the summary of callgrind's file.
+fn process(case: &Case, side: Side, runs: usize) -> Result<f64, String> {
+    let own = std::env::current_exe().map_err(|error| error.to_string())?;
+    let name = format!("callgrind-{}-{}-{runs}.out", case.name, side.name());
+    let file = own.parent().unwrap_or(Path::new(".")).join(name);
+    let output = Command::new("valgrind")
+        .arg("--tool=callgrind")
+        .arg(format!("--callgrind-out-file={}", file.display()))
+        .arg(&own)
+        .args(["some", case.name, side.name(), &runs.to_string()])
+        .output()
+        .map_err(|error| format!("valgrind: {error}"))?;
+    if !output.status.success() {
+        let said = String::from_utf8_lossy(&output.stderr);
+        return Err(format!("valgrind on {}: {said}", case.name));
+    }
+    let text = std::fs::read_to_string(&file).map_err(|error| error.to_string())?;
+    let mut lines = text.lines();
+    let summary = lines.find_map(|line| line.strip_prefix("summary:"));
+    let count = summary.and_then(|word| word.trim().parse::<f64>().ok());
+    count.ok_or(format!("{} has no summary", file.display()))
+}

@@ -1,0 +1,159 @@
+//! What comes back from a run.
+
+use core::fmt;
+
+/// What a run gives back beside its tables.
+///
+/// Prints as the first four lines of the run lister, so that an answer and
+/// then its [`Tables`](crate::Tables) are the lister's whole output.
+#[must_use = "a run may be refused"]
+#[derive(Clone, Copy, Debug, PartialEq, Eq)]
+pub struct Answer<'p> {
+    /// How the run ended.
+    pub outcome: Outcome,
+    /// Where it ended: see [`Outcome`].
+    pub place: usize,
+    /// Statements begun, refused ones too, and later tests of whiles.
+    pub steps: u32,
+    /// Proposals accepted.
+    pub accepted: u32,
+    /// The last words of the proposals, which were not read. A proposal that
+    /// was turned down is among them.
+    pub unread: &'p [i32],
+}
+
+/// How a run ended, under document 01's numbers. Prints as what it says.
+///
+/// 1 to 4 are tried in their order; they cost no steps, accept no proposal and
+/// change no table. From 5 on the place is the word of the refused statement
+/// (the while's for a later test of it), and the tables hold what the last
+/// accepted statement left.
+#[derive(Clone, Copy, Debug, PartialEq, Eq, PartialOrd, Ord, Hash)]
+pub enum Outcome {
+    /// The place is the program's length.
+    Finished = 0,
+    /// A table's length or the budget is wrong. The place is 0.
+    WrongSize = 1,
+    /// The program does not read. The place is its first unfit word, its
+    /// length if words run out, 4096 if it has over 4,096 words.
+    UnfitProgram = 2,
+    /// A table's content is unfit. The place is the first such table: 0
+    /// environment, 1 heap, 2 constraints.
+    UnfitTable = 3,
+    /// At the start a kept constraint does not read, or a required part or
+    /// identity does not hold. The place is its position.
+    UnfitStart = 4,
+    /// The next step would pass the budget.
+    BudgetSpent = 5,
+    /// No proposal words are left.
+    NoProposal = 6,
+    /// An absent variable, a missing field, or a path through a non-record.
+    NoCell = 7,
+    /// A value of the wrong kind.
+    WrongKind = 8,
+    /// A sum, difference or product, outside constraints, leaves 32 bits.
+    OutOfRange = 9,
+    /// There are 64 records already.
+    HeapFull = 10,
+    /// An identity does not hold now.
+    NotIdentical = 11,
+    /// The identities would move a frozen cell, one that a path leads through.
+    IdentityClash = 12,
+    /// The target of an identity is given a boolean or an integer.
+    PlainIdentity = 13,
+    /// There is no room for a position that is not yet kept.
+    NoRoom = 14,
+    /// A kept value constraint no longer reads.
+    LostConstraint = 15,
+    /// The proposal is cut short, its n is out of range, or its locations do
+    /// not rise or are outside 0 to 575.
+    UnfitProposal = 16,
+    /// An entry of the proposal names a cell or a payload that it may not.
+    UnfitEntry = 17,
+    /// The proposal changes something, and every part was satisfied without it.
+    NeedlessChange = 18,
+    /// A required part is not met after the proposal.
+    RequiredUnmet = 19,
+}
+
+impl Outcome {
+    /// Every outcome, each at its number.
+    pub const ALL: [Outcome; 20] = [
+        Outcome::Finished,
+        Outcome::WrongSize,
+        Outcome::UnfitProgram,
+        Outcome::UnfitTable,
+        Outcome::UnfitStart,
+        Outcome::BudgetSpent,
+        Outcome::NoProposal,
+        Outcome::NoCell,
+        Outcome::WrongKind,
+        Outcome::OutOfRange,
+        Outcome::HeapFull,
+        Outcome::NotIdentical,
+        Outcome::IdentityClash,
+        Outcome::PlainIdentity,
+        Outcome::NoRoom,
+        Outcome::LostConstraint,
+        Outcome::UnfitProposal,
+        Outcome::UnfitEntry,
+        Outcome::NeedlessChange,
+        Outcome::RequiredUnmet,
+    ];
+
+    /// Document 01's number, 0 to 19.
+    pub fn number(self) -> i32 {
+        self as i32
+    }
+
+    /// The outcome of a number from 0 to 19.
+    pub fn of_number(number: i32) -> Option<Outcome> {
+        let place = usize::try_from(number).ok()?;
+        Outcome::ALL.get(place).copied()
+    }
+
+    /// What document 01 says of it.
+    pub fn says(self) -> &'static str {
+        match self {
+            Outcome::Finished => "finished",
+            Outcome::WrongSize => "a table's length or the budget is wrong",
+            Outcome::UnfitProgram => "program does not read",
+            Outcome::UnfitTable => "a table's content is unfit",
+            Outcome::UnfitStart => {
+                "a kept constraint does not read, or a required part or identity does not hold, at the start"
+            }
+            Outcome::BudgetSpent => "next step would pass the budget",
+            Outcome::NoProposal => "no proposal words left",
+            Outcome::NoCell => "absent variable, missing field, path through a non-record",
+            Outcome::WrongKind => "wrong kind",
+            Outcome::OutOfRange => "range, outside C",
+            Outcome::HeapFull => "heap full",
+            Outcome::NotIdentical => "identity does not hold now",
+            Outcome::IdentityClash => "identity clash",
+            Outcome::PlainIdentity => "target of an identity given a boolean or integer",
+            Outcome::NoRoom => "no room for a position not yet kept",
+            Outcome::LostConstraint => "a kept value constraint no longer reads",
+            Outcome::UnfitProposal => {
+                "proposal cut short, n out of range, locations not rising or outside 0 to 575"
+            }
+            Outcome::UnfitEntry => "an entry names a cell or payload it may not",
+            Outcome::NeedlessChange => "needless change",
+            Outcome::RequiredUnmet => "a required part is not met",
+        }
+    }
+}
+
+impl fmt::Display for Outcome {
+    fn fmt(&self, out: &mut fmt::Formatter<'_>) -> fmt::Result {
+        out.pad(self.says())
+    }
+}
+
+impl fmt::Display for Answer<'_> {
+    fn fmt(&self, out: &mut fmt::Formatter<'_>) -> fmt::Result {
+        writeln!(out, "outcome={}", self.outcome.number())?;
+        writeln!(out, "place={}", self.place)?;
+        writeln!(out, "steps={}", self.steps)?;
+        writeln!(out, "proposals={}", self.accepted)
+    }
+}

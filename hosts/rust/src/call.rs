@@ -1,0 +1,98 @@
+//! The call of libcordbasin.a, made safe.
+
+use crate::answer::{Answer, Outcome};
+use crate::tables::Tables;
+
+/// The largest budget that is not refused.
+pub const LARGEST_BUDGET: i32 = 1_000_000;
+
+/// The most words that a program may have.
+pub const LONGEST_PROGRAM: usize = 4096;
+
+extern "C" {
+    fn cordbasin_run(
+        program: *const i32,
+        program_words: usize,
+        environment: *mut i32,
+        environment_words: usize,
+        heap: *mut i32,
+        heap_words: usize,
+        constraints: *mut i32,
+        constraints_words: usize,
+        proposals: *const i32,
+        proposals_words: usize,
+        budget: i32,
+        answer: *mut [i32; 4],
+    ) -> usize;
+}
+
+/// Runs a program on tables, which then hold what the run left. Ends within
+/// the budget, 0 to 1,000,000 steps.
+pub fn run<'p>(
+    program: &[i32],
+    tables: &mut Tables,
+    proposals: &'p [i32],
+    budget: i32,
+) -> Answer<'p> {
+    run_words(
+        program,
+        &mut tables.environment,
+        &mut tables.heap,
+        &mut tables.constraints,
+        proposals,
+        budget,
+    )
+}
+
+/// As [`run`], on tables that the host keeps as slices of its own. A slice of
+/// another length than its table's is refused with [`Outcome::WrongSize`].
+pub fn run_words<'p>(
+    program: &[i32],
+    environment: &mut [i32],
+    heap: &mut [i32],
+    constraints: &mut [i32],
+    proposals: &'p [i32],
+    budget: i32,
+) -> Answer<'p> {
+    // A word that is not written stays negative, which none of the four is.
+    let mut answer = [-1; 4];
+    // SAFETY: each pointer and count are those of one slice, which lives until
+    // the call returns. The slices that are written are borrowed for it alone.
+    let unread = unsafe {
+        cordbasin_run(
+            program.as_ptr(),
+            program.len(),
+            environment.as_mut_ptr(),
+            environment.len(),
+            heap.as_mut_ptr(),
+            heap.len(),
+            constraints.as_mut_ptr(),
+            constraints.len(),
+            proposals.as_ptr(),
+            proposals.len(),
+            budget,
+            &mut answer,
+        )
+    };
+    match typed(answer, proposals, unread) {
+        Some(answer) => answer,
+        None => panic!("libcordbasin.a gave {answer:?} and {unread} words unread"),
+    }
+}
+
+/// The answer of the four numbers; none where the archive is not the proved
+/// one, which gives numbers in their ranges.
+fn typed(
+    [outcome, place, steps, accepted]: [i32; 4],
+    proposals: &[i32],
+    unread: usize,
+) -> Option<Answer<'_>> {
+    let read = proposals.len().checked_sub(unread)?;
+    Some(Answer {
+        outcome: Outcome::of_number(outcome)?,
+        place: usize::try_from(place).ok()?,
+        steps: u32::try_from(steps).ok()?,
+        accepted: u32::try_from(accepted).ok()?,
+        unread: proposals.get(read..)?,
+    })
+}

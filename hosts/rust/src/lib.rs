@@ -1,0 +1,74 @@
+//! Runs layout sheets: small programs that make records, assign to them and
+//! state what must always hold. Where a value moves, a solver's proposals
+//! move the others; a proposal is taken only where every required constraint
+//! holds afterwards.
+//!
+//! [`run`] takes a program, [`Tables`], proposals and a budget, and gives an
+//! [`Answer`]. The work is done by `libcordbasin.a`, each function of which is
+//! proved to meet its contract; this crate is not proved. It links that
+//! archive, which `tools/native cordbasin` writes, and has no dependencies.
+//! A run allocates nothing and keeps nothing, so that two threads may run on
+//! tables of their own.
+//!
+//! # Example
+//!
+//! The sheet
+//!
+//! ```text
+//! x := new {bytes: 64, samples: 16}
+//! always required x.bytes = 4 * x.samples
+//! x.samples := 32
+//! ```
+//!
+//! with `x` variable 0, `bytes` label 0 and `samples` label 1:
+//!
+//! ```
+//! use cordbasin::{run, Outcome, Tables, Value};
+//!
+//! let program = [
+//!     3, // statements
+//!     2, 0, 2, 0, 23, 64, 1, 23, 16, // new
+//!     3, 1, 3, 25, 6, 24, 0, 1, 0, 25, 3, 23, 4, 24, 0, 1, 1, // always
+//!     1, 0, 1, 1, 23, 32, // assign
+//! ];
+//! // No change, no change, and 128 for location 64, the first field of record 0.
+//! let proposals = [0, 0, 1, 64, 128];
+//! let mut tables = Tables::fresh();
+//!
+//! let answer = run(&program, &mut tables, &proposals, 100);
+//!
+//! assert_eq!(answer.outcome, Outcome::Finished);
+//! assert_eq!((answer.steps, answer.accepted), (3, 3));
+//! assert!(answer.unread.is_empty());
+//! assert_eq!(tables.variable(0), Some(Value::Ref(0)));
+//! assert_eq!(tables.field(0, 1), Some(Value::Int(32)));
+//! assert_eq!(tables.at(0, &[0]), Some(Value::Int(128)));
+//! assert_eq!(tables.to_string(), "v0=ref 0\nr0=2\nr0.0=int 128\nr0.1=int 32\nc0=10\n");
+//! ```
+//!
+//! A refusal names the statement and says what was the matter. The tables
+//! hold what the last accepted statement left, and the proposal that was
+//! turned down is unread:
+//!
+//! ```
+//! use cordbasin::{run, Outcome, Tables};
+//!
+//! // v0 := 7, with a proposal that changes the target itself.
+//! let answer = run(&[1, 1, 0, 0, 23, 7], &mut Tables::fresh(), &[1, 0, 8], 100);
+//!
+//! assert_eq!(answer.outcome, Outcome::UnfitEntry);
+//! assert_eq!(answer.outcome.to_string(), "an entry names a cell or payload it may not");
+//! assert_eq!(answer.place, 1);
+//! assert_eq!(answer.unread, [1, 0, 8]);
+//! ```
+
+#![no_std]
+#![warn(missing_docs)]
+
+mod answer;
+mod call;
+mod tables;
+
+pub use answer::{Answer, Outcome};
+pub use call::{run, run_words, LARGEST_BUDGET, LONGEST_PROGRAM};
+pub use tables::{Tables, Value, CONSTRAINTS_WORDS, ENVIRONMENT_WORDS, HEAP_WORDS};
