@@ -1,0 +1,2 @@
+pub mod LentLaws
+pub mod CodeClaims
