@@ -6,6 +6,7 @@ pub mod LoopLaws
 pub mod WordLaws
 pub mod CellLaws
 pub mod RecordLaws
+pub mod ClearLaws
 pub mod FitLaws
 pub mod FitChanges
 pub mod StartLaws

@@ -162,3 +162,18 @@ slot-boolean p = refl
 pub slot-integer : (p : ℤ) → slotOf (cell (pos 3) p) ≡ Has (Int p)
 unfolding slotOf
 slot-integer p = refl
+
+-- a reference, by its kind; and what any other kind tells
+pub slot-reference : (c : Cell) → numberOf (c .kind) ≡ 4 → slotOf c ≡ Has (Ref (numberOf (c .payload)))
+unfolding slotOf
+slot-reference c h = rw h
+
+pub slot-other : (c : Cell) → eqb (numberOf (c .kind)) 4 ≡ false
+    → slotOf c
+    ≡ cond (eqb (numberOf (c .kind)) 1) (Has Nil) (cond (eqb (numberOf (c .kind)) 2) (Has (Truth (eqZ (c .payload) (pos 1)))) (cond (eqb (numberOf (c .kind)) 3) (Has (Int (c .payload))) Absent))
+unfolding slotOf
+slot-other c h = rw h
+
+pub cell-integer : (n : ℤ) → cellOf (Int n) ≡ cell (pos 3) n
+unfolding cellOf
+cell-integer n = refl

@@ -10,14 +10,14 @@ use crate::ENVIRONMENT_WORDS;
 use crate::FIELDS;
 use crate::HEAP_WORDS;
 use crate::LABELS;
-use crate::RECORD_WORDS;
 use crate::RECORDS;
 use crate::Sort;
 use crate::VARIABLES;
 ghost use mathlib.Core.Path.{_≡_};
 ghost use Prim.Native.Nat.{_<_};
+ghost use lib.ListN.{length};
 ghost use Rattle.words.specs.Words.{wordAt};
-ghost use Rattle.tables.specs.Fit.{sized, cellFits, environmentFits, labelFits, fieldFits, zeros, placeFits, recordFits, numberFits, heapFits, positionFits, roomFits, sortFits, constraintsFit};
+ghost use Rattle.tables.specs.Fit.{sized, cellFits, environmentFits, labelFits, fieldFits, zeros, placeFits, recordFits, heapFits, positionFits, sortFits, constraintsFit};
 
 // The lengths of the three tables.
 pub fn are_sized(environment: &[i32], heap: &[i32], constraints: &[i32]) -> bool
@@ -48,10 +48,13 @@ pub fn cell_fits(count: i32, c: Cell) -> bool
     }
 }
 
-// The variables, where the heap is this one.
+// The variables, where the heap is this one. Fresh ones are passed at once.
 pub fn environment_fits(environment: &[i32], heap: &[i32]) -> bool
     ensures { λ r. ⌜ r ≡ environmentFits (wordAt (now (heap .entry)) 0) (now (environment .entry)) ⌝ }
 {
+    if is_clear(environment) {
+        return true;
+    }
     let mut x: usize = 0;
     while x < VARIABLES {
         if !cell_fits(words::word_at(heap, 0), pair_at(environment, 2 * x)) {
@@ -143,17 +146,20 @@ fn record_fits(heap: &[i32], r: usize) -> bool
     true
 }
 
-// Record number r, where the heap has n records.
-fn number_fits(heap: &[i32], r: usize, n: usize) -> bool
-    requires { ⌜ r < 64 ⌝ }
-    ensures { λ b. ⌜ b ≡ numberFits (now (heap .entry)) n r ⌝ }
+// Whether every word is 0. It has no early return, so that words are tested several at a time.
+fn is_clear(s: &[i32]) -> bool
+    ensures { λ r. ⌜ r ≡ zeros (now (s .entry)) 0 (length (now (s .entry))) ⌝ }
 {
-    if r < n {
-        return record_fits(heap, r);
+    let mut clear = true;
+    let mut i: usize = 0;
+    while i < s.len() {
+        clear = clear & (s[i] == 0);
+        i += 1;
     }
-    are_zeros(heap, 25 * r + 1, RECORD_WORDS)
+    clear
 }
 
+// The records that the heap counts, then zeros.
 pub fn heap_fits(heap: &[i32]) -> bool
     ensures { λ b. ⌜ b ≡ heapFits (now (heap .entry)) ⌝ }
 {
@@ -162,13 +168,13 @@ pub fn heap_fits(heap: &[i32]) -> bool
         return false;
     }
     let mut r: usize = 0;
-    while r < RECORDS {
-        if !number_fits(heap, r, n) {
+    while r < n {
+        if !record_fits(heap, r) {
             return false;
         }
         r += 1;
     }
-    true
+    is_clear(words::part_to(words::part_from(heap, 25 * n + 1), 1600 - 25 * n))
 }
 
 // The kept position number i of a sort is a number, and none before it is the same.
@@ -189,17 +195,7 @@ fn position_fits(constraints: &[i32], s: Sort, i: usize) -> bool
     true
 }
 
-// The word for position number i of a sort, where n are kept.
-fn room_fits(constraints: &[i32], s: Sort, i: usize, n: usize) -> bool
-    requires { ⌜ i < 64 ⌝ }
-    ensures { λ b. ⌜ b ≡ roomFits (now (constraints .entry)) s n i ⌝ }
-{
-    if i < n {
-        return position_fits(constraints, s, i);
-    }
-    words::same(words::word_at(constraints, first_kept(s) + i), 0)
-}
-
+// The positions that the sort counts, then zeros.
 fn sort_fits(constraints: &[i32], s: Sort) -> bool
     ensures { λ b. ⌜ b ≡ sortFits (now (constraints .entry)) s ⌝ }
 {
@@ -209,13 +205,13 @@ fn sort_fits(constraints: &[i32], s: Sort) -> bool
         return false;
     }
     let mut i: usize = 0;
-    while i < most {
-        if !room_fits(constraints, s, i, n) {
+    while i < n {
+        if !position_fits(constraints, s, i) {
             return false;
         }
         i += 1;
     }
-    true
+    is_clear(words::part_to(words::part_from(constraints, first_kept(s) + n), most - n))
 }
 
 // The constraints' counts, their unused words, and that no position occurs twice.

@@ -7,20 +7,20 @@ use Rattle.tables.proofs.fit.constraints_fit.Reads as reads
 use Rattle.tables.proofs.fit.constraints_fit.Lts as lts
 use Rattle.tables.proofs.fit.sort_fits.Reads as sort-fits-reads
 
--- src/fit.rt:225:9
+-- src/fit.rt:218:9
 sort-fits-requires : tie.Need-sort-fits-requires
 sort-fits-requires c κs = search needs
 
--- src/fit.rt:226:9
+-- src/fit.rt:219:9
 returns : tie.Need-returns
 unfolding constraintsFit
 returns c = rw (refused (c .if1 .taken) (c .before .sort-fits .ensures))
 
--- src/fit.rt:228:5
+-- src/fit.rt:221:5
 sort-fits-requires-2 : tie.Need-sort-fits-requires-2
 sort-fits-requires-2 c κs = search needs
 
--- src/fit.rt:222:1
+-- src/fit.rt:215:1
 returns-2 : tie.Need-returns-2
 unfolding constraintsFit
 returns-2 c = rw (passed (c .before .if1 .left) (c .before .before .sort-fits .ensures)) (c .sort-fits2 .ensures)

@@ -22,43 +22,43 @@ Inv-loop constraints s i position j₀ j =
 abbrev μ-loop : tie.MeasureT-loop
 μ-loop constraints s i position j₀ j = i - j
 
--- src/fit.rt:179:9
+-- src/fit.rt:182:9
 position-at-requires : tie.Need-position-at-requires Inv-loop μ-loop
 position-at-requires c κs = search needs
 
--- src/fit.rt:181:9
+-- src/fit.rt:184:9
 returns : tie.Need-returns Inv-loop μ-loop
 unfolding positionFits
 returns c = rw (le-ltb _ 2147483648 (rw (c .before .position-at .ensures) at (c .if1 .taken)))
 
--- src/fit.rt:184:5
+-- src/fit.rt:187:5
 loop-holds : tie.Need-loop-holds Inv-loop μ-loop
 loop-holds c = ((c .before .position-at .ensures, c .if1 .left), checking-starts)
 
--- src/fit.rt:185:12
+-- src/fit.rt:188:12
 position-at-requires-2 : tie.Need-position-at-requires-2 Inv-loop μ-loop
 position-at-requires-2 c κs = search needs
 
--- src/fit.rt:186:13
+-- src/fit.rt:189:13
 returns-2 : tie.Need-returns-2 Inv-loop μ-loop
 unfolding positionFits
 returns-2 c =
     rw (lt-ltb _ 2147483648 (rw (c .before .before .before .loop .inv .0 .0) at (c .before .before .before .loop .inv .0 .1)))
     (checking-fails (c .before .before .before .loop .inv .1) (c .before .before .loop-test .taken) (met (c .if2 .taken) (c .before .position-at2 .ensures) (c .before .before .before .loop .inv .0 .0)))
 
--- src/fit.rt:188:9
+-- src/fit.rt:191:9
 add-j : tie.Need-add-j Inv-loop μ-loop
 add-j c = search needs
 
--- src/fit.rt:184:5
+-- src/fit.rt:187:5
 loop-less : tie.Need-loop-less Inv-loop μ-loop
 loop-less c = search needs
 
--- src/fit.rt:184:5
+-- src/fit.rt:187:5
 loop-again : tie.Need-loop-again Inv-loop μ-loop
 loop-again c = (c .before .before .before .loop .inv .0, checking-goes-on (c .before .before .before .loop .inv .1) (c .before .before .loop-test .taken) (apart (c .if2 .left) (c .before .position-at2 .ensures) (c .before .before .before .loop .inv .0 .0)))
 
--- src/fit.rt:176:1
+-- src/fit.rt:179:1
 returns-3 : tie.Need-returns-3 Inv-loop μ-loop
 unfolding positionFits
 returns-3 c = rw (lt-ltb _ 2147483648 (rw (c .before .loop .inv .0 .0) at (c .before .loop .inv .0 .1))) (checking-ends (c .before .loop .inv .1) (c .loop-test .left))
