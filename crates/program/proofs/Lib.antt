@@ -12,3 +12,4 @@ pub mod RowLaws
 pub mod BlockLaws
 pub mod WhereLaws
 pub mod StandLaws
+pub mod MarkingLaws

@@ -78,7 +78,7 @@ module _ (d left : ℕ) (p : List ℤ) where
   unfolding spotBlock
   spot-deep e = rw e
 
-  opened : (e : ℕ) → (e ≡ 0 → ⊥) → numberAt p 0 ≤ 255 → spotStatements (λ q. spotBlock (e - 1) left q) (e - 1) left (numberAt p 0) (drop 1 p) ≡ spotBlock e left p
+  pub opened : (e : ℕ) → (e ≡ 0 → ⊥) → numberAt p 0 ≤ 255 → spotStatements (λ q. spotBlock (e - 1) left q) (e - 1) left (numberAt p 0) (drop 1 p) ≡ spotBlock e left p
   unfolding spotBlock
   opened zero ne h = absurd (ne refl)
   opened (suc e) ne h = rw (sub-one (suc e), le-leb (numberAt p 0) 255 h)

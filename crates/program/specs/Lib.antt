@@ -4,3 +4,4 @@ pub mod Told
 pub mod Judge
 pub mod Grammar
 pub mod Where
+pub mod Marking

@@ -2,6 +2,7 @@
 pub mod reading; // reading.rt: paths, expressions, constraints
 pub mod blocks; // blocks.rt: statements, blocks, the whole program
 pub mod places; // places.rt: where the statements are
+mod marking; // marking.rt: their words, marked
 
 pub const MOST_WORDS: usize = 4096;
 

@@ -1,14 +1,17 @@
 // Where the statements are. A word is named by how many words are left from it on.
 use super::blocks::read_block;
 use super::blocks::read_statement;
+use super::marking::marks_stand;
 use super::reading::read_expression;
 use crate::BLOCK_DEPTH;
 use crate::EXPRESSION_DEPTH;
 use crate::MOST_STATEMENTS;
+use crate::MOST_WORDS;
 use crate::Spot;
 use tables::Sort;
 ghost use mathlib.Core.Path.{_≡_};
 ghost use Rattle.program.specs.Where.{spotBlock, spotStatement, statementAt, alwaysOf, hasVerb, isAlways, positionsStand, constraintsStand};
+ghost use Rattle.program.specs.Marking.{bothStand};
 
 // The statement at p, whose blocks nest at most d deep, or one inside it.
 fn spot_statement(p: &[i32], d: usize, left: usize) -> Spot
@@ -114,15 +117,30 @@ fn positions_stand(program: &[i32], constraints: &[i32], s: Sort) -> bool
     true
 }
 
-// The constraints table is fit for this program.
+// Every kept position of both sorts, each looked for by itself.
+fn each_stands(program: &[i32], constraints: &[i32]) -> bool
+    ensures { λ r. ⌜ r ≡ bothStand (now (program .entry)) (now (constraints .entry)) ⌝ }
+{
+    if !positions_stand(program, constraints, Sort::Values) {
+        return false;
+    }
+    positions_stand(program, constraints, Sort::Identities)
+}
+
+// The constraints table is fit for this program. Marks are made for two positions or more, and not for a program of too many words.
 pub fn constraints_stand(program: &[i32], constraints: &[i32]) -> bool
     ensures { λ r. ⌜ r ≡ constraintsStand (now (program .entry)) (now (constraints .entry)) ⌝ }
 {
     if !tables::fit::constraints_fit(constraints) {
         return false;
     }
-    if !positions_stand(program, constraints, Sort::Values) {
-        return false;
+    let values = tables::kept::kept_count(constraints, Sort::Values);
+    let identities = tables::kept::kept_count(constraints, Sort::Identities);
+    if values + identities < 2 {
+        return each_stands(program, constraints);
     }
-    positions_stand(program, constraints, Sort::Identities)
+    if MOST_WORDS < program.len() {
+        return each_stands(program, constraints);
+    }
+    marks_stand(program, constraints)
 }

@@ -95,86 +95,86 @@ spot-statement-calls t = (
   read-block-reads.Learnt,
 )
 
--- src/places.rt:47:9
+-- src/places.rt:50:9
 spot-block-returns : (t : ℕ) → spot-block-lts.Need-returns (spot-block-calls t) (spot-block-at t) spot-block.Post spot-block-Inv-loop spot-block-μ-loop
 spot-block-returns t c = spot-deep (c .before .args .d) (c .before .args .left) (c .before .args .p .now) (c .if1 .taken)
 
--- src/places.rt:49:9
+-- src/places.rt:52:9
 spot-block-number-at-requires : (t : ℕ) → spot-block-lts.Need-number-at-requires (spot-block-calls t) (spot-block-at t) spot-block.Post spot-block-Inv-loop spot-block-μ-loop
 spot-block-number-at-requires t c κs = search needs
 
--- src/places.rt:51:9
+-- src/places.rt:54:9
 spot-block-returns-2 : (t : ℕ) → spot-block-lts.Need-returns-2 (spot-block-calls t) (spot-block-at t) spot-block.Post spot-block-Inv-loop spot-block-μ-loop
 spot-block-returns-2 t c = spot-long (c .before .before .before .args .d) (c .before .before .before .args .left) (c .before .before .before .args .p .now) (c .before .before .if1 .left) (rw (c .before .number-at .ensures) at (c .if2 .taken))
 
--- src/places.rt:53:9
+-- src/places.rt:56:9
 spot-block-less-requires : (t : ℕ) → spot-block-lts.Need-less-requires (spot-block-calls t) (spot-block-at t) spot-block.Post spot-block-Inv-loop spot-block-μ-loop
 spot-block-less-requires t c κs = search needs
 
--- src/places.rt:55:5
+-- src/places.rt:58:5
 spot-block-loop-holds : (t : ℕ) → spot-block-lts.Need-loop-holds (spot-block-calls t) (spot-block-at t) spot-block.Post spot-block-Inv-loop spot-block-μ-loop
 spot-block-loop-holds t c = rw (c .less .ensures, c .before .before .number-at .ensures) (looking-starts (c .before .before .before .before .args .d) (c .before .before .before .before .args .left) (c .before .before .before .before .args .p .now) (c .before .before .before .if1 .left) (rw (c .before .before .number-at .ensures) at (c .before .if2 .left)))
 
--- src/places.rt:56:13
+-- src/places.rt:59:13
 spot-block-part-last-requires : (t : ℕ) → spot-block-lts.Need-part-last-requires (spot-block-calls t) (spot-block-at t) spot-block.Post spot-block-Inv-loop spot-block-μ-loop
 spot-block-part-last-requires t c κs = search needs
 
--- src/places.rt:57:57
+-- src/places.rt:60:57
 spot-block-sub-spot-statement : (t : ℕ) → spot-block-lts.Need-sub-spot-statement (spot-block-calls t) (spot-block-at t) spot-block.Post spot-block-Inv-loop spot-block-μ-loop
 spot-block-sub-spot-statement t c = search needs
 
--- src/places.rt:57:39
+-- src/places.rt:60:39
 spot-block-spot-statement-requires : (t : ℕ) → spot-block-lts.Need-spot-statement-requires (spot-block-calls t) (spot-block-at t) spot-block.Post spot-block-Inv-loop spot-block-μ-loop
 spot-block-spot-statement-requires t c κs = omega (arith, c .before .before .before .before .before .before .before .pre .0, c .before .before .before .before .before .before .if1 .left)
 
--- src/places.rt:57:25
+-- src/places.rt:60:25
 spot-block-enum-known-verb : (t : ℕ) → spot-block-lts.Need-enum-known-verb (spot-block-calls t) (spot-block-at t) spot-block.Post spot-block-Inv-loop spot-block-μ-loop
 spot-block-enum-known-verb t c = search needs
 
--- src/places.rt:58:13
+-- src/places.rt:61:13
 spot-block-returns-3 : (t : ℕ) → spot-block-lts.Need-returns-3 (spot-block-calls t) (spot-block-at t) spot-block.Post spot-block-Inv-loop spot-block-μ-loop
 spot-block-returns-3 t c = looking-finds (c .before .before .before .before .before .before .loop .inv) (c .before .before .before .before .before .loop-test .taken) (c .before .before .before .before .part-last .ensures) (c .before .before .before .spot-statement .ensures) (c .before .verb .given .1)
 
 spot-block-enum-told : (t : ℕ) → spot-block-lts.Need-enum-told (spot-block-calls t) (spot-block-at t) spot-block.Post spot-block-Inv-loop spot-block-μ-loop
 spot-block-enum-told t c = search needs
 
--- src/places.rt:60:35
+-- src/places.rt:63:35
 spot-block-sub-read-statement : (t : ℕ) → spot-block-lts.Need-sub-read-statement (spot-block-calls t) (spot-block-at t) spot-block.Post spot-block-Inv-loop spot-block-μ-loop
 spot-block-sub-read-statement t c = search needs
 
--- src/places.rt:60:13
+-- src/places.rt:63:13
 spot-block-read-statement-requires : (t : ℕ) → spot-block-lts.Need-read-statement-requires (spot-block-calls t) (spot-block-at t) spot-block.Post spot-block-Inv-loop spot-block-μ-loop
 spot-block-read-statement-requires t c κs = search needs
 
--- src/places.rt:62:9
+-- src/places.rt:65:9
 spot-block-add-i : (t : ℕ) → spot-block-lts.Need-add-i (spot-block-calls t) (spot-block-at t) spot-block.Post spot-block-Inv-loop spot-block-μ-loop
 spot-block-add-i t c = search needs
 
--- src/places.rt:55:5
+-- src/places.rt:58:5
 spot-block-loop-less : (t : ℕ) → spot-block-lts.Need-loop-less (spot-block-calls t) (spot-block-at t) spot-block.Post spot-block-Inv-loop spot-block-μ-loop
 spot-block-loop-less t c = search needs
 
--- src/places.rt:55:5
+-- src/places.rt:58:5
 spot-block-loop-again : (t : ℕ) → spot-block-lts.Need-loop-again (spot-block-calls t) (spot-block-at t) spot-block.Post spot-block-Inv-loop spot-block-μ-loop
 spot-block-loop-again t c = looking-goes-on (c .before .before .before .before .before .before .loop .inv) (c .before .before .before .before .before .loop-test .taken) (c .before .before .before .before .part-last .ensures) (c .before .before .before .spot-statement .ensures) (c .before .enum-told .given .1) (c .read-statement .ensures)
 
--- src/places.rt:43:1
+-- src/places.rt:46:1
 spot-block-returns-4 : (t : ℕ) → spot-block-lts.Need-returns-4 (spot-block-calls t) (spot-block-at t) spot-block.Post spot-block-Inv-loop spot-block-μ-loop
 spot-block-returns-4 t c = looking-ends (c .before .loop .inv) (c .loop-test .left)
 
--- src/places.rt:17:9
+-- src/places.rt:20:9
 spot-statement-number-at-requires : (t : ℕ) → spot-statement-lts.Need-number-at-requires (spot-statement-calls t) (spot-statement-at t) spot-statement.Post
 spot-statement-number-at-requires t c κs = search needs
 
--- src/places.rt:19:9
+-- src/places.rt:22:9
 spot-statement-returns : (t : ℕ) → spot-statement-lts.Need-returns (spot-statement-calls t) (spot-statement-at t) spot-statement.Post
 spot-statement-returns t c = rw (c .before .number-at .ensures) (spot-here (c .before .before .args .d) (c .before .before .args .left) (c .before .before .args .p .now) (c .if1 .taken))
 
--- src/places.rt:21:9
+-- src/places.rt:24:9
 spot-statement-part-from-requires : (t : ℕ) → spot-statement-lts.Need-part-from-requires (spot-statement-calls t) (spot-statement-at t) spot-statement.Post
 spot-statement-part-from-requires t c κs = search needs
 
--- src/places.rt:24:17
+-- src/places.rt:27:17
 spot-statement-read-expression-requires :
     (t : ℕ) → spot-statement-lts.Need-read-expression-requires (
       number-at-reads.Asked,
@@ -192,35 +192,35 @@ spot-statement-read-expression-requires :
     ) (spot-statement-at t) spot-statement.Post
 spot-statement-read-expression-requires t c κs = search needs
 
--- src/places.rt:25:17
+-- src/places.rt:28:17
 spot-statement-part-last-requires : (t : ℕ) → spot-statement-lts.Need-part-last-requires (spot-statement-calls t) (spot-statement-at t) spot-statement.Post
 spot-statement-part-last-requires t c κs = search needs
 
--- src/places.rt:26:19
+-- src/places.rt:29:19
 spot-statement-spot-block-requires : (t : ℕ) → spot-statement-lts.Need-spot-block-requires (spot-statement-calls t) (spot-statement-at t) spot-statement.Post
 spot-statement-spot-block-requires t c κs = search needs
 
--- src/places.rt:27:26
+-- src/places.rt:30:26
 spot-statement-enum-known-v : (t : ℕ) → spot-statement-lts.Need-enum-known-v (spot-statement-calls t) (spot-statement-at t) spot-statement.Post
 spot-statement-enum-known-v t c = search needs
 
--- src/places.rt:29:25
+-- src/places.rt:32:25
 spot-statement-enum-told : (t : ℕ) → spot-statement-lts.Need-enum-told (spot-statement-calls t) (spot-statement-at t) spot-statement.Post
 spot-statement-enum-told t c = search needs
 
--- src/places.rt:29:25
+-- src/places.rt:32:25
 spot-statement-read-block-requires : (t : ℕ) → spot-statement-lts.Need-read-block-requires (spot-statement-calls t) (spot-statement-at t) spot-statement.Post
 spot-statement-read-block-requires t c κs = search needs
 
--- src/places.rt:30:32
+-- src/places.rt:33:32
 spot-statement-part-last-requires-2 : (t : ℕ) → spot-statement-lts.Need-part-last-requires-2 (spot-statement-calls t) (spot-statement-at t) spot-statement.Post
 spot-statement-part-last-requires-2 t c κs = search needs
 
--- src/places.rt:30:21
+-- src/places.rt:33:21
 spot-statement-spot-block-requires-2 : (t : ℕ) → spot-statement-lts.Need-spot-block-requires-2 (spot-statement-calls t) (spot-statement-at t) spot-statement.Post
 spot-statement-spot-block-requires-2 t c κs = search needs
 
--- src/places.rt:35:17
+-- src/places.rt:38:17
 spot-statement-read-expression-requires-2 :
     (t : ℕ) → spot-statement-lts.Need-read-expression-requires-2 (
       number-at-reads.Asked,
@@ -238,15 +238,15 @@ spot-statement-read-expression-requires-2 :
     ) (spot-statement-at t) spot-statement.Post
 spot-statement-read-expression-requires-2 t c κs = search needs
 
--- src/places.rt:36:24
+-- src/places.rt:39:24
 spot-statement-part-last-requires-3 : (t : ℕ) → spot-statement-lts.Need-part-last-requires-3 (spot-statement-calls t) (spot-statement-at t) spot-statement.Post
 spot-statement-part-last-requires-3 t c κs = search needs
 
--- src/places.rt:36:13
+-- src/places.rt:39:13
 spot-statement-spot-block-requires-3 : (t : ℕ) → spot-statement-lts.Need-spot-block-requires-3 (spot-statement-calls t) (spot-statement-at t) spot-statement.Post
 spot-statement-spot-block-requires-3 t c κs = search needs
 
--- src/places.rt:14:1
+-- src/places.rt:17:1
 spot-statement-returns-2 : (t : ℕ) → spot-statement-lts.Need-returns-2 (spot-statement-calls t) (spot-statement-at t) spot-statement.Post
 spot-statement-returns-2 t c =
     let q : c .before .before .before .before .part-last .result .now ≡ after (readExpression 16 false (drop 1 (c .before .before .before .before .before .before .before .before .before .before .args .p .now))) =
@@ -255,7 +255,7 @@ spot-statement-returns-2 t c =
     let f = sym (rw q at (c .before .before .before .spot-block .ensures)) ∙ c .before .v .given .1 in
     rw f at (spot-branch (c .before .before .before .before .before .before .before .before .before .before .args .d) (c .before .before .before .before .before .before .before .before .before .before .args .left) (c .before .before .before .before .before .before .before .before .before .before .args .p .now) (c .before .before .before .before .before .before .before .before .if1 .left) (sym (c .before .before .before .before .before .before .before .before .before .number-at .ensures) ∙ c .before .before .before .before .before .before .match .keys1))
 
--- src/places.rt:14:1
+-- src/places.rt:17:1
 spot-statement-returns-3 : (t : ℕ) → spot-statement-lts.Need-returns-3 (spot-statement-calls t) (spot-statement-at t) spot-statement.Post
 spot-statement-returns-3 t c =
     let q : c .before .before .before .before .before .before .part-last .result .now ≡ after (readExpression 16 false (drop 1 (c .before .before .before .before .before .before .before .before .before .before .before .before .args .p .now))) =
@@ -266,7 +266,7 @@ spot-statement-returns-3 t c =
     let f = sym (rw q at (c .before .before .before .before .before .spot-block .ensures)) ∙ c .before .before .before .enum-told .given .1 in
     c .spot-block2 .ensures ∙ rw (r, q) (rw f at (spot-branch (c .before .before .before .before .before .before .before .before .before .before .before .before .args .d) (c .before .before .before .before .before .before .before .before .before .before .before .before .args .left) (c .before .before .before .before .before .before .before .before .before .before .before .before .args .p .now) (c .before .before .before .before .before .before .before .before .before .before .if1 .left) (sym (c .before .before .before .before .before .before .before .before .before .before .before .number-at .ensures) ∙ c .before .before .before .before .before .before .before .before .match .keys1)))
 
--- src/places.rt:14:1
+-- src/places.rt:17:1
 spot-statement-returns-4 : (t : ℕ) → spot-statement-lts.Need-returns-4 (spot-statement-calls t) (spot-statement-at t) spot-statement.Post
 spot-statement-returns-4 t c =
     let q : c .before .part-last3 .result .now ≡ after (readExpression 16 false (drop 1 (c .before .before .before .before .before .before .before .args .p .now))) =
@@ -274,7 +274,7 @@ spot-statement-returns-4 t c =
     (rw (c .before .before .before .before .part-from .ensures) at (c .before .before .read-expression2 .ensures)) (rw (c .before .before .before .before .part-from .ensures) at (c .before .part-last3 .ensures)) in
     c .spot-block3 .ensures ∙ rw q (spot-loop (c .before .before .before .before .before .before .before .args .d) (c .before .before .before .before .before .before .before .args .left) (c .before .before .before .before .before .before .before .args .p .now) (c .before .before .before .before .before .if1 .left) (sym (c .before .before .before .before .before .before .number-at .ensures) ∙ c .before .before .before .match .keys2))
 
--- src/places.rt:14:1
+-- src/places.rt:17:1
 spot-statement-returns-5 : (t : ℕ) → spot-statement-lts.Need-returns-5 (spot-statement-calls t) (spot-statement-at t) spot-statement.Post
 spot-statement-returns-5 t c =
     spot-none (c .before .before .before .before .args .d) (c .before .before .before .before .args .left) (c .before .before .before .before .args .p .now) (c .before .before .if1 .left) (λ e. c .match .rest .0 .1 (c .before .before .before .number-at .ensures ∙ e)) (λ e. c .match .rest .1 (c .before .before .before .number-at .ensures ∙ e))

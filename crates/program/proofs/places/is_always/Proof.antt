@@ -9,19 +9,19 @@ use Rattle.program.proofs.places.always_of.Reads as always-of-reads
 use Rattle.program.proofs.places.has_verb.Reads as has-verb-reads
 use Rattle.program.proofs.places.statement_at.Reads as statement-at-reads
 
--- src/places.rt:100:14
+-- src/places.rt:103:14
 always-of-requires : tie.Need-always-of-requires
 always-of-requires c κs = search needs
 
--- src/places.rt:100:28
+-- src/places.rt:103:28
 statement-at-requires : tie.Need-statement-at-requires
 statement-at-requires c κs = search needs
 
--- src/places.rt:100:5
+-- src/places.rt:103:5
 has-verb-requires : tie.Need-has-verb-requires
 has-verb-requires c κs = search needs
 
--- src/places.rt:97:1
+-- src/places.rt:100:1
 returns : tie.Need-returns
 unfolding isAlways
 returns c = c .has-verb .ensures ∙ rw (c .before .before .always-of .ensures, c .before .statement-at .ensures)
