@@ -70,7 +70,7 @@ pub extern "C" fn compared_expression(
 )
     ensures { λ _. ⌜ now (answer .exit) ≡ stored (now (answer .entry)) (evaluatedWords (evaluatedOf (evaluate expressionDepth (cells (now (environment .entry)) (now (heap .entry))) (now (p .entry))))) ⌝ }
 {
-    match expressions::values::evaluate_at(environment, heap, p, program::EXPRESSION_DEPTH) {
+    match expressions::values::find_value(environment, heap, p) {
         Evaluated::Got(v, left) => {
             let cell = tables::cells::cell_of(v);
             tell(answer, 0, cell.kind, cell.payload, words::word_of(left))
@@ -97,7 +97,7 @@ pub extern "C" fn compared_parts(environment: &[i32], heap: &[i32], p: &[i32], a
 {
     tell_weighed(
         answer,
-        expressions::constraints::constraint_at(environment, heap, p),
+        expressions::constraints::constraint_at(environment, heap, p, 0),
     );
 }
 

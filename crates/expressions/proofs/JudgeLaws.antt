@@ -131,7 +131,7 @@ module _ (S : Cells) (d : ℕ) (p : List ℤ) (ne : d ≡ 0 → ⊥) (is : numbe
         rw (← k)
 
     module _ (most : numberAt (drop 1 p) 0 ≤ 11) where
-      kinds : (kind (d - 1) S (drop 1 (drop 1 p)) >>= λ a. kind (d - 1) S (a .1) >>= λ b. at p (want 8 (takes (opOf (numberAt (drop 1 p) 0)) (a .0) (b .0))) >> got (gives (opOf (numberAt (drop 1 p) 0)), b .1)) ≡ kind d S p
+      pub kinds : (kind (d - 1) S (drop 1 (drop 1 p)) >>= λ a. kind (d - 1) S (a .1) >>= λ b. at p (want 8 (takes (opOf (numberAt (drop 1 p) 0)) (a .0) (b .0))) >> got (gives (opOf (numberAt (drop 1 p) 0)), b .1)) ≡ kind d S p
       kinds = rw (number-fits 1 11 (drop 1 p) (omega (arith, one)) most) at (kind-operation S d p ne is)
 
       pub judge-left : {a : Judged} → a ≡ judgedAt (d - 1) S (drop 1 (drop 1 p)) → doesFail a ≡ true → a ≡ judgedAt d S p

@@ -4,3 +4,6 @@ pub mod EvaluateLaws
 pub mod JudgeLaws
 pub mod ConstraintLaws
 pub mod TraceLaws
+pub mod MakeLaws
+pub mod WalkLaws
+pub mod BoundLaws

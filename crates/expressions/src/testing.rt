@@ -1,7 +1,7 @@
 // The test of an if or while.
 use super::operators::bool_of;
 use super::operators::kind;
-use super::values::evaluate_at;
+use super::values::find_value;
 use crate::Evaluated;
 use crate::Tested;
 ghost use mathlib.Core.Path.{_≡_};
@@ -13,7 +13,7 @@ ghost use Rattle.expressions.specs.Judging.{testedOf};
 pub fn test_at(environment: &[i32], heap: &[i32], p: &[i32]) -> Tested
     ensures { λ r. ⌜ r ≡ testedOf (test (cells (now (environment .entry)) (now (heap .entry))) (now (p .entry))) ⌝ }
 {
-    match evaluate_at(environment, heap, p, program::EXPRESSION_DEPTH) {
+    match find_value(environment, heap, p) {
         Evaluated::Got(v, _) => {
             if kind(v) != 2 {
                 return Tested::Fails(8, p.len());

@@ -2,8 +2,12 @@
 use super::operators::apply_to;
 use super::operators::are_same;
 use super::paths::value_at;
+use super::walking::walk;
 use crate::Applied;
 use crate::Evaluated;
+use crate::Walked;
+use tables::Cell;
+use tables::Slot;
 use tables::Value;
 ghost use mathlib.Core.Path.{_≡_};
 ghost use lib.ListN.{length};
@@ -11,6 +15,7 @@ ghost use Rattle.tables.specs.Cells.{cells};
 ghost use Rattle.rules.specs.Evaluation.{evaluate};
 ghost use Rattle.expressions.specs.Told.{evaluatedOf};
 ghost use Rattle.expressions.specs.Evaluating.{literalOf, finished, identityOf};
+ghost use Rattle.expressions.specs.Walking.{tells};
 
 // A literal, whose word is the first of q.
 fn literal(q: &[i32]) -> Evaluated
@@ -81,5 +86,28 @@ pub fn evaluate_at(environment: &[i32], heap: &[i32], p: &[i32], d: usize) -> Ev
         }
         26 => identity(environment, heap, q),
         _ => Evaluated::Fails(2, p.len()),
+    }
+}
+
+// The value that a kind and a payload tell.
+fn value_of(kind: i32, payload: i32) -> Value
+    ensures { λ r. ⌜ r ≡ tells kind payload ⌝ }
+{
+    match tables::cells::slot_of(Cell {
+        kind: kind,
+        payload: payload,
+    }) {
+        Slot::Has(v) => v,
+        Slot::Absent => Value::Nil,
+    }
+}
+
+// The value of the expression at p, and the words left after it; or the refusal and its word. One that gives a value is mostly found in one walk.
+pub fn find_value(environment: &[i32], heap: &[i32], p: &[i32]) -> Evaluated
+    ensures { λ r. ⌜ r ≡ evaluatedOf (evaluate 16 (cells (now (environment .entry)) (now (heap .entry))) (now (p .entry))) ⌝ }
+{
+    match walk(environment, heap, p, 0) {
+        Walked::Is(kind, payload, left) => Evaluated::Got(value_of(kind, payload), left),
+        Walked::Odd => evaluate_at(environment, heap, p, program::EXPRESSION_DEPTH),
     }
 }

@@ -18,16 +18,12 @@ ghost use Rattle.run.specs.Told.{heldOf, startedOf, keptAtStart, tablesA
 fn values_hold(program: &[i32], environment: &[i32], heap: &[i32], constraints: &[i32]) -> Held
     ensures { λ r. ⌜ r ≡ heldOf (valuesHold (now (program .entry)) (cells (now (environment .entry)) (now (heap .entry))) (positions (now (constraints .entry)) Values)) ⌝ }
 {
+    let after = words::part_from(program, 1);
     let n = tables::kept::kept_count(constraints, Sort::Values);
     let mut i: usize = 0;
     while i < n {
         let position = tables::kept::position_at(constraints, Sort::Values, i);
-        let statement = words::part_from(program, position);
-        match expressions::constraints::constraint_at(
-            environment,
-            heap,
-            words::part_from(statement, 1),
-        ) {
+        match expressions::constraints::constraint_at(environment, heap, after, position) {
             Weighed::Fails(_, _) => {
                 return Held::Not(position);
             }

@@ -16,7 +16,7 @@ use Rattle.tables.proofs.FindLaws.{kept-in}
 use Rattle.rules.specs.State.{Res, slotAt}
 use Rattle.rules.specs.Identities.{ties, isNode, member, frozenBy, classOf, names, is, clashFree}
 use Rattle.rules.proofs.ConstraintClauses.{positions-are, listed-none}
-use Rattle.rules.proofs.IdentityClauses.{ties-none, ties-are, frozen-none, grown-by-none, class-is, names-none, clash-none, clash-more}
+use Rattle.rules.proofs.IdentityClauses.{not-member, ties-none, ties-are, frozen-none, grown-by-none, class-is, names-none, clash-none, clash-more}
 use Rattle.statements.specs.declared.Tied.{Tied}
 use Rattle.statements.specs.declared.Tied.the-variants.{Upto, Lost}
 use Rattle.statements.specs.declared.Classed.the-variants.{Cells as Found, Refuses}
@@ -111,7 +111,7 @@ module _ (program kept : List ℤ) (S : Cells) (word : List ℤ) (target : ℕ) 
     unfolding classFor
     alone-clashes d = classed-refuses (rw (no-ties, names-none target, alone, alone-free, d))
 
-    pub alone-listed : (class : List ℤ) {class′ : List ℤ} {x : ℤ} → free ≡ true → target < 576 → 130 ≤ length class → x ≡ wordOf target → class′ ≡ set class 0 x → Classes class′ (Found 1) (classFor program kept S word target prefix v)
+    pub alone-listed : (class : List ℤ) {class′ : List ℤ} {x : ℤ} → free ≡ true → target < 576 → 2 ≤ length class → x ≡ wordOf target → class′ ≡ set class 0 x → Classes class′ (Found 1) (classFor program kept S word target prefix v)
     unfolding classFor
     alone-listed class d small long p e = classed-finds (record {
       list = classOf [] target;
@@ -119,3 +119,8 @@ module _ (program kept : List ℤ) (S : Cells) (word : List ℤ) (target : ℕ) 
       few = omega arith;
       same = λ l. rw (e, p, alone) (ap (member l) (cells-more class 0 target (omega arith) small ∙ rw (listed-none (λ (i : ℕ). numberAt class (2 * i)) 0)));
     })
+
+-- nothing is frozen where there is no prefix
+pub alone-bare : (program kept : List ℤ) (S : Cells) (word : List ℤ) (target : ℕ) (v : Value) → keptCount kept Identities ≡ 0 → (class : List ℤ) {class′ : List ℤ} {x : ℤ}
+    → target < 576 → 2 ≤ length class → x ≡ wordOf target → class′ ≡ set class 0 x → Classes class′ (Found 1) (classFor program kept S word target [] v)
+alone-bare program kept S word target v none class small long p e = alone-listed program kept S word target [] v none {free = true} (rw (not-member target)) class refl small long p e

@@ -38,7 +38,7 @@ use Rattle.statements.specs.declared.Done.{Done}
 use Rattle.statements.specs.declared.Done.the-variants.{Accepted, Refused}
 use Rattle.statements.specs.Told.{settledOf, settledCells, Settles, doneOf, doneState, Does}
 use Rattle.statements.specs.Undoing.{undone, cellsIn, Gives}
-use Rattle.statements.specs.Classing.{classFor, Classes, gives, givesNew}
+use Rattle.statements.specs.Classing.{classFor, Classes, givesTo, gives, givesNew}
 use Rattle.statements.proofs.PutLaws.{put-members}
 
 pub unlike : {A : Type 0} → _≡_ {A = ℕ} 0 1 → A
@@ -146,6 +146,18 @@ module _ (program kept : List ℤ) (before now : Cells) (word : List ℤ) (targe
         let f = c .finds n h in
         rw (phase-by-class, f .is, put-members v now (cellsIn class n) (f .list) (f .same))
 
+-- ---- a target
+
+module _ (program p kept ws : List ℤ) (S : Cells) (target : ℕ) (prefix : List ℕ) (v : Value) {class : List ℤ} {r : Classed}
+    (c : Classes class r (classFor program kept S p target prefix v)) where
+  pub to-clash : {a w : ℕ} → r ≡ Unfound a w → Does (stateOf S kept) (stateOf S kept) (Refused a w) (givesTo program p (stateOf S kept) ws target prefix v)
+  unfolding givesTo
+  to-clash h = refuses (class-refuses program kept S S p target prefix v c (λ Z. valuePhase program kept p target Z ws) h)
+
+  pub to-moves : {n : ℕ} → r ≡ Found n → valuePhase program kept p target (putAll S (cellsIn class n) v) ws ≡ givesTo program p (stateOf S kept) ws target prefix v
+  unfolding givesTo
+  to-moves h = class-found program kept S S p target prefix v c (λ Z. valuePhase program kept p target Z ws) h
+
 -- ---- an assignment
 
 pub record WayIs (S : Cells) (p on : List ℤ) (target : ℕ) : Type 0 where
@@ -187,22 +199,17 @@ module _ (program p kept ws : List ℤ) (S : Cells) (v : Value) {q : List ℤ} (
           let b : g .word ≡ w = cc in
           rw (← a, ← b)
 
-  module _ {on class : List ℤ} {target m : ℕ} {r : Classed} (i : WayIs S q on target) (few : m ≡ numberAt q 1)
-      (c : Classes class r (classFor program kept S p target (listed (numberAt on) 0 m) v)) where
-    classes-way : Classes class r (classFor program kept S p (i .way .cell) (i .way .prefix) v)
-    classes-way = rw (few, i .prefix, i .cell) at c
-
-    pub give-clash : {a w : ℕ} → r ≡ Unfound a w → Does (stateOf S kept) (stateOf S kept) (Refused a w) (gives program p (stateOf S kept) ws v)
-    unfolding gives
-    give-clash h =
-        refuses (rw (← part, i .is) (class-refuses program kept S S p (i .way .cell) (i .way .prefix) v classes-way (λ Z. valuePhase program kept p (i .way .cell) Z ws) h))
-
-    pub give-moves : {n : ℕ} → r ≡ Found n → valuePhase program kept p target (putAll S (cellsIn class n) v) ws ≡ gives program p (stateOf S kept) ws v
-    unfolding gives
-    give-moves h =
-        rw (← part, i .is, i .cell) (class-found program kept S S p (i .way .cell) (i .way .prefix) v classes-way (λ Z. valuePhase program kept p (i .way .cell) Z ws) h)
+  pub give-to : {on : List ℤ} {target m : ℕ} → WayIs S q on target → m ≡ numberAt q 1
+      → givesTo program p (stateOf S kept) ws target (listed (numberAt on) 0 m) v ≡ gives program p (stateOf S kept) ws v
+  unfolding gives givesTo
+  give-to i few = rw (← part, i .is, few, i .prefix, i .cell)
 
 -- ---- a new record
+
+-- a variable is reached through no cells
+pub no-prefix : (program kept : List ℤ) (S : Cells) (p on : List ℤ) (x : ℕ) (v : Value) {class : List ℤ} {r : Classed}
+    → Classes class r (classFor program kept S p x (listed (numberAt on) 0 0) v) → Classes class r (classFor program kept S p x [] v)
+no-prefix program kept S p on x v c = rw (listed-none (numberAt on) 0) at c
 
 module _ (program p kept ws e h : List ℤ) (x : ℕ) (fs : List ℤ) (n : ℕ) where
   pub new-full : 64 ≤ recordCount h
@@ -210,22 +217,18 @@ module _ (program p kept ws e h : List ℤ) (x : ℕ) (fs : List ℤ) (n : ℕ) 
   unfolding givesNew
   new-full l = refuses (rw (le-ltb (recordCount h) 64 l))
 
-  module _ (room : recordCount h < 64) (on : List ℤ) {class : List ℤ} {r : Classed}
-      (c : Classes class r (classFor program kept (cells e h) p x (listed (numberAt on) 0 0) (Ref (recordCount h)))) where
-    classes-new : Classes class r (classFor program kept (cells e h) p x [] (Ref (recordCount h)))
-    classes-new = rw (listed-none (numberAt on) 0) at c
-
+  module _ (room : recordCount h < 64) {class : List ℤ} {r : Classed} (c : Classes class r (classFor program kept (cells e h) p x [] (Ref (recordCount h)))) where
     pub new-clash : {a w : ℕ} → r ≡ Unfound a w
         → Does (stateOf (cells e h) kept) (stateOf (cells e h) kept) (Refused a w) (givesNew program p (stateOf (cells e h) kept) ws x fs n)
     unfolding givesNew
     new-clash q = refuses (rw (lt-ltb (recordCount h) 64 room)
-        (class-refuses program kept (cells e h) (cells e (withRecord h fs n)) p x [] (Ref (recordCount h)) classes-new (λ Z. valuePhase program kept p x Z ws) q))
+        (class-refuses program kept (cells e h) (cells e (withRecord h fs n)) p x [] (Ref (recordCount h)) c (λ Z. valuePhase program kept p x Z ws) q))
 
     pub new-moves : {count : ℕ} → r ≡ Found count
         → valuePhase program kept p x (putAll (cells e (withRecord h fs n)) (cellsIn class count) (Ref (recordCount h))) ws ≡ givesNew program p (stateOf (cells e h) kept) ws x fs n
     unfolding givesNew
     new-moves q = rw (lt-ltb (recordCount h) 64 room)
-        (class-found program kept (cells e h) (cells e (withRecord h fs n)) p x [] (Ref (recordCount h)) classes-new (λ Z. valuePhase program kept p x Z ws) q)
+        (class-found program kept (cells e h) (cells e (withRecord h fs n)) p x [] (Ref (recordCount h)) c (λ Z. valuePhase program kept p x Z ws) q)
 
 -- the record is added, and taken away where the rest is refused
 module _ (program p kept ws e h fs class : List ℤ) (n x count : ℕ) {k d o : List ℤ} {v : ℕ} {r : Done} (a : k ≡ withRecord h fs n) (b : v ≡ recordCount h)

@@ -119,10 +119,10 @@ applying-starts {S = S} {pairs = pairs} {saved = saved} {n = n} =
 
 module _ {S Z : Cells} {pairs before saved : List ℤ} {n i : ℕ} (inv : Applying S Z pairs before saved n i) where
   pub applying-goes-on : {Y : Cells} {l : ℕ} {old c : Cell} {after : List ℤ}
-      → i < n → n ≤ 576 → 1152 ≤ length before → l ≡ numberAt pairs (2 * i) → old ≡ cellAt Z l → c ≡ cell (old .kind) (wordAt pairs (2 * i + 1)) → Lays Z Y l c saved after i
+      → i < n → 2 * n ≤ length before → l ≡ numberAt pairs (2 * i) → old ≡ cellAt Z l → c ≡ cell (old .kind) (wordAt pairs (2 * i + 1)) → Lays Z Y l c saved after i
       → Applying S Y pairs before after n (i + 1)
   unfolding entryAt
-  applying-goes-on {Y = Y} {l = l} {c = c} more few room e is new y =
+  applying-goes-on {Y = Y} {l = l} {c = c} more room e is new y =
       let z : n - i ≡ suc (n - (i + 1)) = omega arith in
       let q : suc i ≡ i + 1 = sym (add-one i) in
       let k : putEntry Z (entryAt pairs i) ≡ Y = put-entry-is Z (entryAt pairs i) ∙ (rw (← e, ← is, ← new) (sym (y .puts))) in

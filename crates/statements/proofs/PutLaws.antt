@@ -77,9 +77,9 @@ giving-starts {S = S} {class = class} {saved = saved} {n = n} =
     record { inside = omega arith; environment = refl; heap = refl; long = refl; rest = rw z; back = undone-none class saved S }
 
 module _ {S Z : Cells} {class before saved : List ℤ} {n i : ℕ} {v : Value} (inv : Giving S Z class before saved n i v) where
-  pub giving-goes-on : {Y : Cells} {l : ℕ} {c : Cell} {after : List ℤ} → i < n → n ≤ 65 → 130 ≤ length before
+  pub giving-goes-on : {Y : Cells} {l : ℕ} {c : Cell} {after : List ℤ} → i < n → 2 * n ≤ length before
       → Lays Z Y l c saved after i → l ≡ numberAt class (2 * i) → c ≡ cellOf v → Giving S Y class before after n (i + 1) v
-  giving-goes-on {Y = Y} {l = l} {c = c} {after = after} more few room y e k =
+  giving-goes-on {Y = Y} {l = l} {c = c} {after = after} more room y e k =
       let z : n - i ≡ suc (n - (i + 1)) = omega arith in
       let u : suc i ≡ i + 1 = sym (add-one i) in
       let f : ℕ → ℕ = λ j. numberAt class (2 * j) in

@@ -134,6 +134,16 @@ module _ {program p ws e₀ h₀ c₀ e h c : List ℤ} {budget d n : ℕ} {t u 
           → Goes ws t (tables e′ h′ c′) (Ends number at w) (doBlock d program budget p (carries ws (tables e₀ h₀ c₀) t))
       row-halts k = let s = rw k at (g .grows) in goes-ends (ended g k) (omega (arith, inv .grows)) (rw k at row-turn)
 
+      -- the last one is run
+      pub row-quits : {w : Tally} → r ≡ On w → n ≤ i + 1 → Goes ws t (tables e′ h′ c′) (On w) (doBlock d program budget p (carries ws (tables e₀ h₀ c₀) t))
+      row-quits {w = w} k l =
+          let x = rw k at (g .grows) in
+          let z : n - (i + 1) ≡ 0 = omega arith in
+          let y : untoldOut (doStatements (λ s v. doBlock (d - 1) program budget s v) (d - 1) program budget (n - (i + 1)) (after (readStatement (d - 1) q)) (carries ws (tables e′ h′ c′) w))
+          ≡ untoldOut (doBlock d program budget p (carries ws (tables e₀ h₀ c₀) t)) = rw k at row-turn in
+          goes-on (went-on g k) (omega (arith, inv .grows))
+          (rw (z, statements-none (λ s v. doBlock (d - 1) program budget s v) (d - 1) program budget (after (readStatement (d - 1) q)) (carries ws (tables e′ h′ c′) w)) at y)
+
       pub row-goes-on : {w : Tally} {piece : Piece} → r ≡ On w → piece ≡ told (readStatement (d - 1) q) → SameLengths e h c e′ h′ c′
           → Row program p ws e₀ h₀ c₀ e′ h′ c′ budget d n t w (piece .left) (i + 1)
       row-goes-on {w = w} {piece = piece} k a s =

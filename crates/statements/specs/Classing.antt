@@ -38,6 +38,12 @@ pub record Classes (class : List ℤ) (r : Classed) (m : Res (List ℕ)) : Type 
   pub refuses : (a w : ℕ) → r ≡ Refuses a w → m ≡ stop (record { number = a; word = w })
   pub finds : (n : ℕ) → r ≡ Found n → Finds class n m
 
+-- the target, reached through its prefix, takes the value v, and then the value phase
+unfoldable pub givesTo : List ℤ → List ℤ → State → List ℤ → ℕ → List ℕ → Value → Res Left
+givesTo program p S ws target prefix v = do
+  Z ← identityPhase program (S .kept) (S .cells) (S .cells) p target prefix v
+  valuePhase program (S .kept) p target Z ws
+
 -- the L of the assignment at p takes the value v, and then the value phase
 unfoldable pub gives : List ℤ → List ℤ → State → List ℤ → Value → Res Left
 gives program p S ws v = do

@@ -206,7 +206,7 @@ fn run_while(
     }
 }
 
-// The block at p, nested at most d deep.
+// The block at p, nested at most d deep. Where its last statement ends is not read.
 fn run_block(
     program: &[i32],
     environment: &mut [i32],
@@ -251,9 +251,12 @@ fn run_block(
                 u = w;
             }
         }
+        i += 1;
+        if n <= i {
+            return Ran::On(u);
+        }
         let piece = program::blocks::read_statement(q, d - 1);
         left = piece.left;
-        i += 1;
     }
     Ran::On(u)
 }

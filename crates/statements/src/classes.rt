@@ -11,9 +11,8 @@ ghost use mathlib.Core.Path.{_≡_};
 ghost use mathlib.Core.Bool.{not, _||_};
 ghost use Prim.Native.Nat.{_<_, _≤_, _*_};
 ghost use lib.ListN.{length};
-ghost use Rattle.words.specs.Words.{numberAt};
 ghost use Rattle.tables.specs.Cells.{cells};
-ghost use Rattle.rules.specs.State.{slotAt, listed};
+ghost use Rattle.rules.specs.State.{slotAt};
 ghost use Rattle.rules.specs.Identities.{isNode, member, is};
 ghost use Rattle.statements.specs.Tying.{firstCells, EndsLow, Sides, Ties, Followed, marked, GrowsTie, Grows, GrowsAll, ClashFree, ListsTie, Lists};
 ghost use Rattle.statements.specs.Classing.{classFor, Classes};
@@ -285,7 +284,7 @@ fn is_fit(ends: &[i32], n: usize, target: usize, v: Value) -> bool
 }
 
 // The class of the target where ties are kept; `on` has its m prefix cells. 13, then 12.
-fn class_tied(
+pub(crate) fn class_tied(
     program: &[i32],
     environment: &[i32],
     heap: &[i32],
@@ -333,51 +332,18 @@ fn class_tied(
 }
 
 // The target is not one of its m prefix cells, or holds v.
-fn is_free(environment: &[i32], heap: &[i32], on: &[i32], m: usize, target: usize, v: Value) -> bool
+pub(crate) fn is_free(
+    environment: &[i32],
+    heap: &[i32],
+    on: &[i32],
+    m: usize,
+    target: usize,
+    v: Value,
+) -> bool
     ensures { λ r. ⌜ r ≡ (not (member target (firstCells (now (on .entry)) m)) || is (slotAt (cells (now (environment .entry)) (now (heap .entry))) target) v) ⌝ }
 {
     if !is_among(on, m, target) {
         return true;
     }
     holds(environment, heap, target, v)
-}
-
-// The class of the target, that is to take v.
-pub(crate) fn class_of(
-    program: &[i32],
-    environment: &[i32],
-    heap: &[i32],
-    constraints: &[i32],
-    on: &[i32],
-    m: usize,
-    target: usize,
-    v: Value,
-    class: &mut [i32],
-    p: &[i32],
-) -> Classed
-    requires { ⌜ m ≤ 7 ⌝ }
-    requires { ⌜ m ≤ length (now on) ⌝ }
-    requires { ⌜ target < 576 ⌝ }
-    requires { ⌜ 130 ≤ length (now class) ⌝ }
-    ensures { λ r. ⌜ Classes (now (class .exit)) r (classFor (now (program .entry)) (now (constraints .entry)) (cells (now (environment .entry)) (now (heap .entry))) (now (p .entry)) target (listed (numberAt (now (on .entry))) 0 m) v) ⌝ }
-{
-    if tables::kept::kept_count(constraints, Sort::Identities) != 0 {
-        return class_tied(
-            program,
-            environment,
-            heap,
-            constraints,
-            on,
-            m,
-            target,
-            v,
-            class,
-            p,
-        );
-    }
-    if !is_free(environment, heap, on, m, target, v) {
-        return Classed::Refuses(12, p.len());
-    }
-    words::store(class, 0, words::word_of(target));
-    Classed::Cells(1)
 }

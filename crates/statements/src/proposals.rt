@@ -105,7 +105,7 @@ fn entries_fit(
 // The cells of n pairs take their payloads; what was there is laid by.
 fn apply(environment: &mut [i32], heap: &mut [i32], pairs: &[i32], n: usize, saved: &mut [i32])
     requires { ⌜ n ≤ 576 ⌝ }
-    requires { ⌜ 1152 ≤ length (now saved) ⌝ }
+    requires { ⌜ 2 * n ≤ length (now saved) ⌝ }
     ensures { λ _. ⌜ Applies (cells (now (environment .entry)) (now (heap .entry))) (cells (now (environment .exit)) (now (heap .exit))) (now (pairs .entry)) (now (saved .exit)) n ⌝ }
 {
     let mut i: usize = 0;
@@ -122,6 +122,46 @@ fn apply(environment: &mut [i32], heap: &mut [i32], pairs: &[i32], n: usize, sav
 }
 
 // The parts that count, once n pairs are applied: 15, 19. The tables are as they were where it refuses.
+fn try_saving(
+    program: &[i32],
+    environment: &mut [i32],
+    heap: &mut [i32],
+    constraints: &[i32],
+    proposals: &[i32],
+    n: usize,
+    p: &[i32],
+    owns: bool,
+    saved: &mut [i32],
+) -> Settled
+    requires { ⌜ n ≤ 576 ⌝ }
+    requires { ⌜ 2 * n ≤ length (now saved) ⌝ }
+    ensures { λ r. ⌜ Settles (cells (now (environment .entry)) (now (heap .entry))) (cells (now (environment .exit)) (now (heap .exit))) r (tried (now (program .entry)) (now (constraints .entry)) (ownOf owns (drop 1 (now (p .entry)))) (now (p .entry)) (cells (now (environment .entry)) (now (heap .entry))) (entriesIn (drop 1 (now (proposals .entry))) n) (drop (1 + 2 * n) (now (proposals .entry)))) ⌝ }
+{
+    let pairs = words::part_from(proposals, 1);
+    apply(environment, heap, pairs, n, saved);
+    match expressions::constraints::counted_at(
+        program,
+        environment,
+        heap,
+        constraints,
+        words::part_from(p, 1),
+        owns,
+    ) {
+        Weighed::Fails(number, at) => {
+            put_back(environment, heap, pairs, n, saved);
+            Settled::Refuses(number, at)
+        }
+        Weighed::Reads(_, required) => {
+            if !required {
+                put_back(environment, heap, pairs, n, saved);
+                return Settled::Refuses(19, p.len());
+            }
+            Settled::Takes(words::less(proposals.len(), 1 + 2 * n))
+        }
+    }
+}
+
+// As try_saving; the cells of a few pairs are laid by in a few words.
 fn try_pairs(
     program: &[i32],
     environment: &mut [i32],
@@ -135,29 +175,32 @@ fn try_pairs(
     requires { ⌜ n ≤ 576 ⌝ }
     ensures { λ r. ⌜ Settles (cells (now (environment .entry)) (now (heap .entry))) (cells (now (environment .exit)) (now (heap .exit))) r (tried (now (program .entry)) (now (constraints .entry)) (ownOf owns (drop 1 (now (p .entry)))) (now (p .entry)) (cells (now (environment .entry)) (now (heap .entry))) (entriesIn (drop 1 (now (proposals .entry))) n) (drop (1 + 2 * n) (now (proposals .entry)))) ⌝ }
 {
+    if n <= 8 {
+        let mut few: [i32; 16] = [0; 16];
+        return try_saving(
+            program,
+            environment,
+            heap,
+            constraints,
+            proposals,
+            n,
+            p,
+            owns,
+            &mut few,
+        );
+    }
     let mut saved: [i32; 1152] = [0; 1152];
-    let pairs = words::part_from(proposals, 1);
-    apply(environment, heap, pairs, n, &mut saved);
-    match expressions::constraints::counted_at(
+    try_saving(
         program,
         environment,
         heap,
         constraints,
-        words::part_from(p, 1),
+        proposals,
+        n,
+        p,
         owns,
-    ) {
-        Weighed::Fails(number, at) => {
-            put_back(environment, heap, pairs, n, &saved);
-            Settled::Refuses(number, at)
-        }
-        Weighed::Reads(_, required) => {
-            if !required {
-                put_back(environment, heap, pairs, n, &saved);
-                return Settled::Refuses(19, p.len());
-            }
-            Settled::Takes(words::less(proposals.len(), 1 + 2 * n))
-        }
-    }
+        &mut saved,
+    )
 }
 
 // A proposal of n pairs, where all parts that count are satisfied or not, and the required ones.

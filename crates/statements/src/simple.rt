@@ -34,7 +34,7 @@ fn assign(
     let q = words::part_from(p, 1);
     let path = program::reading::read_path(q);
     let e = words::part_last(q, path.left);
-    match expressions::values::evaluate_at(environment, heap, e, program::EXPRESSION_DEPTH) {
+    match expressions::values::find_value(environment, heap, e) {
         Evaluated::Fails(number, word) => Done::Refused(number, word),
         Evaluated::Got(v, _) => give(program, environment, heap, constraints, proposals, p, v),
     }
@@ -54,12 +54,7 @@ fn field_words(environment: &[i32], heap: &[i32], p: &[i32], n: usize, fields: &
         if tables::LABELS <= label {
             return Fields::Fails(2, q.len());
         }
-        match expressions::values::evaluate_at(
-            environment,
-            heap,
-            words::part_from(q, 1),
-            program::EXPRESSION_DEPTH,
-        ) {
+        match expressions::values::find_value(environment, heap, words::part_from(q, 1)) {
             Evaluated::Fails(number, word) => {
                 return Fields::Fails(number, word);
             }

@@ -6,13 +6,13 @@ use Rattle.compared.proofs.answers.compared_expression.Reads as reads
 use Rattle.compared.proofs.answers.compared_expression.Lts as lts
 use Rattle.compared.proofs.answers.refuse.Reads as refuse-reads
 use Rattle.compared.proofs.answers.tell.Reads as tell-reads
-use Rattle.expressions.proofs.values.evaluate_at.Reads as evaluate-at-reads
+use Rattle.expressions.proofs.values.find_value.Reads as find-value-reads
 use Rattle.tables.proofs.cells.cell_of.Reads as cell-of-reads
 use Rattle.words.proofs.word_of.Reads as word-of-reads
 
 -- src/answers.rt:73:11
-evaluate-at-requires : tie.Need-evaluate-at-requires
-evaluate-at-requires c κs = search needs
+find-value-requires : tie.Need-find-value-requires
+find-value-requires c κs = search needs
 
 -- src/answers.rt:74:24
 enum-known-v : tie.Need-enum-known-v
@@ -48,7 +48,7 @@ returns c =
     let k = back32 (c .before .before .before .before .before .before .cell-of .result .kind) (record { sfits = c .before .before .before .struct-told .given .0 .1 }) in
     let p = back32 (c .before .before .before .before .before .before .cell-of .result .payload) (record { sfits = c .before .before .before .struct-told .given .1 .0 .1 }) in
     let w = back32 (c .before .before .before .before .word-of .result) (record { sfits = c .before .before .before .before .word-of .ok }) in
-    rw (← (c .before .before .before .before .before .before .before .before .before .before .evaluate-at .ensures), c .before .before .before .before .before .before .before .before .v .given .1) cc
+    rw (← (c .before .before .before .before .before .before .before .before .before .before .find-value .ensures), c .before .before .before .before .before .before .before .before .v .given .1) cc
 
 -- src/answers.rt:64:1
 same-length-2 : tie.Need-same-length-2
@@ -56,13 +56,13 @@ same-length-2 c = search needs
 
 -- src/answers.rt:64:1
 returns-2 : tie.Need-returns-2
-returns-2 c = rw (← (c .before .before .before .before .before .before .evaluate-at .ensures), c .before .before .before .before .number .given .1) (c .before .refuse .ensures)
+returns-2 c = rw (← (c .before .before .before .before .before .before .find-value .ensures), c .before .before .before .before .number .given .1) (c .before .refuse .ensures)
 
 pub compared-expression-spec : {M : Type 1} → statement M
 compared-expression-spec =
     tie.close
     (tie.spec
-    evaluate-at-requires
+    find-value-requires
     enum-known-v
     cell-of-requires
     word-of-requires

@@ -10,11 +10,11 @@ use Rattle.expressions.proofs.testing.test_at.Reads as reads
 use Rattle.expressions.proofs.testing.test_at.Lts as lts
 use Rattle.expressions.proofs.operators.bool_of.Reads as bool-of-reads
 use Rattle.expressions.proofs.operators.kind.Reads as kind-reads
-use Rattle.expressions.proofs.values.evaluate_at.Reads as evaluate-at-reads
+use Rattle.expressions.proofs.values.find_value.Reads as find-value-reads
 
 -- src/testing.rt:16:11
-evaluate-at-requires : tie.Need-evaluate-at-requires
-evaluate-at-requires c κs = search needs
+find-value-requires : tie.Need-find-value-requires
+find-value-requires c κs = search needs
 
 -- src/testing.rt:17:24
 enum-known-v : tie.Need-enum-known-v
@@ -26,7 +26,7 @@ kind-requires c κs = search needs
 
 -- src/testing.rt:19:17
 returns : tie.Need-returns
-returns c = rw (no-bool (kindOf (c .before .before .before .v .given .0 .0)) (λ e. c .if1 .taken (c .before .kind .ensures ∙ e))) at (test-comes (cells (c .before .before .before .before .before .before .args .environment .now) (c .before .before .before .before .before .before .args .heap .now)) (c .before .before .before .before .before .before .args .p .now) (c .before .before .before .before .before .evaluate-at .ensures) (c .before .before .before .v .given .1))
+returns c = rw (no-bool (kindOf (c .before .before .before .v .given .0 .0)) (λ e. c .if1 .taken (c .before .kind .ensures ∙ e))) at (test-comes (cells (c .before .before .before .before .before .before .args .environment .now) (c .before .before .before .before .before .before .args .heap .now)) (c .before .before .before .before .before .before .args .p .now) (c .before .before .before .before .before .find-value .ensures) (c .before .before .before .v .given .1))
 
 -- src/testing.rt:21:24
 bool-of-requires : tie.Need-bool-of-requires
@@ -38,17 +38,17 @@ enum-known-number c = search needs
 
 -- src/testing.rt:13:1
 returns-2 : tie.Need-returns-2
-returns-2 c = rw (c .bool-of .ensures) (rw (a-bool (kindOf (c .before .before .before .before .v .given .0 .0)) (sym (c .before .before .kind .ensures) ∙ c .before .if1 .left)) at (test-comes (cells (c .before .before .before .before .before .before .before .args .environment .now) (c .before .before .before .before .before .before .before .args .heap .now)) (c .before .before .before .before .before .before .before .args .p .now) (c .before .before .before .before .before .before .evaluate-at .ensures) (c .before .before .before .before .v .given .1)))
+returns-2 c = rw (c .bool-of .ensures) (rw (a-bool (kindOf (c .before .before .before .before .v .given .0 .0)) (sym (c .before .before .kind .ensures) ∙ c .before .if1 .left)) at (test-comes (cells (c .before .before .before .before .before .before .before .args .environment .now) (c .before .before .before .before .before .before .before .args .heap .now)) (c .before .before .before .before .before .before .before .args .p .now) (c .before .before .before .before .before .before .find-value .ensures) (c .before .before .before .before .v .given .1)))
 
 -- src/testing.rt:13:1
 returns-3 : tie.Need-returns-3
-returns-3 c = test-fails (cells (c .before .before .before .before .args .environment .now) (c .before .before .before .before .args .heap .now)) (c .before .before .before .before .args .p .now) (c .before .before .before .evaluate-at .ensures) (c .before .number .given .1)
+returns-3 c = test-fails (cells (c .before .before .before .before .args .environment .now) (c .before .before .before .before .args .heap .now)) (c .before .before .before .before .args .p .now) (c .before .before .before .find-value .ensures) (c .before .number .given .1)
 
 pub test-at-spec : {M : Type 1} → statement M
 test-at-spec =
     tie.close
     (tie.spec
-    evaluate-at-requires
+    find-value-requires
     enum-known-v
     kind-requires
     returns

@@ -5,7 +5,7 @@ use borrow.Author.Needs.{needs}
 use borrow.Author.Tests.{not-true, not-false}
 use Rattle.expressions.specs.declared.Tested.the-variants.{Is}
 use Rattle.statements.specs.Told.{tables}
-use Rattle.statements.proofs.RunLaws.{past-test, past-block, block-deep, block-long, Row, row-starts, row-halts, row-goes-on, row-ends, if-refused, if-first, if-second}
+use Rattle.statements.proofs.RunLaws.{past-test, past-block, block-deep, block-long, Row, row-starts, row-halts, row-quits, row-goes-on, row-ends, if-refused, if-first, if-second}
 use Rattle.statements.proofs.RunLaws.{Turning, turning-starts, turning-refused, turning-quits, turning-halts, turning-broke, turning-less, turning-again, begins-one, statement-broke, statement-if, statement-while, simple-few, statement-simple}
 use Prim.Native.Nat.{ℕ, _<_}
 use borrow.Fn.Kinds.{In}
@@ -215,17 +215,33 @@ run-block-returns-3 t c = row-halts (c .before .before .before .before .before .
 run-block-enum-known-w : (t : ℕ) → run-block-lts.Need-enum-known-w (run-block-calls t) (run-block-at t) run-block.Post run-block-Inv-loop run-block-μ-loop
 run-block-enum-known-w t c = search needs
 
--- src/blocks.rt:254:56
+-- src/blocks.rt:254:9
+run-block-add-i : (t : ℕ) → run-block-lts.Need-add-i (run-block-calls t) (run-block-at t) run-block.Post run-block-Inv-loop run-block-μ-loop
+run-block-add-i t c = search needs
+
+-- src/blocks.rt:256:13
+run-block-same-length-4 : (t : ℕ) → run-block-lts.Need-same-length-4 (run-block-calls t) (run-block-at t) run-block.Post run-block-Inv-loop run-block-μ-loop
+run-block-same-length-4 t c = search needs
+
+-- src/blocks.rt:256:13
+run-block-same-length-5 : (t : ℕ) → run-block-lts.Need-same-length-5 (run-block-calls t) (run-block-at t) run-block.Post run-block-Inv-loop run-block-μ-loop
+run-block-same-length-5 t c = search needs
+
+-- src/blocks.rt:256:13
+run-block-same-length-6 : (t : ℕ) → run-block-lts.Need-same-length-6 (run-block-calls t) (run-block-at t) run-block.Post run-block-Inv-loop run-block-μ-loop
+run-block-same-length-6 t c = search needs
+
+-- src/blocks.rt:256:13
+run-block-returns-4 : (t : ℕ) → run-block-lts.Need-returns-4 (run-block-calls t) (run-block-at t) run-block.Post run-block-Inv-loop run-block-μ-loop
+run-block-returns-4 t c = row-quits (c .before .before .before .before .before .before .before .before .before .before .before .before .before .loop .inv) (c .before .before .before .before .before .before .before .before .before .before .before .before .loop-test .taken) (c .before .before .before .before .before .before .before .before .before .before .before .part-last .ensures) (c .before .before .before .before .before .before .before .run-statement .ensures) (c .before .before .w .given .1) (c .if3 .taken)
+
+-- src/blocks.rt:258:56
 run-block-sub-read-statement : (t : ℕ) → run-block-lts.Need-sub-read-statement (run-block-calls t) (run-block-at t) run-block.Post run-block-Inv-loop run-block-μ-loop
 run-block-sub-read-statement t c = search needs
 
--- src/blocks.rt:254:13
+-- src/blocks.rt:258:13
 run-block-read-statement-requires : (t : ℕ) → run-block-lts.Need-read-statement-requires (run-block-calls t) (run-block-at t) run-block.Post run-block-Inv-loop run-block-μ-loop
 run-block-read-statement-requires t c κs = search needs
-
--- src/blocks.rt:256:9
-run-block-add-i : (t : ℕ) → run-block-lts.Need-add-i (run-block-calls t) (run-block-at t) run-block.Post run-block-Inv-loop run-block-μ-loop
-run-block-add-i t c = search needs
 
 -- src/blocks.rt:234:5
 run-block-loop-less : (t : ℕ) → run-block-lts.Need-loop-less (run-block-calls t) (run-block-at t) run-block.Post run-block-Inv-loop run-block-μ-loop
@@ -233,23 +249,23 @@ run-block-loop-less t c = search needs
 
 -- src/blocks.rt:234:5
 run-block-loop-again : (t : ℕ) → run-block-lts.Need-loop-again (run-block-calls t) (run-block-at t) run-block.Post run-block-Inv-loop run-block-μ-loop
-run-block-loop-again t c = row-goes-on (c .before .before .before .before .before .before .before .before .before .before .before .before .before .loop .inv) (c .before .before .before .before .before .before .before .before .before .before .before .before .loop-test .taken) (c .before .before .before .before .before .before .before .before .before .before .before .part-last .ensures) (c .before .before .before .before .before .before .before .run-statement .ensures) (c .before .before .w .given .1) (c .read-statement .ensures) (record { environment = c .before .before .before .before .before .before .before .run-statement .kept .1 .0; heap = c .before .before .before .before .before .before .before .run-statement .kept .1 .1 .0; constraints = c .before .before .before .before .before .before .before .run-statement .kept .1 .1 .1 .0 })
+run-block-loop-again t c = row-goes-on (c .before .before .before .before .before .before .before .before .before .before .before .before .before .before .loop .inv) (c .before .before .before .before .before .before .before .before .before .before .before .before .before .loop-test .taken) (c .before .before .before .before .before .before .before .before .before .before .before .before .part-last .ensures) (c .before .before .before .before .before .before .before .before .run-statement .ensures) (c .before .before .before .w .given .1) (c .read-statement .ensures) (record { environment = c .before .before .before .before .before .before .before .before .run-statement .kept .1 .0; heap = c .before .before .before .before .before .before .before .before .run-statement .kept .1 .1 .0; constraints = c .before .before .before .before .before .before .before .before .run-statement .kept .1 .1 .1 .0 })
 
 -- src/blocks.rt:210:1
-run-block-same-length-4 : (t : ℕ) → run-block-lts.Need-same-length-4 (run-block-calls t) (run-block-at t) run-block.Post run-block-Inv-loop run-block-μ-loop
-run-block-same-length-4 t c = search needs
+run-block-same-length-7 : (t : ℕ) → run-block-lts.Need-same-length-7 (run-block-calls t) (run-block-at t) run-block.Post run-block-Inv-loop run-block-μ-loop
+run-block-same-length-7 t c = search needs
 
 -- src/blocks.rt:210:1
-run-block-same-length-5 : (t : ℕ) → run-block-lts.Need-same-length-5 (run-block-calls t) (run-block-at t) run-block.Post run-block-Inv-loop run-block-μ-loop
-run-block-same-length-5 t c = search needs
+run-block-same-length-8 : (t : ℕ) → run-block-lts.Need-same-length-8 (run-block-calls t) (run-block-at t) run-block.Post run-block-Inv-loop run-block-μ-loop
+run-block-same-length-8 t c = search needs
 
 -- src/blocks.rt:210:1
-run-block-same-length-6 : (t : ℕ) → run-block-lts.Need-same-length-6 (run-block-calls t) (run-block-at t) run-block.Post run-block-Inv-loop run-block-μ-loop
-run-block-same-length-6 t c = search needs
+run-block-same-length-9 : (t : ℕ) → run-block-lts.Need-same-length-9 (run-block-calls t) (run-block-at t) run-block.Post run-block-Inv-loop run-block-μ-loop
+run-block-same-length-9 t c = search needs
 
 -- src/blocks.rt:210:1
-run-block-returns-4 : (t : ℕ) → run-block-lts.Need-returns-4 (run-block-calls t) (run-block-at t) run-block.Post run-block-Inv-loop run-block-μ-loop
-run-block-returns-4 t c = row-ends (c .before .loop .inv) (c .loop-test .left)
+run-block-returns-5 : (t : ℕ) → run-block-lts.Need-returns-5 (run-block-calls t) (run-block-at t) run-block.Post run-block-Inv-loop run-block-μ-loop
+run-block-returns-5 t c = row-ends (c .before .loop .inv) (c .loop-test .left)
 
 -- src/blocks.rt:114:9
 run-if-part-from-requires : (t : ℕ) → run-if-lts.Need-part-from-requires (run-if-calls t) (run-if-at t) run-if.Post
@@ -583,15 +599,19 @@ pub +run-block+run-if+run-statement+run-while-spec : {M : Type 1} → statement 
     (run-block-same-length-3 t)
     (run-block-returns-3 t)
     (run-block-enum-known-w t)
-    (run-block-sub-read-statement t)
-    (run-block-read-statement-requires t)
     (run-block-add-i t)
-    (run-block-loop-less t)
-    (run-block-loop-again t)
     (run-block-same-length-4 t)
     (run-block-same-length-5 t)
     (run-block-same-length-6 t)
-    (run-block-returns-4 t))
+    (run-block-returns-4 t)
+    (run-block-sub-read-statement t)
+    (run-block-read-statement-requires t)
+    (run-block-loop-less t)
+    (run-block-loop-again t)
+    (run-block-same-length-7 t)
+    (run-block-same-length-8 t)
+    (run-block-same-length-9 t)
+    (run-block-returns-5 t))
     (λ t. run-if-lts.spec (
       part-from-reads.Asked,
       part-from-reads.Learnt,

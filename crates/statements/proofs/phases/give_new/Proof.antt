@@ -1,82 +1,61 @@
-use Rattle.statements.proofs.PhaseLaws.{does-same, new-full, new-clash, new-moves}
+use Rattle.statements.proofs.PhaseLaws.{new-full}
 use borrow.Author.Needs.{needs}
 use Rattle.statements.proofs.phases.give_new.Statement.{statement}
 use Rattle.statements.proofs.phases.give_new.Tie as tie
 use Rattle.statements.proofs.phases.give_new.Reads as reads
 use Rattle.statements.proofs.phases.give_new.Lts as lts
-use Rattle.statements.proofs.classes.class_of.Reads as class-of-reads
-use Rattle.statements.proofs.phases.move_new.Reads as move-new-reads
+use Rattle.statements.proofs.phases.new_alone.Reads as new-alone-reads
+use Rattle.statements.proofs.phases.new_tied.Reads as new-tied-reads
+use Rattle.tables.proofs.kept.kept_count.Reads as kept-count-reads
 use Rattle.tables.proofs.records.record_count.Reads as record-count-reads
 
--- src/phases.rt:190:9
+-- src/phases.rt:376:27
 record-count-requires : tie.Need-record-count-requires
 record-count-requires c κs = search needs
 
--- src/phases.rt:192:9
+-- src/phases.rt:377:9
 same-length : tie.Need-same-length
 same-length c = search needs
 
--- src/phases.rt:192:9
+-- src/phases.rt:377:9
 returns : tie.Need-returns
 returns c = new-full (c .before .before .before .args .program .now) (c .before .before .before .args .p .now) (c .before .before .before .args .constraints .now) (c .before .before .before .args .proposals .now) (c .before .before .before .args .environment .now) (c .before .before .before .args .heap .now) (c .before .before .before .args .x) (c .before .before .before .args .fields .now) (c .before .before .before .args .n) (rw (c .before .record-count .ensures) at (c .if1 .taken))
 
--- src/phases.rt:201:9
-slice-aggregate-class-of : tie.Need-slice-aggregate-class-of
-slice-aggregate-class-of c = search needs
+-- src/phases.rt:379:8
+kept-count-requires : tie.Need-kept-count-requires
+kept-count-requires c κs = search needs
 
--- src/phases.rt:205:9
-slice-aggregate-class-of-2 : tie.Need-slice-aggregate-class-of-2
-slice-aggregate-class-of-2 c = search needs
+-- src/phases.rt:380:9
+new-alone-requires : tie.Need-new-alone-requires
+new-alone-requires c κs = search needs
 
--- src/phases.rt:196:11
-class-of-requires : tie.Need-class-of-requires
-class-of-requires c κs = search needs
-
--- src/phases.rt:208:26
-enum-known-a : tie.Need-enum-known-a
-enum-known-a c = search needs
-
--- src/phases.rt:209:24
-enum-known-count : tie.Need-enum-known-count
-enum-known-count c = search needs
-
--- src/phases.rt:215:13
-slice-aggregate-move-new : tie.Need-slice-aggregate-move-new
-slice-aggregate-move-new c = search needs
-
--- src/phases.rt:209:34
-move-new-requires : tie.Need-move-new-requires
-move-new-requires c κs = c .before .before .before .before .before .before .before .class-of .ensures .finds _ (c .before .before .before .before .count .given .1) .few
-
--- src/phases.rt:175:1
+-- src/phases.rt:380:9
 same-length-2 : tie.Need-same-length-2
 same-length-2 c = search needs
 
--- src/phases.rt:175:1
+-- src/phases.rt:380:9
 same-length-3 : tie.Need-same-length-3
 same-length-3 c = search needs
 
--- src/phases.rt:175:1
+-- src/phases.rt:380:9
 returns-2 : tie.Need-returns-2
-returns-2 c =
-    new-clash (c .before .before .before .before .before .before .before .before .before .before .before .before .args .program .now) (c .before .before .before .before .before .before .before .before .before .before .before .before .args .p .now) (c .before .before .before .before .before .before .before .before .before .before .before .before .args .constraints .now) (c .before .before .before .before .before .before .before .before .before .before .before .before .args .proposals .now) (c .before .before .before .before .before .before .before .before .before .before .before .before .args .environment .now) (c .before .before .before .before .before .before .before .before .before .before .before .before .args .heap .now) (c .before .before .before .before .before .before .before .before .before .before .before .before .args .x) (c .before .before .before .before .before .before .before .before .before .before .before .before .args .fields .now) (c .before .before .before .before .before .before .before .before .before .before .before .before .args .n) (rw (c .before .before .before .before .before .before .before .before .before .before .record-count .ensures) at (c .before .before .before .before .before .before .before .before .before .if1 .left)) _
-    (rw (c .before .before .before .before .before .before .before .before .before .before .record-count .ensures) at (c .before .before .before .before .class-of .ensures)) (c .before .a .given .1)
+returns-2 c = c .before .before .new-alone .ensures
 
--- src/phases.rt:175:1
+-- src/phases.rt:392:5
+new-tied-requires : tie.Need-new-tied-requires
+new-tied-requires c κs = search needs
+
+-- src/phases.rt:361:1
 same-length-4 : tie.Need-same-length-4
 same-length-4 c = search needs
 
--- src/phases.rt:175:1
+-- src/phases.rt:361:1
 same-length-5 : tie.Need-same-length-5
 same-length-5 c = search needs
 
--- src/phases.rt:175:1
+-- src/phases.rt:361:1
 returns-3 : tie.Need-returns-3
-returns-3 c =
-    does-same
-    (new-moves (c .before .before .before .before .before .before .before .before .before .before .before .before .before .before .before .before .before .before .args .program .now) (c .before .before .before .before .before .before .before .before .before .before .before .before .before .before .before .before .before .before .args .p .now) (c .before .before .before .before .before .before .before .before .before .before .before .before .before .before .before .before .before .before .args .constraints .now) (c .before .before .before .before .before .before .before .before .before .before .before .before .before .before .before .before .before .before .args .proposals .now) (c .before .before .before .before .before .before .before .before .before .before .before .before .before .before .before .before .before .before .args .environment .now) (c .before .before .before .before .before .before .before .before .before .before .before .before .before .before .before .before .before .before .args .heap .now) (c .before .before .before .before .before .before .before .before .before .before .before .before .before .before .before .before .before .before .args .x) (c .before .before .before .before .before .before .before .before .before .before .before .before .before .before .before .before .before .before .args .fields .now) (c .before .before .before .before .before .before .before .before .before .before .before .before .before .before .before .before .before .before .args .n) (rw (c .before .before .before .before .before .before .before .before .before .before .before .before .before .before .before .before .record-count .ensures) at (c .before .before .before .before .before .before .before .before .before .before .before .before .before .before .before .if1 .left)) _
-    (rw (c .before .before .before .before .before .before .before .before .before .before .before .before .before .before .before .before .record-count .ensures) at (c .before .before .before .before .before .before .before .before .before .before .class-of .ensures)) (c .before .before .before .before .before .before .before .count .given .1))
-    (c .before .before .move-new .ensures)
+returns-3 c = c .before .before .new-tied .ensures
 
 pub give-new-spec : {M : Type 1} → statement M
 give-new-spec =
@@ -85,16 +64,12 @@ give-new-spec =
     record-count-requires
     same-length
     returns
-    slice-aggregate-class-of
-    slice-aggregate-class-of-2
-    class-of-requires
-    enum-known-a
-    enum-known-count
-    slice-aggregate-move-new
-    move-new-requires
+    kept-count-requires
+    new-alone-requires
     same-length-2
     same-length-3
     returns-2
+    new-tied-requires
     same-length-4
     same-length-5
     returns-3)

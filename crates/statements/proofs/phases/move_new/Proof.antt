@@ -1,80 +1,87 @@
 use Rattle.statements.proofs.PhaseLaws.{new-accepts, new-back}
 use native.Mathlib.Omega.{arith}
-use Rattle.statements.proofs.PhaseLaws.{new-back}
 use borrow.Author.Needs.{needs}
 use Rattle.statements.proofs.phases.move_new.Statement.{statement}
 use Rattle.statements.proofs.phases.move_new.Tie as tie
 use Rattle.statements.proofs.phases.move_new.Reads as reads
 use Rattle.statements.proofs.phases.move_new.Lts as lts
 use Rattle.statements.proofs.phases.move_class.Reads as move-class-reads
+use Rattle.tables.proofs.records.add_record.Reads as add-record-reads
 use Rattle.tables.proofs.records.bring_back.Reads as bring-back-reads
 use Rattle.tables.proofs.records.lay_by.Reads as lay-by-reads
-use Rattle.tables.proofs.records.add_record.Reads as add-record-reads
 use Rattle.tables.proofs.records.record_count.Reads as record-count-reads
 
--- src/phases.rt:150:24
+-- src/phases.rt:247:24
 record-count-requires : tie.Need-record-count-requires
 record-count-requires c κs = search needs
 
--- src/phases.rt:152:35
+-- src/phases.rt:249:35
 slice-aggregate-lay-by : tie.Need-slice-aggregate-lay-by
 slice-aggregate-lay-by c = search needs
 
--- src/phases.rt:152:5
+-- src/phases.rt:249:5
 lay-by-requires : tie.Need-lay-by-requires
 lay-by-requires c κs = search needs
 
--- src/phases.rt:153:5
+-- src/phases.rt:250:5
 add-record-requires : tie.Need-add-record-requires
 add-record-requires c κs = search needs
 
--- src/phases.rt:154:11
+-- src/phases.rt:251:11
 move-class-requires : tie.Need-move-class-requires
 move-class-requires c κs = search needs
 
--- src/phases.rt:166:24
+-- src/phases.rt:264:24
 enum-known-left : tie.Need-enum-known-left
 enum-known-left c = search needs
 
--- src/phases.rt:167:23
+-- src/phases.rt:265:23
 enum-known-number : tie.Need-enum-known-number
 enum-known-number c = search needs
 
--- src/phases.rt:168:47
+-- src/phases.rt:266:47
 slice-aggregate-bring-back : tie.Need-slice-aggregate-bring-back
 slice-aggregate-bring-back c = search needs
 
--- src/phases.rt:168:13
+-- src/phases.rt:266:13
 bring-back-requires : tie.Need-bring-back-requires
 bring-back-requires c κs = search needs
 
--- src/phases.rt:134:1
+-- src/phases.rt:229:1
 same-length : tie.Need-same-length
 same-length c = search needs
 
--- src/phases.rt:134:1
+-- src/phases.rt:229:1
 same-length-2 : tie.Need-same-length-2
 same-length-2 c = search needs
 
--- src/phases.rt:134:1
-returns : tie.Need-returns
-returns c =
-    new-accepts (c .before .before .before .before .before .before .before .before .before .before .before .before .before .before .before .before .before .args .program .now) (c .before .before .before .before .before .before .before .before .before .before .before .before .before .before .before .before .before .args .p .now) (c .before .before .before .before .before .before .before .before .before .before .before .before .before .before .before .before .before .args .constraints .now) (c .before .before .before .before .before .before .before .before .before .before .before .before .before .before .before .before .before .args .proposals .now) (c .before .before .before .before .before .before .before .before .before .before .before .before .before .before .before .before .before .args .environment .now) (c .before .before .before .before .before .before .before .before .before .before .before .before .before .before .before .before .before .args .heap .now) (c .before .before .before .before .before .before .before .before .before .before .before .before .before .before .before .before .before .args .fields .now) (c .before .before .before .before .before .before .before .before .before .before .before .before .before .before .before .before .before .args .class .now) (c .before .before .before .before .before .before .before .before .before .before .before .before .before .before .before .before .before .args .n) (c .before .before .before .before .before .before .before .before .before .before .before .before .before .before .before .before .before .args .x) (c .before .before .before .before .before .before .before .before .before .before .before .before .before .before .before .before .before .args .count)
-    (c .before .before .before .before .before .before .before .before .before .add-record .ensures) (c .before .before .before .before .before .before .before .before .before .before .before .before .before .before .before .record-count .ensures) (c .before .before .before .before .before .move-class .ensures) (c .before .left .given .1)
-
--- src/phases.rt:134:1
+-- src/phases.rt:229:1
 same-length-3 : tie.Need-same-length-3
 same-length-3 c = search needs
 
--- src/phases.rt:134:1
+-- src/phases.rt:229:1
+returns : tie.Need-returns
+returns c =
+    new-accepts (c .before .before .before .before .before .before .before .before .before .before .before .before .before .before .before .before .before .before .before .args .program .now) (c .before .before .before .before .before .before .before .before .before .before .before .before .before .before .before .before .before .before .before .args .p .now) (c .before .before .before .before .before .before .before .before .before .before .before .before .before .before .before .before .before .before .before .args .constraints .now) (c .before .before .before .before .before .before .before .before .before .before .before .before .before .before .before .before .before .before .before .args .proposals .now) (c .before .before .before .before .before .before .before .before .before .before .before .before .before .before .before .before .before .before .before .args .environment .now) (c .before .before .before .before .before .before .before .before .before .before .before .before .before .before .before .before .before .before .before .args .heap .now) (c .before .before .before .before .before .before .before .before .before .before .before .before .before .before .before .before .before .before .before .args .fields .now) (c .before .before .before .before .before .before .before .before .before .before .before .before .before .before .before .before .before .before .before .args .class .now) (c .before .before .before .before .before .before .before .before .before .before .before .before .before .before .before .before .before .before .before .args .n) (c .before .before .before .before .before .before .before .before .before .before .before .before .before .before .before .before .before .before .before .args .x) (c .before .before .before .before .before .before .before .before .before .before .before .before .before .before .before .before .before .before .before .args .count)
+    (c .before .before .before .before .before .before .before .before .before .before .before .add-record .ensures) (c .before .before .before .before .before .before .before .before .before .before .before .before .before .before .before .before .before .record-count .ensures) (c .before .before .before .before .before .before .move-class .ensures) (c .before .left .given .1)
+
+-- src/phases.rt:229:1
 same-length-4 : tie.Need-same-length-4
 same-length-4 c = search needs
 
--- src/phases.rt:134:1
+-- src/phases.rt:229:1
+same-length-5 : tie.Need-same-length-5
+same-length-5 c = search needs
+
+-- src/phases.rt:229:1
+same-length-6 : tie.Need-same-length-6
+same-length-6 c = search needs
+
+-- src/phases.rt:229:1
 returns-2 : tie.Need-returns-2
 returns-2 c =
-    new-back (c .before .before .before .before .before .before .before .before .before .before .before .before .before .before .before .before .before .before .before .before .before .args .program .now) (c .before .before .before .before .before .before .before .before .before .before .before .before .before .before .before .before .before .before .before .before .before .args .p .now) (c .before .before .before .before .before .before .before .before .before .before .before .before .before .before .before .before .before .before .before .before .before .args .constraints .now) (c .before .before .before .before .before .before .before .before .before .before .before .before .before .before .before .before .before .before .before .before .before .args .proposals .now) (c .before .before .before .before .before .before .before .before .before .before .before .before .before .before .before .before .before .before .before .before .before .args .environment .now) (c .before .before .before .before .before .before .before .before .before .before .before .before .before .before .before .before .before .before .before .before .before .args .heap .now) (c .before .before .before .before .before .before .before .before .before .before .before .before .before .before .before .before .before .before .before .before .before .args .fields .now) (c .before .before .before .before .before .before .before .before .before .before .before .before .before .before .before .before .before .before .before .before .before .args .class .now) (c .before .before .before .before .before .before .before .before .before .before .before .before .before .before .before .before .before .before .before .before .before .args .n) (c .before .before .before .before .before .before .before .before .before .before .before .before .before .before .before .before .before .before .before .before .before .args .x) (c .before .before .before .before .before .before .before .before .before .before .before .before .before .before .before .before .before .before .before .before .before .args .count)
-    (c .before .before .before .before .before .before .before .before .before .before .before .before .before .add-record .ensures) (c .before .before .before .before .before .before .before .before .before .before .before .before .before .before .before .before .before .before .before .record-count .ensures) (c .before .before .before .before .before .before .before .before .before .move-class .ensures) _ (omega arith) (c .before .before .before .before .before .before .before .before .before .before .before .before .before .before .before .before .lay-by .ensures) (c .before .before .before .before .before .number .given .1) (c .before .bring-back .ensures)
+    new-back (c .before .before .before .before .before .before .before .before .before .before .before .before .before .before .before .before .before .before .before .before .before .before .before .args .program .now) (c .before .before .before .before .before .before .before .before .before .before .before .before .before .before .before .before .before .before .before .before .before .before .before .args .p .now) (c .before .before .before .before .before .before .before .before .before .before .before .before .before .before .before .before .before .before .before .before .before .before .before .args .constraints .now) (c .before .before .before .before .before .before .before .before .before .before .before .before .before .before .before .before .before .before .before .before .before .before .before .args .proposals .now) (c .before .before .before .before .before .before .before .before .before .before .before .before .before .before .before .before .before .before .before .before .before .before .before .args .environment .now) (c .before .before .before .before .before .before .before .before .before .before .before .before .before .before .before .before .before .before .before .before .before .before .before .args .heap .now) (c .before .before .before .before .before .before .before .before .before .before .before .before .before .before .before .before .before .before .before .before .before .before .before .args .fields .now) (c .before .before .before .before .before .before .before .before .before .before .before .before .before .before .before .before .before .before .before .before .before .before .before .args .class .now) (c .before .before .before .before .before .before .before .before .before .before .before .before .before .before .before .before .before .before .before .before .before .before .before .args .n) (c .before .before .before .before .before .before .before .before .before .before .before .before .before .before .before .before .before .before .before .before .before .before .before .args .x) (c .before .before .before .before .before .before .before .before .before .before .before .before .before .before .before .before .before .before .before .before .before .before .before .args .count)
+    (c .before .before .before .before .before .before .before .before .before .before .before .before .before .before .before .add-record .ensures) (c .before .before .before .before .before .before .before .before .before .before .before .before .before .before .before .before .before .before .before .before .before .record-count .ensures) (c .before .before .before .before .before .before .before .before .before .before .move-class .ensures) _ (omega arith) (c .before .before .before .before .before .before .before .before .before .before .before .before .before .before .before .before .before .before .lay-by .ensures) (c .before .before .before .before .before .number .given .1) (c .before .bring-back .ensures)
 
 pub move-new-spec : {M : Type 1} → statement M
 move-new-spec =
@@ -91,7 +98,9 @@ move-new-spec =
     bring-back-requires
     same-length
     same-length-2
-    returns
     same-length-3
+    returns
     same-length-4
+    same-length-5
+    same-length-6
     returns-2)

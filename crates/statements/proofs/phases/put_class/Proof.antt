@@ -46,7 +46,7 @@ loop-less c = search needs
 
 -- src/phases.rt:36:5
 loop-again : tie.Need-loop-again Inv-loop μ-loop
-loop-again c = giving-goes-on (c .before .before .before .before .before .before .before .before .before .before .loop .inv) (c .before .before .before .before .before .before .before .before .before .loop-test .taken) (c .before .before .before .before .before .before .before .before .before .before .before .pre .0) (c .before .before .before .before .before .before .before .before .before .before .before .pre .1) (c .before .before .before .put-saved .ensures) (c .before .before .before .before .before .before .number-at .ensures) (c .before .before .before .before .before .cell-of .ensures)
+loop-again c = giving-goes-on (c .before .before .before .before .before .before .before .before .before .before .loop .inv) (c .before .before .before .before .before .before .before .before .before .loop-test .taken) (c .before .before .before .before .before .before .before .before .before .before .before .pre .1) (c .before .before .before .put-saved .ensures) (c .before .before .before .before .before .before .number-at .ensures) (c .before .before .before .before .before .cell-of .ensures)
 
 -- src/phases.rt:23:1
 same-length : tie.Need-same-length Inv-loop μ-loop

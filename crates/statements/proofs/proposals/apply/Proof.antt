@@ -65,7 +65,7 @@ loop-again : tie.Need-loop-again Inv-loop μ-loop
 loop-again c =
     let k = back32 (c .before .before .before .before .before .before .before .before .before .read-cell .result .kind) (record { sfits = c .before .before .before .before .before .before .before .struct-told .given .0 .1 }) in
     let w = back32 (c .before .before .before .before .before .before .before .before .word-at .result) (record { sfits = c .before .before .before .before .before .before .before .before .word-at .ok }) in
-    applying-goes-on (c .before .before .before .before .before .before .before .before .before .before .before .before .before .before .loop .inv) (c .before .before .before .before .before .before .before .before .before .before .before .before .before .loop-test .taken) (c .before .before .before .before .before .before .before .before .before .before .before .before .before .before .before .pre .0) (c .before .before .before .before .before .before .before .before .before .before .before .before .before .before .before .pre .1) (c .before .before .before .before .before .before .before .before .before .before .before .before .number-at .ensures) (c .before .before .before .before .before .before .before .before .before .read-cell .ensures) (rw (k, w, c .before .before .before .before .before .before .before .before .word-at .ensures)) (c .before .before .before .put-saved .ensures)
+    applying-goes-on (c .before .before .before .before .before .before .before .before .before .before .before .before .before .before .loop .inv) (c .before .before .before .before .before .before .before .before .before .before .before .before .before .loop-test .taken) (c .before .before .before .before .before .before .before .before .before .before .before .before .before .before .before .pre .1) (c .before .before .before .before .before .before .before .before .before .before .before .before .number-at .ensures) (c .before .before .before .before .before .before .before .before .before .read-cell .ensures) (rw (k, w, c .before .before .before .before .before .before .before .before .word-at .ensures)) (c .before .before .before .put-saved .ensures)
 
 -- src/proposals.rt:106:1
 same-length : tie.Need-same-length Inv-loop μ-loop

@@ -6,7 +6,7 @@ use Rattle.statements.proofs.simple.assign.Statement.{statement}
 use Rattle.statements.proofs.simple.assign.Tie as tie
 use Rattle.statements.proofs.simple.assign.Reads as reads
 use Rattle.statements.proofs.simple.assign.Lts as lts
-use Rattle.expressions.proofs.values.evaluate_at.Reads as evaluate-at-reads
+use Rattle.expressions.proofs.values.find_value.Reads as find-value-reads
 use Rattle.program.proofs.reading.read_path.Reads as read-path-reads
 use Rattle.statements.proofs.phases.give.Reads as give-reads
 use Rattle.words.proofs.part_from.Reads as part-from-reads
@@ -25,8 +25,8 @@ part-last-requires : tie.Need-part-last-requires
 part-last-requires c κs = search needs
 
 -- src/simple.rt:37:11
-evaluate-at-requires : tie.Need-evaluate-at-requires
-evaluate-at-requires c κs = search needs
+find-value-requires : tie.Need-find-value-requires
+find-value-requires c κs = search needs
 
 -- src/simple.rt:38:26
 enum-known-number : tie.Need-enum-known-number
@@ -52,7 +52,7 @@ same-length-2 c = search needs
 returns : tie.Need-returns
 returns c =
     let a = path-after (c .before .before .before .before .before .before .before .before .before .args .p .now) (c .before .before .before .before .before .before .before .before .part-from .ensures) (c .before .before .before .before .before .before .before .read-path .ensures) (c .before .before .before .before .before .before .part-last .ensures) in
-    assign-fails (c .before .before .before .before .before .before .before .before .before .args .program .now) (c .before .before .before .before .before .before .before .before .before .args .p .now) (c .before .before .before .before .before .before .before .before .before .args .constraints .now) (c .before .before .before .before .before .before .before .before .before .args .proposals .now) (cells (c .before .before .before .before .before .before .before .before .before .args .environment .now) (c .before .before .before .before .before .before .before .before .before .args .heap .now)) a (c .before .before .before .evaluate-at .ensures) (c .before .number .given .1)
+    assign-fails (c .before .before .before .before .before .before .before .before .before .args .program .now) (c .before .before .before .before .before .before .before .before .before .args .p .now) (c .before .before .before .before .before .before .before .before .before .args .constraints .now) (c .before .before .before .before .before .before .before .before .before .args .proposals .now) (cells (c .before .before .before .before .before .before .before .before .before .args .environment .now) (c .before .before .before .before .before .before .before .before .before .args .heap .now)) a (c .before .before .before .find-value .ensures) (c .before .number .given .1)
 
 -- src/simple.rt:24:1
 same-length-3 : tie.Need-same-length-3
@@ -67,7 +67,7 @@ returns-2 : tie.Need-returns-2
 returns-2 c =
     let a = path-after (c .before .before .before .before .before .before .before .before .before .before .before .before .before .before .args .p .now) (c .before .before .before .before .before .before .before .before .before .before .before .before .before .part-from .ensures) (c .before .before .before .before .before .before .before .before .before .before .before .before .read-path .ensures) (c .before .before .before .before .before .before .before .before .before .before .before .part-last .ensures) in
     does-same
-    (assign-gives (c .before .before .before .before .before .before .before .before .before .before .before .before .before .before .args .program .now) (c .before .before .before .before .before .before .before .before .before .before .before .before .before .before .args .p .now) (c .before .before .before .before .before .before .before .before .before .before .before .before .before .before .args .constraints .now) (c .before .before .before .before .before .before .before .before .before .before .before .before .before .before .args .proposals .now) (cells (c .before .before .before .before .before .before .before .before .before .before .before .before .before .before .args .environment .now) (c .before .before .before .before .before .before .before .before .before .before .before .before .before .before .args .heap .now)) a (c .before .before .before .before .before .before .before .before .evaluate-at .ensures) (c .before .before .before .before .before .before .v .given .1))
+    (assign-gives (c .before .before .before .before .before .before .before .before .before .before .before .before .before .before .args .program .now) (c .before .before .before .before .before .before .before .before .before .before .before .before .before .before .args .p .now) (c .before .before .before .before .before .before .before .before .before .before .before .before .before .before .args .constraints .now) (c .before .before .before .before .before .before .before .before .before .before .before .before .before .before .args .proposals .now) (cells (c .before .before .before .before .before .before .before .before .before .before .before .before .before .before .args .environment .now) (c .before .before .before .before .before .before .before .before .before .before .before .before .before .before .args .heap .now)) a (c .before .before .before .before .before .before .before .before .find-value .ensures) (c .before .before .before .before .before .before .v .given .1))
     (c .before .before .give .ensures)
 
 pub assign-spec : {M : Type 1} → statement M
@@ -77,7 +77,7 @@ assign-spec =
     part-from-requires
     read-path-requires
     part-last-requires
-    evaluate-at-requires
+    find-value-requires
     enum-known-number
     enum-known-v
     give-requires

@@ -9,7 +9,7 @@ use Rattle.statements.proofs.simple.field_words.Statement.{statement}
 use Rattle.statements.proofs.simple.field_words.Tie as tie
 use Rattle.statements.proofs.simple.field_words.Reads as reads
 use Rattle.statements.proofs.simple.field_words.Lts as lts
-use Rattle.expressions.proofs.values.evaluate_at.Reads as evaluate-at-reads
+use Rattle.expressions.proofs.values.find_value.Reads as find-value-reads
 use Rattle.tables.proofs.cells.cell_of.Reads as cell-of-reads
 use Rattle.words.proofs.number_at.Reads as number-at-reads
 use Rattle.words.proofs.part_from.Reads as part-from-reads
@@ -48,8 +48,8 @@ part-from-requires : tie.Need-part-from-requires Inv-loop μ-loop
 part-from-requires c κs = search needs
 
 -- src/simple.rt:63:15
-evaluate-at-requires : tie.Need-evaluate-at-requires Inv-loop μ-loop
-evaluate-at-requires c κs = search needs
+find-value-requires : tie.Need-find-value-requires Inv-loop μ-loop
+find-value-requires c κs = search needs
 
 -- src/simple.rt:69:30
 enum-known-number : tie.Need-enum-known-number Inv-loop μ-loop
@@ -61,7 +61,7 @@ same-length-2 c = c .before .before .before .before .before .before .before .bef
 
 -- src/simple.rt:70:17
 returns-2 : tie.Need-returns-2 Inv-loop μ-loop
-returns-2 c = fields-stop (c .before .before .before .before .before .before .before .before .before .loop .inv) (c .before .before .before .before .before .before .before .before .loop-test .taken) (c .before .before .before .before .before .before .before .part-last .ensures) (c .before .before .before .before .before .before .number-at .ensures) (c .before .before .before .before .before .if1 .left) (c .before .before .before .before .part-from .ensures) (c .before .before .before .evaluate-at .ensures) (c .before .number .given .1)
+returns-2 c = fields-stop (c .before .before .before .before .before .before .before .before .before .loop .inv) (c .before .before .before .before .before .before .before .before .loop-test .taken) (c .before .before .before .before .before .before .before .part-last .ensures) (c .before .before .before .before .before .before .number-at .ensures) (c .before .before .before .before .before .if1 .left) (c .before .before .before .before .part-from .ensures) (c .before .before .before .find-value .ensures) (c .before .number .given .1)
 
 -- src/simple.rt:72:28
 enum-known-v : tie.Need-enum-known-v Inv-loop μ-loop
@@ -118,7 +118,7 @@ loop-less c = search needs
 -- src/simple.rt:57:5
 loop-again : tie.Need-loop-again Inv-loop μ-loop
 loop-again c =
-    fields-go-on (c .before .before .before .before .before .before .before .before .before .before .before .before .before .before .before .before .before .before .before .before .before .before .loop .inv) (c .before .before .before .before .before .before .before .before .before .before .before .before .before .before .before .before .before .before .before .before .before .loop-test .taken) (c .before .before .before .before .before .before .before .before .before .before .before .before .before .before .before .before .before .before .before .before .part-last .ensures) (c .before .before .before .before .before .before .before .before .before .before .before .before .before .before .before .before .before .before .before .number-at .ensures) (c .before .before .before .before .before .before .before .before .before .before .before .before .before .before .before .before .before .before .if1 .left) (c .before .before .before .before .before .before .before .before .before .before .before .before .before .before .before .before .before .part-from .ensures) (c .before .before .before .before .before .before .before .before .before .before .before .before .before .before .before .before .evaluate-at .ensures) (c .before .before .before .before .before .before .before .before .before .before .before .before .before .before .v .given .1) (c .before .before .before .before .before .before .before .before .before .before .before .before .before .before .before .before .before .before .before .before .before .before .before .pre .0) (c .before .before .before .before .before .before .before .before .before .before .before .before .before .before .before .before .before .before .before .before .before .before .before .pre .1) (c .before .before .before .before .before .before .before .before .before .before .before .before .cell-of .ensures)
+    fields-go-on (c .before .before .before .before .before .before .before .before .before .before .before .before .before .before .before .before .before .before .before .before .before .before .loop .inv) (c .before .before .before .before .before .before .before .before .before .before .before .before .before .before .before .before .before .before .before .before .before .loop-test .taken) (c .before .before .before .before .before .before .before .before .before .before .before .before .before .before .before .before .before .before .before .before .part-last .ensures) (c .before .before .before .before .before .before .before .before .before .before .before .before .before .before .before .before .before .before .before .number-at .ensures) (c .before .before .before .before .before .before .before .before .before .before .before .before .before .before .before .before .before .before .if1 .left) (c .before .before .before .before .before .before .before .before .before .before .before .before .before .before .before .before .before .part-from .ensures) (c .before .before .before .before .before .before .before .before .before .before .before .before .before .before .before .before .find-value .ensures) (c .before .before .before .before .before .before .before .before .before .before .before .before .before .before .v .given .1) (c .before .before .before .before .before .before .before .before .before .before .before .before .before .before .before .before .before .before .before .before .before .before .before .pre .0) (c .before .before .before .before .before .before .before .before .before .before .before .before .before .before .before .before .before .before .before .before .before .before .before .pre .1) (c .before .before .before .before .before .before .before .before .before .before .before .before .cell-of .ensures)
     (back32 _ (record { sfits = c .before .before .before .before .before .before .before .before .before .before .word-of .ok }) ∙ c .before .before .before .before .before .before .before .before .before .before .word-of .ensures) (back32 _ (record { sfits = c .before .before .before .before .before .before .struct-told .given .0 .1 })) (back32 _ (record { sfits = c .before .before .struct-told2 .given .1 .0 .1 })) (c .before .before .before .before .before .before .before .before .before .store .ensures) (c .before .before .before .before .before .store2 .ensures) (c .before .store3 .ensures)
 
 -- src/simple.rt:44:1
@@ -141,7 +141,7 @@ field-words-spec =
     same-length
     returns
     part-from-requires
-    evaluate-at-requires
+    find-value-requires
     enum-known-number
     same-length-2
     returns-2

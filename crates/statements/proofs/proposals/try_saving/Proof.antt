@@ -5,101 +5,82 @@ use Rattle.tables.specs.Cells.{cells}
 use Rattle.expressions.specs.Judging.{ownOf}
 use Rattle.statements.proofs.ProposalLaws.{try-stops, try-unmet, try-takes}
 use borrow.Author.Needs.{needs}
-use Rattle.statements.proofs.proposals.try_pairs.Statement.{statement}
-use Rattle.statements.proofs.proposals.try_pairs.Tie as tie
-use Rattle.statements.proofs.proposals.try_pairs.Reads as reads
-use Rattle.statements.proofs.proposals.try_pairs.Lts as lts
+use Rattle.statements.proofs.proposals.try_saving.Statement.{statement}
+use Rattle.statements.proofs.proposals.try_saving.Tie as tie
+use Rattle.statements.proofs.proposals.try_saving.Reads as reads
+use Rattle.statements.proofs.proposals.try_saving.Lts as lts
 use Rattle.expressions.proofs.constraints.counted_at.Reads as counted-at-reads
 use Rattle.statements.proofs.proposals.apply.Reads as apply-reads
 use Rattle.statements.proofs.undoing.put_back.Reads as put-back-reads
 use Rattle.words.proofs.less.Reads as less-reads
 use Rattle.words.proofs.part_from.Reads as part-from-reads
 
--- src/proposals.rt:139:9
+-- src/proposals.rt:140:9
 part-from-requires : tie.Need-part-from-requires
 part-from-requires c κs = search needs
 
--- src/proposals.rt:140:40
-slice-aggregate-apply : tie.Need-slice-aggregate-apply
-slice-aggregate-apply c = search needs
-
--- src/proposals.rt:140:5
+-- src/proposals.rt:141:5
 apply-requires : tie.Need-apply-requires
 apply-requires c κs = search needs
 
--- src/proposals.rt:146:9
+-- src/proposals.rt:147:9
 part-from-requires-2 : tie.Need-part-from-requires-2
 part-from-requires-2 c κs = search needs
 
--- src/proposals.rt:141:11
+-- src/proposals.rt:142:11
 counted-at-requires : tie.Need-counted-at-requires
 counted-at-requires c κs = search needs
 
--- src/proposals.rt:149:24
+-- src/proposals.rt:150:24
 enum-known-number : tie.Need-enum-known-number
 enum-known-number c = search needs
 
--- src/proposals.rt:150:51
-slice-aggregate-put-back : tie.Need-slice-aggregate-put-back
-slice-aggregate-put-back c = search needs
-
--- src/proposals.rt:150:13
+-- src/proposals.rt:151:13
 put-back-requires : tie.Need-put-back-requires
 put-back-requires c κs = search needs
 
--- src/proposals.rt:153:27
+-- src/proposals.rt:154:27
 enum-known-required : tie.Need-enum-known-required
 enum-known-required c = search needs
 
--- src/proposals.rt:155:55
-slice-aggregate-put-back-2 : tie.Need-slice-aggregate-put-back-2
-slice-aggregate-put-back-2 c = search needs
-
--- src/proposals.rt:155:17
+-- src/proposals.rt:156:17
 put-back-requires-2 : tie.Need-put-back-requires-2
 put-back-requires-2 c κs = search needs
 
--- src/proposals.rt:156:17
+-- src/proposals.rt:157:17
 same-length : tie.Need-same-length
 same-length c = search needs
 
--- src/proposals.rt:156:17
+-- src/proposals.rt:157:17
 same-length-2 : tie.Need-same-length-2
 same-length-2 c = search needs
 
--- src/proposals.rt:156:17
+-- src/proposals.rt:157:17
+same-length-3 : tie.Need-same-length-3
+same-length-3 c = search needs
+
+-- src/proposals.rt:157:17
 returns : tie.Need-returns
 returns c =
     let a = c .before .before .before .before .before .before .before .before .before .before .before .before .before .before .before .before .before .before .before .before .before .before .args in
     try-unmet (a .program .now) (a .constraints .now) (ownOf (a .owns) (drop 1 (a .p .now))) (a .p .now) (cells (a .environment .now) (a .heap .now)) (a .proposals .now) (a .n)
     (rw (c .before .before .before .before .before .before .before .before .before .before .before .before .before .before .before .before .before .before .before .before .before .part-from .ensures) at (c .before .before .before .before .before .before .before .before .before .before .before .before .before .before .before .before .before .apply .ensures)) (rw (c .before .before .before .before .before .before .before .before .before .before .before .part-from2 .ensures) at (c .before .before .before .before .before .before .before .before .before .before .counted-at .ensures)) (c .before .before .before .before .before .before .before .before .required .given .1) (not-true _ (c .before .before .before .before .before .before .if1 .taken)) (rw (c .before .before .before .before .before .before .before .before .before .before .before .before .before .before .before .before .before .before .before .before .before .part-from .ensures) at (c .before .before .put-back2 .ensures))
 
--- src/proposals.rt:158:61
+-- src/proposals.rt:159:61
 mul-less : tie.Need-mul-less
 mul-less c = search needs
 
--- src/proposals.rt:158:57
+-- src/proposals.rt:159:57
 add-less : tie.Need-add-less
 add-less c = search needs
 
--- src/proposals.rt:158:28
+-- src/proposals.rt:159:28
 less-requires : tie.Need-less-requires
 less-requires c κs = search needs
 
 -- src/proposals.rt:125:1
-same-length-3 : tie.Need-same-length-3
-same-length-3 c = search needs
-
--- src/proposals.rt:125:1
 same-length-4 : tie.Need-same-length-4
 same-length-4 c = search needs
-
--- src/proposals.rt:125:1
-returns-2 : tie.Need-returns-2
-returns-2 c =
-    let a = c .before .before .before .before .before .before .before .before .before .before .before .before .before .before .before .before .before .before .before .before .before .args in
-    try-stops (a .program .now) (a .constraints .now) (ownOf (a .owns) (drop 1 (a .p .now))) (a .p .now) (cells (a .environment .now) (a .heap .now)) (a .proposals .now) (a .n)
-    (rw (c .before .before .before .before .before .before .before .before .before .before .before .before .before .before .before .before .before .before .before .before .part-from .ensures) at (c .before .before .before .before .before .before .before .before .before .before .before .before .before .before .before .before .apply .ensures)) (rw (c .before .before .before .before .before .before .before .before .before .before .part-from2 .ensures) at (c .before .before .before .before .before .before .before .before .before .counted-at .ensures)) (c .before .before .before .before .before .before .before .number .given .1) (rw (c .before .before .before .before .before .before .before .before .before .before .before .before .before .before .before .before .before .before .before .before .part-from .ensures) at (c .before .before .put-back .ensures))
 
 -- src/proposals.rt:125:1
 same-length-5 : tie.Need-same-length-5
@@ -110,6 +91,25 @@ same-length-6 : tie.Need-same-length-6
 same-length-6 c = search needs
 
 -- src/proposals.rt:125:1
+returns-2 : tie.Need-returns-2
+returns-2 c =
+    let a = c .before .before .before .before .before .before .before .before .before .before .before .before .before .before .before .before .before .before .before .before .before .args in
+    try-stops (a .program .now) (a .constraints .now) (ownOf (a .owns) (drop 1 (a .p .now))) (a .p .now) (cells (a .environment .now) (a .heap .now)) (a .proposals .now) (a .n)
+    (rw (c .before .before .before .before .before .before .before .before .before .before .before .before .before .before .before .before .before .before .before .before .part-from .ensures) at (c .before .before .before .before .before .before .before .before .before .before .before .before .before .before .before .before .apply .ensures)) (rw (c .before .before .before .before .before .before .before .before .before .before .part-from2 .ensures) at (c .before .before .before .before .before .before .before .before .before .counted-at .ensures)) (c .before .before .before .before .before .before .before .number .given .1) (rw (c .before .before .before .before .before .before .before .before .before .before .before .before .before .before .before .before .before .before .before .before .part-from .ensures) at (c .before .before .put-back .ensures))
+
+-- src/proposals.rt:125:1
+same-length-7 : tie.Need-same-length-7
+same-length-7 c = search needs
+
+-- src/proposals.rt:125:1
+same-length-8 : tie.Need-same-length-8
+same-length-8 c = search needs
+
+-- src/proposals.rt:125:1
+same-length-9 : tie.Need-same-length-9
+same-length-9 c = search needs
+
+-- src/proposals.rt:125:1
 returns-3 : tie.Need-returns-3
 returns-3 c =
     let a = c .before .before .before .before .before .before .before .before .before .before .before .before .before .before .before .before .before .args in
@@ -117,30 +117,30 @@ returns-3 c =
     (try-takes (a .program .now) (a .constraints .now) (ownOf (a .owns) (drop 1 (a .p .now))) (a .p .now) (cells (a .environment .now) (a .heap .now)) (a .proposals .now) (a .n)
     (rw (c .before .before .before .before .before .before .before .before .before .before .before .before .before .before .before .before .part-from .ensures) at (c .before .before .before .before .before .before .before .before .before .before .before .before .apply .ensures)) (rw (c .before .before .before .before .before .before .part-from2 .ensures) at (c .before .before .before .before .before .counted-at .ensures)) (c .before .before .before .required .given .1) (not-false _ (c .before .if1 .left)))
 
-pub try-pairs-spec : {M : Type 1} → statement M
-try-pairs-spec =
+pub try-saving-spec : {M : Type 1} → statement M
+try-saving-spec =
     tie.close
     (tie.spec
     part-from-requires
-    slice-aggregate-apply
     apply-requires
     part-from-requires-2
     counted-at-requires
     enum-known-number
-    slice-aggregate-put-back
     put-back-requires
     enum-known-required
-    slice-aggregate-put-back-2
     put-back-requires-2
     same-length
     same-length-2
+    same-length-3
     returns
     mul-less
     add-less
     less-requires
-    same-length-3
     same-length-4
-    returns-2
     same-length-5
     same-length-6
+    returns-2
+    same-length-7
+    same-length-8
+    same-length-9
     returns-3)
