@@ -28,6 +28,14 @@ static long call(long what, long first, const void *second, number third)
     return result;
 }
 
+/* The archive's own call for a row of equal bytes; there is no C library here. */
+void *memset(void *to, int byte, number count)
+{
+    void *at = to;
+    __asm__ volatile("rep stosb" : "+D"(at), "+c"(count) : "a"(byte) : "memory");
+    return to;
+}
+
 static void leave(int status)
 {
     for (;;)

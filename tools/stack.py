@@ -1,0 +1,114 @@
+#!/usr/bin/env python3
+"""tools/stack.py [ARCHIVE]: the most stack that cordbasin_run can take, from the frames of the machine code.
+
+Reads what objdump says of the archive (target/native/libcordbasin.a if none is named): each function's frame and its calls. A function that
+calls itself, straight or through others, is counted as often as its nesting allows: blocks nest 8 deep, expressions 16; one more call of each
+meets the limit and turns back. Ends with 1 above 64 KiB, and where a call goes to a function that is not in the archive, other than the four
+that move memory.
+"""
+
+import re
+import shutil
+import subprocess
+import sys
+
+# How often each function that can call itself is open at most.
+NESTING = {
+    "run_block": 9,
+    "read_block": 9,
+    "read_statement": 9,
+    "spot_block": 9,
+    "spot_statement": 9,
+    "mark_block": 9,
+    "mark_statement": 9,
+    "read_expression": 17,
+    "evaluate_at": 17,
+    "judge_at": 17,
+}
+# More than this fails.
+MOST = 65536
+MEMORY = {"memcpy", "memmove", "memset", "memcmp"}
+
+
+def disassembled(archive):
+    """What the first objdump that knows the archive's machine says of it."""
+    for tool in ["objdump", "x86_64-linux-gnu-objdump"]:
+        if shutil.which(tool):
+            said = subprocess.run([tool, "-dr", "--no-show-raw-insn", archive], capture_output=True, text=True)
+            if said.returncode == 0:
+                return said.stdout
+    sys.exit(f"no objdump here reads {archive}")
+
+
+def functions(archive):
+    """Each function's frame in bytes and the functions that it calls."""
+    said = disassembled(archive)
+    # a call stores the address to return to, on AArch64 in the frame
+    entry = 8 if "x86-64" in said else 0
+    found, name, calls_itself = {}, None, False
+    for line in said.splitlines():
+        head = re.match(r"^[0-9a-f]+ <(.+)>:$", line)
+        if head:
+            name = head.group(1)
+            found[name] = [entry, set()]
+            continue
+        if name is None:
+            continue
+        frame, calls = found[name]
+        grown = re.search(r"\bsub\s+sp, sp, #(0x[0-9a-f]+|\d+)(, lsl #12)?|\[sp, #-(\d+)\]!|\bsub\s+\$0x([0-9a-f]+),%rsp", line)
+        if grown:
+            size, shifted, stored, wide = grown.groups()
+            size = int(size, 0) if size else int(stored) if stored else int(wide, 16)
+            found[name][0] = frame + (size << 12 if shifted else size)
+        elif re.search(r"\bpush\s+%r", line):
+            found[name][0] = frame + 8
+        called = re.search(r"R_\w+(?:CALL26|JUMP26|PLT32)\s+(\S+?)(?:[-+]0x[0-9a-f]+)?$", line)
+        if called:
+            calls.add(called.group(1).removeprefix(".text."))
+            calls_itself = False
+        # a call without a line that names another section is one of the function itself, which has its section alone
+        if calls_itself:
+            calls.add(name)
+        calls_itself = bool(re.search(r"\b(?:bl|call)\s+[0-9a-f]+ <", line))
+    return found
+
+
+def short(name):
+    return name.rsplit("::", 1)[-1]
+
+
+def deepest(found, name, opened):
+    """The most bytes below a call of a function, and the chain that takes them."""
+    frame, calls = found[name]
+    best, chain = 0, []
+    for called in sorted(calls):
+        if called not in found:
+            if called not in MEMORY:
+                sys.exit(f"{name} calls {called}, which is not in the archive")
+            continue
+        times = opened.get(called, 0)
+        if times >= NESTING.get(short(called), 1):
+            continue
+        below, way = deepest(found, called, {**opened, called: times + 1})
+        if below > best:
+            best, chain = below, way
+    return frame + best, [(name, frame)] + chain
+
+
+def main():
+    archive = sys.argv[1] if len(sys.argv) > 1 else "target/native/libcordbasin.a"
+    found = functions(archive)
+    most, chain = deepest(found, "cordbasin_run", {"cordbasin_run": 1})
+    print(f"{most} bytes at most, in {len(chain)} calls:")
+    last = None
+    for name, frame in chain + [(None, 0)]:
+        if last and last[0] == name:
+            last[2] += 1
+            continue
+        if last:
+            print(f"{last[2]:4} x {last[1]:5}  {last[0]}")
+        last = [name, frame, 1]
+    sys.exit(most > MOST)
+
+
+main()
