@@ -3,8 +3,8 @@
 
 Reads what objdump says of the archive (target/native/libcordbasin.a if none is named): each function's frame and its calls. A function that
 calls itself, straight or through others, is counted as often as its nesting allows: blocks nest 8 deep, expressions 16; one more call of each
-meets the limit and turns back. Ends with 1 above 64 KiB, and where a call goes to a function that is not in the archive, other than the four
-that move memory.
+meets the limit and turns back. Ends with 1 above 64 KiB, where a
+function's nesting is not known, and where a call goes to a function that is not in the archive, other than the four that move memory.
 """
 
 import re
@@ -87,6 +87,8 @@ def deepest(found, name, opened):
                 sys.exit(f"{name} calls {called}, which is not in the archive")
             continue
         times = opened.get(called, 0)
+        if times and short(called) not in NESTING:
+            sys.exit(f"{called} can be open twice, and its nesting is not known")
         if times >= NESTING.get(short(called), 1):
             continue
         below, way = deepest(found, called, {**opened, called: times + 1})
