@@ -1,5 +1,5 @@
-// A bound: a variable, or a field of the record that one refers to, compared with a number. It is what most parts of sheets are, and needs no
-// open operators; of anything else nothing is said.
+// A bound: a variable, or a field of the record that one refers to, compared with a number. It needs no open operators; of anything else
+// nothing is said.
 use super::making::compare;
 use super::walking::cell_words;
 use crate::Walked;
