@@ -113,9 +113,11 @@ def main():
     seed, count = sys.argv[1], int(sys.argv[2])
     subprocess.run(["cargo", "build", "--quiet", "--release", "--offline"], cwd=HERE / "reference", check=True)
     shutil.rmtree(SCRATCH / "crates", ignore_errors=True)
-    for name in ("words", "tables", "program", "rules"):
+    listed_crates = dict(line.split(":") for line in (HERE / "crates.txt").read_text().splitlines() if ":" in line and not line.startswith("#"))
+    known = listed_crates["rules"].split() + ["rules"]
+    for name in known:
         shutil.copytree(HERE / "crates" / name, SCRATCH / "crates" / name)
-    (SCRATCH / "crates.txt").write_text("words:\ntables: words\nprogram: words tables\nrules: words tables program\ncomputed: words tables program rules\n")
+    (SCRATCH / "crates.txt").write_text("".join(f"{name}:{listed_crates[name]}\n" for name in known) + f"computed: {' '.join(known)}\n")
     crate = SCRATCH / "crates" / "computed"
     for folder in ("src", "specs", "proofs"):
         (crate / folder).mkdir(parents=True)

@@ -1,6 +1,6 @@
 // The call for a host in C or Rust.
 ghost use Rattle.rules.specs.Start.{run as runBy};
-ghost use Rattle.statements.specs.Told.{tables};
+ghost use Rattle.phases.specs.Told.{tables};
 ghost use Rattle.cordbasin.specs.Told.{Answers};
 
 // A run: the four words of the answer are outcome, place, steps and accepted proposals; it returns how many words of the proposals are unread.

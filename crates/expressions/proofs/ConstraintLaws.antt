@@ -6,17 +6,15 @@ use mathlib.Core.Option.{Option}
 use Prim.Native.Nat.{ℕ, zero, suc, _+_, _-_, _≤_, _<_}
 use native.Mathlib.Omega.{arith}
 use native.Mathlib.Numerals.{add-one}
+use borrow.Author.Tests.{ne-eqb}
 use lib.Dec.{eqb}
-use lib.IntN.{ℤ, pos}
-use lib.ListN.{length, drop, length-drop}
+use lib.IntN.{ℤ}
+use lib.ListN.{length, drop}
 use lib.Seq.{drop-drop}
-use Rattle.words.specs.Words.{numberAt, lastOf, eqZ}
+use Rattle.words.specs.Words.{numberAt, lastOf}
 use Rattle.words.specs.Answer.{Answer, got, stop, _>>=_, _>>_, want}
 use Rattle.words.proofs.AnswerLaws.{either}
-use Rattle.words.proofs.Laws.{number-drop, number-there, eqZ-true}
 use Rattle.tables.specs.declared.Value.{Value}
-use Rattle.tables.specs.declared.Value.the-variants.{Bool as Truth}
-use Rattle.tables.proofs.ValueLaws.{slot-boolean}
 use Rattle.tables.specs.declared.Sort.the-variants.{Values}
 use Rattle.tables.specs.Cells.{Cells}
 use Rattle.tables.specs.Kept.{keptCount, positionAt}
@@ -28,20 +26,18 @@ use Rattle.rules.specs.State.{Fault, Res, refused, reads, listed, positions}
 use Rattle.rules.specs.Evaluation.{Kind, isNil, isBool, isInt, isRef, kindOf, aBool, boolOf, evaluate, kind}
 use Rattle.rules.specs.Constraints.{Part, satisfies, partAt, partsAt, constraintAt, fifteen, keptParts, ownParts, counted, allHold, requiredHold}
 use Rattle.rules.proofs.KindLaws.{OfKind, kind-value}
+use Rattle.rules.proofs.RefusalLaws.{refusal-least, kind-refuses}
 use Rattle.rules.proofs.ConstraintClauses.{satisfies-got, satisfies-stop, part-is, part-part, parts-none, parts-more, constraint-is}
 use Rattle.rules.proofs.ConstraintClauses.{all-none, all-more, all-both, required-none, required-more, required-both, both-once}
 use Rattle.rules.proofs.ConstraintClauses.{positions-are, listed-none, listed-more, kept-is, kept-none, kept-more, own-none, own-some, counted-is}
-use Rattle.expressions.specs.declared.Judged.{Judged}
+use Rattle.expressions.specs.declared.Valued.{Valued}
 use Rattle.expressions.specs.declared.Rated.{Rated}
 use Rattle.expressions.specs.declared.Rated.the-variants.{Part as Rates, Fails as Unrated}
 use Rattle.expressions.specs.declared.Weighed.{Weighed}
 use Rattle.expressions.specs.declared.Weighed.the-variants.{Reads, Fails as Unweighed}
 use Rattle.expressions.specs.Told.{kindNumber}
-use Rattle.expressions.specs.declared.Row.{Row}
-use Rattle.expressions.specs.declared.Row.the-variants.{Reads as Sure, Odd as Unsaid}
-use Rattle.expressions.specs.Walking.{tells, Gives, RowAs}
-use Rattle.expressions.specs.Judging.{judgedOf, ratedOf, ratedBy, weighedOf, partsOnly, ownOf}
-use Rattle.expressions.proofs.JudgeLaws.{judgedAt}
+use Rattle.expressions.specs.Valuing.{unknown, judgedOf, valuedAt}
+use Rattle.expressions.specs.Judging.{ratedOf, ratedBy, weighedOf, partsOnly, ownOf}
 
 -- ---- a part
 
@@ -53,10 +49,11 @@ module _ (S : Cells) (p : List ℤ) where
     pub part-high : 3 < numberAt p 0 → Unrated 2 (length p) ≡ ratedOf (partAt S p)
     part-high h = rw (part-is S p, number-high 1 3 p (omega (arith, one)) h)
 
-    pub part-rated : numberAt p 0 ≤ 3 → {j : Judged} → j ≡ judgedAt 16 S (drop 1 p) → ratedBy (numberAt p 0) j (length p) ≡ ratedOf (partAt S p)
+    pub part-rated : numberAt p 0 ≤ 3 → {j : Valued} → j ≡ valuedAt true 16 S (drop 1 p) → ratedBy (numberAt p 0) j (length p) ≡ ratedOf (partAt S p)
+    unfolding valuedAt
     part-rated h e =
         rw (e, part-is S p, number-fits 1 3 p (omega (arith, one)) h)
-        (by (kind 16 S (drop 1 p)) (evaluate 16 S (drop 1 p)) (λ x k. kind-value 16 S (drop 1 p) x k))
+        (by (kind 16 S (drop 1 p)) (evaluate 16 S (drop 1 p)) (λ x k. kind-value 16 S (drop 1 p) x k) (λ f k. refusal-least (kind-refuses S 16 (drop 1 p) .bad f k)))
       where
         last : (n : ℕ) (k : Kind) (b : Bool) (r : List ℤ)
             → cond (eqb (kindNumber k) 2) (Rates n b (length r)) (Unrated 8 (length p)) ≡ ratedOf (want (refused 8 p) (aBool k) >> got (record { priority = n; satisfied = b }, r))
@@ -65,37 +62,18 @@ module _ (S : Cells) (p : List ℤ) where
         last n isInt b r = refl
         last n isRef b r = refl
 
-        by : (k : Res (Kind × List ℤ)) (m : Res (Value × List ℤ)) → ((x : Kind × List ℤ) → k ≡ got x → OfKind (x .0) (x .1) m)
+        lost : (n : ℕ) (k : Kind) (r : List ℤ) → ratedBy n (unknown k (length r)) (length p) ≡ ratedOf (want (refused 8 p) (aBool k) >> got (record { priority = n; satisfied = false }, r))
+        lost n isNil r = refl
+        lost n isBool r = refl
+        lost n isInt r = refl
+        lost n isRef r = refl
+
+        by : (k : Res (Kind × List ℤ)) (m : Res (Value × List ℤ)) → ((x : Kind × List ℤ) → k ≡ got x → OfKind (x .0) (x .1) m) → ((f : Fault) → k ≡ stop f → 2 ≤ f .number)
             → ratedBy (numberAt p 0) (judgedOf k m) (length p)
             ≡ ratedOf (k >>= λ y. want (refused 8 p) (aBool (y .0)) >> got (record { priority = numberAt p 0; satisfied = satisfies m }, y .1))
-        by (got x) (got y) c = rw (satisfies-got y, c x refl .good y refl .0) (last (numberAt p 0) (x .0) (boolOf (y .0)) (x .1))
-        by (got x) (stop f) c = rw (satisfies-stop f) (last (numberAt p 0) (x .0) false (x .1))
-        by (stop f) m c = refl
-
--- the part at the word `at`
-module _ (S : Cells) (p : List ℤ) (at : ℕ) {word : ℕ} (w : word ≡ length p - at) where
-  there : length (drop at p) ≡ word
-  there = length-drop at p ∙ sym w
-
-  first : numberAt (drop at p) 0 ≡ numberAt p at
-  first = number-drop p at 0 ∙ (let z : at + 0 ≡ at = omega arith in rw z)
-
-  pub low-at : numberAt p at ≡ 0 → Unrated 2 word ≡ ratedOf (partAt S (drop at p))
-  low-at h = rw (← there) (part-low S (drop at p) (first ∙ h))
-
-  module _ (one : numberAt p at ≡ 0 → ⊥) where
-    pub high-at : 3 < numberAt p at → Unrated 2 word ≡ ratedOf (partAt S (drop at p))
-    high-at h = rw (← there) (part-high S (drop at p) (λ z. one (sym first ∙ z)) (rw first h))
-
-    module _ (most : numberAt p at ≤ 3) where
-      pub rated-at : {j : Judged} → j ≡ judgedAt 16 S (drop (at + 1) p) → ratedBy (numberAt p at) j word ≡ ratedOf (partAt S (drop at p))
-      rated-at e = rw (← there, ← first) (part-rated S (drop at p) (λ z. one (sym first ∙ z)) (rw first most) (e ∙ (rw (drop-drop 1 at p))))
-
-      pub boolean-at : {k x : ℤ} {left : ℕ} → eqZ k (pos 2) ≡ true → Gives S (drop (at + 1) p) k x left → Rates (numberAt p at) (eqZ x (pos 1)) left ≡ ratedOf (partAt S (drop at p))
-      boolean-at {k = k} {x = x} {left = left} e g =
-          let z : k ≡ pos 2 = eqZ-true k (pos 2) e in
-          let v : tells k x ≡ Truth (eqZ x (pos 1)) = rw (z, slot-boolean x) in
-          (rw v at (rated-at (g .judged)))
+        by (got x) (got y) c l = rw (satisfies-got y, c x refl .good y refl .0) (last (numberAt p 0) (x .0) (boolOf (y .0)) (x .1))
+        by (got x) (stop f) c l = rw (satisfies-stop f) (lost (numberAt p 0) (x .0) (x .1))
+        by (stop f) m c l = rw (ne-eqb (f .number) 0 (let z = l f refl in λ e. omega (arith, e)))
 
 -- ---- parts together: what was met before, and the rest
 
@@ -132,21 +110,21 @@ unread e = absurd (omega arith)
 
 -- ---- the loop over m parts at p: i are walked, `left` words are left, and the rest gives the whole's answer
 
-pub record PartsLeft (S : Cells) (m : ℕ) (p : List ℤ) (start i left : ℕ) (a r : Bool) : Type 0 where
+pub record PartsLeft (S : Cells) (m : ℕ) (p : List ℤ) (i left : ℕ) (a r : Bool) : Type 0 where
   pub inside : i ≤ m
-  pub rest : weighedFrom a r (weighedOf (partsOnly (partsAt (m - i) S (lastOf left p)))) ≡ weighedOf (partsOnly (partsAt m S (lastOf start p)))
+  pub rest : weighedFrom a r (weighedOf (partsOnly (partsAt (m - i) S (lastOf left p)))) ≡ weighedOf (partsOnly (partsAt m S p))
 
-pub parts-start : {S : Cells} {m : ℕ} {p : List ℤ} {start : ℕ} → PartsLeft S m p start 0 start true true
-parts-start {S = S} {m = m} {p = p} {start = start} =
+pub parts-start : {S : Cells} {m : ℕ} {p : List ℤ} → PartsLeft S m p 0 (length p) true true
+parts-start {S = S} {m = m} {p = p} =
     let z : m - 0 ≡ m = omega arith in
-    record { inside = omega arith; rest = rw z (from-none (weighedOf (partsOnly (partsAt m S (lastOf start p))))) }
+    record { inside = omega arith; rest = rw (z, last-all p) (from-none (weighedOf (partsOnly (partsAt m S p)))) }
 
-module _ {S : Cells} {m : ℕ} {p : List ℤ} {start i left : ℕ} {a r : Bool} (inv : PartsLeft S m p start i left a r) where
+module _ {S : Cells} {m : ℕ} {p : List ℤ} {i left : ℕ} {a r : Bool} (inv : PartsLeft S m p i left a r) where
   module _ (more : i < m) {g : Rated} {q : List ℤ} (l : q ≡ lastOf left p) (e : g ≡ ratedOf (partAt S q)) where
-    parts-turn : weighedFrom a r (weighedOf (partsOnly (partAt S q >>= λ x. partsAt (m - (i + 1)) S (x .1) >>= λ y. got (x .0 ∷ y .0, y .1)))) ≡ weighedOf (partsOnly (partsAt m S (lastOf start p)))
+    parts-turn : weighedFrom a r (weighedOf (partsOnly (partAt S q >>= λ x. partsAt (m - (i + 1)) S (x .1) >>= λ y. got (x .0 ∷ y .0, y .1)))) ≡ weighedOf (partsOnly (partsAt m S p))
     parts-turn = let z : m - i ≡ suc (m - (i + 1)) = omega arith in rw (z, ← l, parts-more S q (m - (i + 1))) at (inv .rest)
 
-    pub parts-stop : {n w : ℕ} → g ≡ Unrated n w → Unweighed n w ≡ weighedOf (partsOnly (partsAt m S (lastOf start p)))
+    pub parts-stop : {n w : ℕ} → g ≡ Unrated n w → Unweighed n w ≡ weighedOf (partsOnly (partsAt m S p))
     parts-stop h = by (partAt S q) _ (sym e ∙ h) ∙ parts-turn
       where
         by : {n w : ℕ} (k : Res (Part × List ℤ)) (f : Part × List ℤ → Res (List Part × List ℤ)) → ratedOf k ≡ Unrated n w → Unweighed n w ≡ weighedFrom a r (weighedOf (partsOnly (k >>= f)))
@@ -154,10 +132,10 @@ module _ {S : Cells} {m : ℕ} {p : List ℤ} {start i left : ℕ} {a r : Bool} 
         by (stop x) f e = cc
 
     pub parts-go-on : {priority rest : ℕ} {satisfied : Bool} → g ≡ Rates priority satisfied rest
-        → PartsLeft S m p start (i + 1) rest (a && satisfied) (r && (not (eqb priority 3) || satisfied))
+        → PartsLeft S m p (i + 1) rest (a && satisfied) (r && (not (eqb priority 3) || satisfied))
     parts-go-on {priority = n} {rest = t} {satisfied = b} h = either (partAt S q) there (λ f k. unread (let y : Unrated (f .number) (f .word) ≡ Rates n b t = sym (rw k at e) ∙ h in cc))
       where
-        there : (x : Part × List ℤ) → partAt S q ≡ got x → PartsLeft S m p start (i + 1) t (a && b) (r && (not (eqb n 3) || b))
+        there : (x : Part × List ℤ) → partAt S q ≡ got x → PartsLeft S m p (i + 1) t (a && b) (r && (not (eqb n 3) || b))
         there x k =
             let y : Rates (x .0 .priority) (x .0 .satisfied) (length (x .1)) ≡ Rates n b t = sym (rw k at e) ∙ h in
             let y1 : x .0 .priority ≡ n = cc in
@@ -166,7 +144,7 @@ module _ {S : Cells} {m : ℕ} {p : List ℤ} {start i left : ℕ} {a r : Bool} 
             let w : lastOf t p ≡ x .1 = rw (← y3) (part-trans (last-part left p) (rw l at (part-part S q x k)) .is) in
             record { inside = omega arith; rest = rw (w, ← y1, ← y2) (from-part a r (x .0) (partsAt (m - (i + 1)) S (x .1)) ∙ (rw k at parts-turn)) }
 
-  pub parts-end : m ≤ i → Reads a r ≡ weighedOf (partsOnly (partsAt m S (lastOf start p)))
+  pub parts-end : m ≤ i → Reads a r ≡ weighedOf (partsOnly (partsAt m S p))
   parts-end h = let z : m - i ≡ 0 = omega arith in sym (from-end a r) ∙ (rw (z, parts-none S (lastOf left p)) at (inv .rest))
 
 -- ---- a C
@@ -182,40 +160,6 @@ module _ (S : Cells) (p : List ℤ) where
     pub constraint-parts : numberAt p 0 ≤ 16 → weighedOf (partsOnly (partsAt (numberAt p 0) S (drop 1 p))) ≡ weighedOf (constraintAt S p)
     constraint-parts h = rw (constraint-is S p, number-fits 1 16 p (omega (arith, one)) h)
 
--- the C at the word `at`
-module _ (S : Cells) (p : List ℤ) (at : ℕ) {word : ℕ} (w : word ≡ length p - at) where
-  length-at : length (drop at p) ≡ word
-  length-at = length-drop at p ∙ sym w
-
-  number-at : numberAt (drop at p) 0 ≡ numberAt p at
-  number-at = number-drop p at 0 ∙ (let z : at + 0 ≡ at = omega arith in rw z)
-
-  pub constraint-low-at : numberAt p at ≡ 0 → Unweighed 2 word ≡ weighedOf (constraintAt S (drop at p))
-  constraint-low-at h = rw (← length-at) (constraint-low S (drop at p) (number-at ∙ h))
-
-  module _ (one : numberAt p at ≡ 0 → ⊥) where
-    pub constraint-high-at : 16 < numberAt p at → Unweighed 2 word ≡ weighedOf (constraintAt S (drop at p))
-    constraint-high-at h = rw (← length-at) (constraint-high S (drop at p) (λ z. one (sym number-at ∙ z)) (rw number-at h))
-
-    pub constraint-parts-at : numberAt p at ≤ 16 → weighedOf (partsOnly (partsAt (numberAt p at) S (lastOf (word - 1) p))) ≡ weighedOf (constraintAt S (drop at p))
-    constraint-parts-at h =
-        let l : at < length p = number-there p at (omega arith) in
-        let z : length p - (word - 1) ≡ at + 1 = omega (arith, w) in
-        let d : lastOf (word - 1) p ≡ drop 1 (drop at p) = (rw z) ∙ sym (drop-drop 1 at p) in
-        rw (d, ← number-at) (constraint-parts S (drop at p) (λ y. one (sym number-at ∙ y)) (rw number-at h))
-
--- where the parts of the C after a position give booleans
-row-same : {w v : Weighed} → w ≡ v → (r : Row) → RowAs w r → RowAs v r
-row-same e (Sure a b) x = x ∙ e
-row-same e Unsaid x = tt
-
-pub row-parts : (S : Cells) (p : List ℤ) (position : ℕ) {word start : ℕ} (r : Row) → word ≡ length p - position → (word ≡ 0 → ⊥) → start ≡ word - 2
-    → (numberAt p (position + 1) ≡ 0 → ⊥) → numberAt p (position + 1) ≤ 16
-    → RowAs (weighedOf (partsOnly (partsAt (numberAt p (position + 1)) S (lastOf start p)))) r → RowAs (weighedOf (constraintAt S (drop (position + 1) p))) r
-row-parts S p position {word} {start} r w n e one most x =
-    let z : length p - (position + 1) - 1 ≡ start = omega (arith, w, e) in
-    row-same (rw z at (constraint-parts-at S p (position + 1) refl one most)) r x
-
 -- ---- the loop over the n kept value constraints: i are walked, and the rest gives the whole's answer
 
 pub record KeptLeft (program : List ℤ) (S : Cells) (c : List ℤ) (n i : ℕ) (a r : Bool) : Type 0 where
@@ -227,28 +171,25 @@ kept-start {program = program} {S = S} {c = c} {n = n} e =
     let z : n - 0 ≡ n = omega arith in
     record { inside = omega arith; rest = rw (z, positions-are c Values, e) (from-none (weighedOf (keptParts program S (listed (positionAt c Values) 0 (keptCount c Values))))) }
 
--- a statement's words after its first, counted from the program's second
-pub after-first : (program : List ℤ) (at : ℕ) → drop at (drop 1 program) ≡ drop (at + 1) program
-after-first program at = drop-drop at 1 program ∙ (let z : 1 + at ≡ at + 1 = omega arith in rw z)
-
 module _ {program : List ℤ} {S : Cells} {c : List ℤ} {n i : ℕ} {a r : Bool} (inv : KeptLeft program S c n i a r) where
-  module _ (more : i < n) {g : Weighed} (e : g ≡ weighedOf (constraintAt S (drop (positionAt c Values i + 1) program))) where
-    kept-turn : weighedFrom a r (weighedOf (fifteen (constraintAt S (drop (positionAt c Values i + 1) program)) >>= λ xs. keptParts program S (listed (positionAt c Values) (i + 1) (n - (i + 1))) >>= λ ys. got (xs ++ ys)))
+  module _ (more : i < n) {g : Weighed} {q : List ℤ} (l : q ≡ drop 1 (drop (positionAt c Values i) program)) (e : g ≡ weighedOf (constraintAt S q)) where
+    kept-turn : weighedFrom a r (weighedOf (fifteen (constraintAt S q) >>= λ xs. keptParts program S (listed (positionAt c Values) (i + 1) (n - (i + 1))) >>= λ ys. got (xs ++ ys)))
         ≡ weighedOf (keptParts program S (positions c Values))
     kept-turn =
         let z : n - i ≡ suc (n - (i + 1)) = omega arith in
+        let k : drop (positionAt c Values i + 1) program ≡ q = sym (l ∙ drop-drop 1 (positionAt c Values i) program) in
         let y : suc i ≡ i + 1 = sym (add-one i) in
-        rw (z, listed-more (positionAt c Values) i (n - (i + 1)), kept-more program S (positionAt c Values i) (listed (positionAt c Values) (suc i) (n - (i + 1))), kept-is program S (positionAt c Values i), y) at (inv .rest)
+        rw (z, listed-more (positionAt c Values) i (n - (i + 1)), kept-more program S (positionAt c Values i) (listed (positionAt c Values) (suc i) (n - (i + 1))), kept-is program S (positionAt c Values i), k, y) at (inv .rest)
 
     pub kept-stop : {k w : ℕ} → g ≡ Unweighed k w → Unweighed 15 w ≡ weighedOf (keptParts program S (positions c Values))
-    kept-stop h = by (constraintAt S (drop (positionAt c Values i + 1) program)) _ (sym e ∙ h) ∙ kept-turn
+    kept-stop h = by (constraintAt S q) _ (sym e ∙ h) ∙ kept-turn
       where
         by : {k w : ℕ} (m : Res (List Part)) (f : List Part → Res (List Part)) → weighedOf m ≡ Unweighed k w → Unweighed 15 w ≡ weighedFrom a r (weighedOf (fifteen m >>= f))
         by (got x) f e = unread cc
         by {w = w} (stop x) f e = let y : x .word ≡ w = cc in rw y
 
     pub kept-go-on : {b s : Bool} → g ≡ Reads b s → KeptLeft program S c n (i + 1) (a && b) (r && s)
-    kept-go-on h = record { inside = omega arith; rest = by (constraintAt S (drop (positionAt c Values i + 1) program)) (keptParts program S (listed (positionAt c Values) (i + 1) (n - (i + 1)))) (sym e ∙ h) ∙ kept-turn }
+    kept-go-on h = record { inside = omega arith; rest = by (constraintAt S q) (keptParts program S (listed (positionAt c Values) (i + 1) (n - (i + 1)))) (sym e ∙ h) ∙ kept-turn }
       where
         by : {b s : Bool} (k m : Res (List Part)) → weighedOf k ≡ Reads b s → weighedFrom (a && b) (r && s) (weighedOf m) ≡ weighedFrom a r (weighedOf (fifteen k >>= λ xs. m >>= λ ys. got (xs ++ ys)))
         by {b = b} {s = s} (got xs) m e =

@@ -1,9 +1,8 @@
 pub mod PathLaws
-pub mod OperatorLaws
-pub mod EvaluateLaws
-pub mod JudgeLaws
-pub mod ConstraintLaws
 pub mod TraceLaws
-pub mod MakeLaws
-pub mod WalkLaws
-pub mod BoundLaws
+pub mod OperatorLaws
+pub mod LeafLaws
+pub mod OperandLaws
+pub mod EvaluateLaws
+pub mod TestLaws
+pub mod ConstraintLaws

@@ -17,7 +17,6 @@ use Rattle.rules.specs.Evaluation.{Kind, isNil, isBool, isInt, isRef, kindOf, a
 use Rattle.rules.specs.Evaluation.{ranged as inRange}
 use Rattle.rules.proofs.OperatorClauses.{ranged-is as in-range-is, apply-is, no-op, takes-none, made-0, made-none}
 use Rattle.expressions.specs.declared.Applied.{Applied}
-use Rattle.expressions.specs.declared.Applied.the-variants.{Is, Not}
 use Rattle.expressions.specs.Told.{kindNumber, kindFrom, appliedOf, rangedOf}
 
 -- kinds by their numbers
@@ -48,15 +47,7 @@ range-is z = rw (ranged-is z, in-range-is z) (by (fits z))
     by true = refl
     by false = refl
 
--- kinds, then range
-module _ (o : ℕ) (a b : Value) where
-  pub kinds-fail : takes (opOf o) (kindOf a) (kindOf b) ≡ false → Not 8 ≡ appliedOf (apply (opOf o) a b)
-  kinds-fail e = rw (apply-is a b (opOf o), e)
-
-  pub kinds-pass : takes (opOf o) (kindOf a) (kindOf b) ≡ true → appliedOf (made (opOf o) a b) ≡ appliedOf (apply (opOf o) a b)
-  kinds-pass e = rw (apply-is a b (opOf o), e)
-
 -- a number that is none of the operators
-pub made-other : (o : ℕ) (a b : Value) → (1 ≤ o → 11 < o) → Not 8 ≡ appliedOf (made (opOf o) a b)
+pub made-other : (o : ℕ) (a b : Value) → (1 ≤ o → 11 < o) → record { number = 8; value = Nil } ≡ appliedOf (made (opOf o) a b)
 made-other zero a b h = rw (made-0 a b)
 made-other (suc o) a b h = rw (made-none a b (suc o) (h (omega arith)))

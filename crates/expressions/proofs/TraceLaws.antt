@@ -18,13 +18,13 @@ use Rattle.tables.specs.declared.Found.{Found}
 use Rattle.tables.specs.declared.Found.the-variants.{At, Nothing}
 use Rattle.tables.specs.Cells.{Cells}
 use Rattle.tables.specs.Records.{fieldWith}
-use Rattle.tables.proofs.FindLaws.{field-in}
+use Rattle.tables.proofs.FindLaws.{find-below}
 use Rattle.tables.proofs.SearchLaws.{cases}
 use Rattle.program.proofs.NumberLaws.{number-read}
 use Rattle.rules.specs.State.{slotAt, listed}
 use Rattle.rules.specs.Paths.{follow, Way, wayAt}
 use Rattle.rules.proofs.ConstraintClauses.{listed-none, listed-more}
-use Rattle.rules.proofs.WayLaws.{follow-step, follow-none, found-at, way-of}
+use Rattle.rules.proofs.WayLaws.{follow-step, follow-none, way-of}
 use Rattle.expressions.specs.Following.{stepFrom, stepTo, landOn, landed, goOn, onWay, wayOn}
 use Rattle.expressions.proofs.PathLaws.{Landing, landing-starts}
 
@@ -81,9 +81,7 @@ on-cells : (S : Cells) (n l : ℕ) (p : List ℤ) (k : ℕ) (on : List ℤ) (x :
     → listed (numberAt (onWay S n l p k on)) k n ≡ x .1
 on-cells S zero l p k on x e b h = rw (listed-none (numberAt (onWay S 0 l p k on)) k, follow-none S l p x e)
 on-cells S (suc n) l p k on x e b h = follow-step S n l p x e λ r next y e1 e2 e3 q.
-    let w = found-at (S .heap) r (numberAt p 0) next e2 in
-    let i = field-in (S .heap) r (w .at-place) (w .used) in
-    let m : next < 576 = omega (arith, w .is, i .0, i .1) in
+    let m : next < 576 = find-below (S .heap) r (numberAt p 0) next e2 in
     let long : suc k + n ≤ length (set on k (wordOf l)) = rw (length-set on k (wordOf l)) (omega arith) in
     rw (on-step S n l p k on next (goes S l r next p e1 e2), listed-more (numberAt (onWay S n next (drop 1 p) (suc k) (set on k (wordOf l)))) k n, q, on-first S n l next (drop 1 p) k on b (omega arith))
     (ap (λ ls. l ∷ ls) (on-cells S n next (drop 1 p) (suc k) (set on k (wordOf l)) y e3 m long))

@@ -40,6 +40,11 @@ unfoldable pub landed : Cells → ℕ → ℕ → List ℤ → Found
 landed S zero l p = At l
 landed S (suc n) l p = landOn (stepTo S l (numberAt p 0)) (λ next. landed S n next (drop 1 p))
 
+-- what is found there
+abbrev pub slotIn : Cells → Found → Slot
+slotIn S (At l) = slotAt S l
+slotIn S Nothing = Absent
+
 -- ---- the cells on the way, written down
 
 abbrev pub goOn : Found → (ℕ → List ℤ) → List ℤ → List ℤ

@@ -1,6 +1,4 @@
 pub mod Told
 pub mod Following
-pub mod Evaluating
+pub mod Valuing
 pub mod Judging
-pub mod Walking
-pub mod Bounding

@@ -19,7 +19,6 @@ use Rattle.expressions.specs.declared.Named.the-variants.{Cell, Lost}
 use Rattle.expressions.specs.declared.Evaluated.{Evaluated}
 use Rattle.expressions.specs.declared.Evaluated.the-variants.{Got, Fails}
 use Rattle.expressions.specs.declared.Applied.{Applied}
-use Rattle.expressions.specs.declared.Applied.the-variants.{Is, Not}
 
 -- the cell that an L names, and the words left after it; or the refusal's number and word
 abbrev pub namedOf : Res Way → Named
@@ -42,10 +41,13 @@ abbrev pub kindFrom : ℕ → Kind
 kindFrom n = cond (eqb n 2) isBool (cond (eqb n 3) isInt (cond (eqb n 4) isRef isNil))
 
 -- what an operator makes of two values, or the refusal's number
+abbrev pub does : Value → Applied
+does v = record { number = 0; value = v }
+
 abbrev pub appliedOf : Answer ℕ Value → Applied
-appliedOf (got v) = Is v
-appliedOf (stop n) = Not n
+appliedOf (got v) = does v
+appliedOf (stop n) = record { number = n; value = Nil }
 
 abbrev pub rangedOf : Ranged → Applied
-rangedOf (Within n) = Is (Int n)
-rangedOf Outside = Not 9
+rangedOf (Within n) = does (Int n)
+rangedOf Outside = record { number = 9; value = Nil }

@@ -1,13 +1,8 @@
 // Paths, expressions and the parts of a constraint, evaluated over lent tables.
 pub mod paths; // paths.rt: the cell that an L names
 pub mod operators; // operators.rt: kinds and results of the operators
-mod making; // making.rt: the operators on values told by two words
-mod walking; // walking.rt: an expression that gives a value, in one walk
-pub mod values; // values.rt: what an expression evaluates to
+pub mod values; // values.rt: what an expression comes to, outside C and inside it
 pub mod testing; // testing.rt: the test of an if or while
-pub mod judging; // judging.rt: kind and value of an expression inside C, in one walk
-mod bounding; // bounding.rt: a variable or a field compared with a number
-mod keeping; // keeping.rt: the kept constraints whose every part gives a boolean
 pub mod constraints; // constraints.rt: the parts of a constraint, of the kept ones, and of those that count for a statement
 
 // The cell that an L names and the words left after it, or a refusal's number and word.
@@ -22,10 +17,10 @@ pub enum Evaluated {
     Fails(usize, usize),
 }
 
-// What an operator makes of two values, or a refusal's number.
-pub enum Applied {
-    Is(tables::Value),
-    Not(usize),
+// What an operator makes of two values: the number is 0, or that of the refusal.
+pub struct Applied {
+    pub number: usize,
+    pub value: tables::Value,
 }
 
 // How the test of an if or while comes out, or a refusal's number and word.
@@ -34,12 +29,22 @@ pub enum Tested {
     Fails(usize, usize),
 }
 
-// An expression inside C. Known: its value, and the words left after it. Unknown: its arithmetic leaves 32 bits; the number of its kind, and
-// the words left. Fails: it does not read; the refusal's number and word.
-pub enum Judged {
-    Known(tables::Value, usize),
-    Unknown(usize, usize),
-    Fails(usize, usize),
+// What an expression comes to. Where it reads, the number is 0 and `left` words are left after it; where its arithmetic leaves 32 bits inside C it is
+// not exact, and the value is one of its kind that stands in. Else the number is the refusal's, and `left` words are left from the word at fault on.
+pub struct Valued {
+    pub number: usize,
+    pub left: usize,
+    pub exact: bool,
+    pub value: tables::Value,
+}
+
+// The operands of an expression: two under an operator from 1 on; or, under none (0), the expression itself. `left` words are left from the first on, and
+// an operand may nest so deep; or a refusal's number, and its word by the words left.
+pub struct Row {
+    pub number: usize,
+    pub operator: usize,
+    pub left: usize,
+    pub depth: usize,
 }
 
 // A part of C: its priority, whether it is satisfied, and the words left after it; or a refusal's number and word.
@@ -52,37 +57,4 @@ pub enum Rated {
 pub enum Weighed {
     Reads(bool, bool),
     Fails(usize, usize),
-}
-
-// The innermost operator that is open, the kind and payload of its left operand (kind 0: it is to come), and how many operators are open.
-pub struct Held {
-    pub operator: i32,
-    pub kind: i32,
-    pub payload: i32,
-    pub depth: usize,
-}
-
-// Open operators, once a value is there: the whole's kind and payload; or the right operand of the innermost is to come; or nothing is said.
-pub enum Folded {
-    Whole(i32, i32),
-    Half(Held),
-    Odd,
-}
-
-// An expression that gives a value: its kind and payload, and how many words are left after it; or nothing is said.
-pub enum Walked {
-    Is(i32, i32, usize),
-    Odd,
-}
-
-// A part of C that gives a boolean: its priority, whether it is satisfied, and the words left after it; or nothing is said.
-pub enum Seen {
-    Part(usize, bool, usize),
-    Odd,
-}
-
-// Parts of constraints that all give booleans: whether all are satisfied, and whether all required ones are; or nothing is said.
-pub enum Row {
-    Reads(bool, bool),
-    Odd,
 }

@@ -3,8 +3,8 @@ use crate::Applied;
 use tables::Value;
 use words::Ranged;
 ghost use mathlib.Core.Path.{_≡_};
-ghost use Rattle.rules.specs.Evaluation.{kindOf, intOf, boolOf, same, takes, gives, made, apply, opOf};
-ghost use Rattle.expressions.specs.Told.{kindNumber, kindFrom, rangedOf, appliedOf};
+ghost use Rattle.rules.specs.Evaluation.{kindOf, intOf, boolOf, same, takes, made, opOf};
+ghost use Rattle.expressions.specs.Told.{kindNumber, kindFrom, does, rangedOf, appliedOf};
 
 // The number of a value's kind.
 pub fn kind(v: Value) -> usize
@@ -72,40 +72,33 @@ pub fn takes_kinds(o: usize, a: usize, b: usize) -> bool
     }
 }
 
-// The number of the kind that operator o gives; 1 where there is no such operator.
-pub fn gives_kind(o: usize) -> usize
-    ensures { λ r. ⌜ r ≡ kindNumber (gives (opOf o)) ⌝ }
-{
-    if o == 0 {
-        return 1;
-    }
-    if o <= 3 {
-        return 3;
-    }
-    if o <= program::OPERATORS {
-        return 2;
-    }
-    1
-}
-
 // A result that must be a word: 9 where it is none.
 fn in_range(r: Ranged) -> Applied
     ensures { λ a. ⌜ a ≡ rangedOf r ⌝ }
 {
     match r {
-        Ranged::Within(n) => Applied::Is(Value::Int(n)),
-        Ranged::Outside => Applied::Not(9),
+        Ranged::Within(n) => Applied {
+            number: 0,
+            value: Value::Int(n),
+        },
+        Ranged::Outside => Applied {
+            number: 9,
+            value: Value::Nil,
+        },
     }
 }
 
 fn truth(b: bool) -> Applied
-    ensures { λ r. ⌜ r ≡ Applied.Is (Value.Bool b) ⌝ }
+    ensures { λ r. ⌜ r ≡ does (Value.Bool b) ⌝ }
 {
-    Applied::Is(Value::Bool(b))
+    Applied {
+        number: 0,
+        value: Value::Bool(b),
+    }
 }
 
 // What operator o makes of two values whose kinds it takes.
-fn make(o: usize, a: Value, b: Value) -> Applied
+pub fn make(o: usize, a: Value, b: Value) -> Applied
     ensures { λ r. ⌜ r ≡ appliedOf (made (opOf o) a b) ⌝ }
 {
     match o {
@@ -120,16 +113,9 @@ fn make(o: usize, a: Value, b: Value) -> Applied
         9 => truth(words::below(int_of(b), int_of(a))),
         10 => truth(bool_of(a) & bool_of(b)),
         11 => truth(bool_of(a) | bool_of(b)),
-        _ => Applied::Not(8),
+        _ => Applied {
+            number: 8,
+            value: Value::Nil,
+        },
     }
-}
-
-// Operator o on two values: kinds (8), then range (9).
-pub fn apply_to(o: usize, a: Value, b: Value) -> Applied
-    ensures { λ r. ⌜ r ≡ appliedOf (apply (opOf o) a b) ⌝ }
-{
-    if !takes_kinds(o, kind(a), kind(b)) {
-        return Applied::Not(8);
-    }
-    make(o, a, b)
 }

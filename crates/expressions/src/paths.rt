@@ -6,9 +6,9 @@ use tables::Slot;
 use tables::Value;
 ghost use mathlib.Core.Path.{_≡_};
 ghost use Rattle.tables.specs.Cells.{cells};
-ghost use Rattle.rules.specs.Paths.{wayAt, valueAt};
-ghost use Rattle.expressions.specs.Told.{namedOf, evaluatedOf};
-ghost use Rattle.expressions.specs.Following.{stepTo, landed, Lands, Traces};
+ghost use Rattle.rules.specs.Paths.{valueAt};
+ghost use Rattle.expressions.specs.Told.{evaluatedOf};
+ghost use Rattle.expressions.specs.Following.{stepTo, Lands, Traces};
 
 // The cell that one label leads to from the cell l.
 fn step(environment: &[i32], heap: &[i32], l: usize, label: usize) -> Found
@@ -23,46 +23,6 @@ fn step(environment: &[i32], heap: &[i32], l: usize, label: usize) -> Found
         Value::Bool(_) => Found::Nothing,
         Value::Int(_) => Found::Nothing,
         Value::Ref(r) => tables::records::find_field(heap, r, label),
-    }
-}
-
-// The cell that n labels, at p, lead to from the cell l.
-fn land(environment: &[i32], heap: &[i32], n: usize, l: usize, p: &[i32]) -> Found
-    ensures { λ r. ⌜ r ≡ landed (cells (now (environment .entry)) (now (heap .entry))) n l (now (p .entry)) ⌝ }
-{
-    let mut at = l;
-    let mut i: usize = 0;
-    while i < n {
-        match step(environment, heap, at, words::number_at(p, i)) {
-            Found::Nothing => {
-                return Found::Nothing;
-            }
-            Found::At(next) => {
-                at = next;
-            }
-        }
-        i += 1;
-    }
-    Found::At(at)
-}
-
-// The cell that the L at p names, and the words left after it; 7 at its variable word.
-pub fn follow(environment: &[i32], heap: &[i32], p: &[i32]) -> Named
-    ensures { λ r. ⌜ r ≡ namedOf (wayAt (cells (now (environment .entry)) (now (heap .entry))) (now (p .entry))) ⌝ }
-{
-    let x = words::number_at(p, 0);
-    if tables::VARIABLES <= x {
-        return Named::Lost(2, p.len());
-    }
-    let q = words::part_from(p, 1);
-    let n = words::number_at(q, 0);
-    if program::MOST_STEPS < n {
-        return Named::Lost(2, q.len());
-    }
-    let r = words::part_from(q, 1);
-    match land(environment, heap, n, x, r) {
-        Found::At(l) => Named::Cell(l, words::less(r.len(), n)),
-        Found::Nothing => Named::Lost(7, p.len()),
     }
 }
 
@@ -114,11 +74,12 @@ pub fn follow_on(environment: &[i32], heap: &[i32], p: &[i32], on: &mut [i32]) -
     }
 }
 
-// The value that the L at p names.
+// The value that the L at p names, by the cell that it names.
 pub fn value_at(environment: &[i32], heap: &[i32], p: &[i32]) -> Evaluated
     ensures { λ r. ⌜ r ≡ evaluatedOf (valueAt (cells (now (environment .entry)) (now (heap .entry))) (now (p .entry))) ⌝ }
 {
-    match follow(environment, heap, p) {
+    let mut on: [i32; 7] = [0; 7];
+    match follow_on(environment, heap, p, &mut on) {
         Named::Cell(l, left) => {
             let slot = tables::cells::slot_of(tables::cells::read_cell(environment, heap, l));
             match slot {

@@ -1,94 +1,49 @@
--- What the code of one statement comes to, with the tally by value. Assumes nothing.
-use mathlib.Core.Path.{_≡_, refl, ap, _∙_}
-use mathlib.Core.Bool.{true, false}
-use mathlib.Core.List.{List, []}
-use Prim.Native.Nat.{ℕ, _+_, _≤_, _<_}
+-- What the code of one statement comes to. Assumes nothing.
+use mathlib.Core.Path.{_≡_, refl, sym, ap, _∙_}
+use mathlib.Core.Bool.{true, false, true≢false}
+use mathlib.Core.List.{List}
+use Prim.Native.Nat.{ℕ, _+_, _≤_}
 use native.Mathlib.Omega.{arith}
-use borrow.Author.Tests.{eq-eqb, ne-eqb, le-leb, lt-leb}
-use lib.IntN.{ℤ, pos}
-use lib.ListN.{length}
+use native.Mathlib.Decide.{ℕ-discrete}
+use borrow.Author.Tests.{eq-eqb, ne-eqb}
+use lib.Dec.{eqb}
+use lib.IntN.{ℤ}
 use Rattle.words.specs.Words.{numberAt, lastOf}
-use Rattle.words.proofs.Laws.{number-first}
+use Rattle.words.specs.Answer.{got, stop}
 use Rattle.program.specs.Forms.{Verb, skip, assign, new, always, once, alwaysSame, onceSame, branch, loop, noVerb, verbOf}
-use Rattle.program.specs.Grammar.{Yields, Expression}
+use Rattle.program.specs.Reading.{readBlock, after}
 use Rattle.program.proofs.FormLaws.{verb-number}
-use Rattle.program.proofs.RowLaws.{last-length}
-use Rattle.rules.specs.State.{State}
-use Rattle.rules.specs.Statements.{positionOf, doSimple}
-use Rattle.rules.specs.Running.{Out, on, end}
-use Rattle.rules.proofs.PlaceLaws.{verb-in}
-use Rattle.statements.specs.declared.Done.{Done}
-use Rattle.statements.specs.declared.Done.the-variants.{Accepted, Refused}
-use Rattle.statements.specs.declared.Tally.{Tally as Counts}
-use Rattle.statements.specs.declared.Ran.{Ran}
-use Rattle.statements.specs.declared.Ran.the-variants.{On, Ends}
-use Rattle.statements.specs.Told.{Does}
-use Rattle.statements.specs.Tallied.{untoldOut, outOf, tallyIn, Begins, Goes, acceptedIn, ranOf}
-use Rattle.statements.proofs.RunLaws.{paidOne, statement-broke, simple-few, statement-simple}
+use Rattle.program.proofs.LengthLaws.{Part, part-trans}
+use Rattle.program.proofs.RowLaws.{last-part}
+use Rattle.rules.specs.State.{State, Res}
+use Rattle.rules.specs.Statements.{Left, positionOf, doSimple}
+use Rattle.rules.specs.Running.{Out, thenOut, taken, doVerb, doBlock}
+use Rattle.rules.specs.Running.{Tally as Carries}
+use Rattle.rules.proofs.SimpleLaws.{steps-iff}
+use Rattle.rules.proofs.CountLaws.{Takes, steps-take}
+use Rattle.rules.proofs.Refusals.{simple-not}
+use Rattle.rules.proofs.RunningClauses.{is-skip, is-assign, is-new, is-always, is-once, is-always-same, is-once-same}
+use Rattle.rules.proofs.RunningClauses.{taken-got, taken-stop, verb-simple, verb-none, statement-is}
+use Rattle.phases.specs.declared.Done.{Done}
+use Rattle.phases.specs.Told.{doneOf, doneState, Does}
+use Rattle.statements.proofs.VerbLaws.{verb-is}
 use Rattle.lent.specs.declared.Tally.{Tally}
-use Rattle.lent.specs.Lending.{carried, lentOf, stateIn, holdsBlocks, oneStatement, Fits, Comes, goesOn, Steps, endedAt, doneBy}
-
--- ---- the lent tally and the one by value of `statements`
-
-abbrev pub counts : Tally → Counts
-counts t = record { steps = t .steps; accepted = t .accepted; unread = t .unread }
-
-abbrev pub paid : Tally → Tally
-paid t = record { steps = t .steps + 1; accepted = t .accepted; unread = t .unread; outcome = 0; place = 0 }
-
-abbrev lentRan : Ran → Tally
-lentRan (On u) = record { steps = u .steps; accepted = u .accepted; unread = u .unread; outcome = 0; place = 0 }
-lentRan (Ends n place u) = record { steps = u .steps; accepted = u .accepted; unread = u .unread; outcome = n; place = place }
-
-begins : {ws : List ℤ} {t : Tally} → Fits ws t → Begins ws (counts t)
-begins f = record { few = f .few; inside = f .inside }
-
--- how the tests came out does not matter for it
-lent-untold : (o : Out) → lentOf (untoldOut o) ≡ lentOf o
-lent-untold (on u) = refl
-lent-untold (end n place u) = refl
-
-state-untold : (o : Out) → stateIn (untoldOut o) ≡ stateIn o
-state-untold (on u) = refl
-state-untold (end n place u) = refl
-
-module _ (ws : List ℤ) (Z : State) where
-  lent-ran : (r : Ran) → tallyIn r .unread ≤ length ws → lentRan r ≡ lentOf (outOf ws Z r)
-  lent-ran (On u) h = rw (last-length (u .unread) ws h)
-  lent-ran (Ends n place u) h = rw (last-length (u .unread) ws h)
-
-  state-ran : (r : Ran) → Z ≡ stateIn (outOf ws Z r)
-  state-ran (On u) = refl
-  state-ran (Ends n place u) = refl
-
-  fits-ran : (r : Ran) → tallyIn r .accepted ≤ tallyIn r .steps → tallyIn r .unread ≤ length ws → Fits ws (lentRan r)
-  fits-ran (On u) a b = record { few = a; inside = b }
-  fits-ran (Ends n place u) a b = record { few = a; inside = b }
-
-  came : {t : Counts} {r : Ran} {o : Out} → Goes ws t Z r o → Comes ws Z (lentRan r) o
-  came {t} {r} {o} g =
-      record {
-        is = lent-ran r (g .runs .inside) ∙ ap lentOf (g .runs .is) ∙ lent-untold o;
-        leaves = state-ran r ∙ ap stateIn (g .runs .is) ∙ state-untold o;
-        fits = fits-ran r (g .runs .few) (g .runs .inside);
-      }
+use Rattle.lent.specs.Tallied.{carries, outOf, untoldOut, Begins, Goes, endedAt, paidBy, acceptedIn, doneBy}
+use Rattle.lent.specs.Lending.{holdsBlocks, oneStatement, Steps}
+use Rattle.lent.proofs.TallyLaws.{halted, goes-from, goes-on, goes-ends, went-on, pay-one, pay-is, pay-goes}
 
 -- ---- which statements hold blocks
 
-if-holds : holdsBlocks (verbOf 7) ≡ true
-if-holds =
-    ap holdsBlocks
-    (rw (number-first (pos 7) _) at
-    (verb-in {d = 1} (Yields.branch Expression.nil (Yields.block (omega arith) Yields.none) (Yields.block (omega arith) Yields.none)) []))
+pub seven-holds : {n : ℕ} → n ≡ 7 → true ≡ holdsBlocks (verbOf n)
+seven-holds e = rw (e, verb-is branch (omega arith))
 
-while-holds : holdsBlocks (verbOf 8) ≡ true
-while-holds =
-    ap holdsBlocks (rw (number-first (pos 8) _) at (verb-in {d = 1} (Yields.loop Expression.nil (Yields.block (omega arith) Yields.none)) []))
+eight-holds : {n : ℕ} → n ≡ 8 → true ≡ holdsBlocks (verbOf n)
+eight-holds e = rw (e, verb-is loop (omega arith))
 
-holds-none : (n : ℕ) → (n ≡ 7 → ⊥) → (n ≡ 8 → ⊥) → holdsBlocks (verbOf n) ≡ false
-holds-none n a c = by (verbOf n) refl
+none-holds : (n : ℕ) → (n ≡ 7 → ⊥) → (n ≡ 8 → ⊥) → false ≡ holdsBlocks (verbOf n)
+none-holds n a c = by (verbOf n) refl
   where
-    by : (v : Verb) → verbOf n ≡ v → holdsBlocks v ≡ false
+    by : (v : Verb) → verbOf n ≡ v → false ≡ holdsBlocks v
     by skip e = refl
     by assign e = refl
     by new e = refl
@@ -100,58 +55,97 @@ holds-none n a c = by (verbOf n) refl
     by loop e = absurd (c (rw e at (verb-number n (rw e (omega arith)))))
     by noVerb e = refl
 
--- ---- a statement that is begun with a tally that fits
+pub eight-or-none : (n : ℕ) → (n ≡ 7 → ⊥) → eqb n 8 ≡ holdsBlocks (verbOf n)
+eight-or-none n a = by (ℕ-discrete n 8)
+  where
+    by : Dec (n ≡ 8) → eqb n 8 ≡ holdsBlocks (verbOf n)
+    by (yes y) = rw (eq-eqb n 8 y) (eight-holds y)
+    by (no z) = rw (ne-eqb n 8 z) (none-holds n a z)
 
-module _ (program : List ℤ) (budget : ℕ) (p ws : List ℤ) (S : State) {t : Tally} (f : Fits ws t) where
-  not-begun : {place : ℕ} {r : Tally} → holdsBlocks (verbOf (numberAt p 0)) ≡ true → place ≡ positionOf program p → r ≡ endedAt 2 place t
-      → Comes ws S r (oneStatement program budget p (carried ws S t))
-  not-begun h l e = rw (h, e, l) (record { is = rw (last-length (t .unread) ws (f .inside)); leaves = refl; fits = record { few = f .few; inside = f .inside } })
+pub is-eight : (n : ℕ) → true ≡ holdsBlocks (verbOf n) → (n ≡ 7 → ⊥) → n ≡ 8
+is-eight n h a = by (ℕ-discrete n 8)
+  where
+    by : Dec (n ≡ 8) → n ≡ 8
+    by (yes y) = y
+    by (no z) = absurd (true≢false (h ∙ sym (none-holds n a z)))
 
-  pub begun-if : {place : ℕ} {r : Tally} → numberAt p 0 ≡ 7 → place ≡ positionOf program p → r ≡ endedAt 2 place t
-      → Comes ws S r (oneStatement program budget p (carried ws S t))
-  begun-if n l e = not-begun (rw n if-holds) l e
+-- what a statement that holds no block does
+pub verb-flat : (block : List ℤ → Carries → Out) (past : List ℤ → List ℤ) (program : List ℤ) (budget : ℕ) (p : List ℤ) (u : Carries) (v : Verb) → holdsBlocks v ≡ false
+    → doVerb block past program budget p v u ≡ taken (positionOf program p) u (doSimple program p (u .state) (u .unread) v)
+verb-flat block past program budget p u skip h = verb-simple block past program budget p u skip is-skip
+verb-flat block past program budget p u assign h = verb-simple block past program budget p u assign is-assign
+verb-flat block past program budget p u new h = verb-simple block past program budget p u new is-new
+verb-flat block past program budget p u always h = verb-simple block past program budget p u always is-always
+verb-flat block past program budget p u once h = verb-simple block past program budget p u once is-once
+verb-flat block past program budget p u alwaysSame h = verb-simple block past program budget p u alwaysSame is-always-same
+verb-flat block past program budget p u onceSame h = verb-simple block past program budget p u onceSame is-once-same
+verb-flat block past program budget p u branch h = absurd (true≢false h)
+verb-flat block past program budget p u loop h = absurd (true≢false h)
+verb-flat block past program budget p u noVerb h = verb-none block past program budget p u
 
-  pub begun-while : {place : ℕ} {r : Tally} → numberAt p 0 ≡ 8 → place ≡ positionOf program p → r ≡ endedAt 2 place t
-      → Comes ws S r (oneStatement program budget p (carried ws S t))
-  begun-while n l e = not-begun (rw n while-holds) l e
+-- ---- a statement that takes no more than one proposal
 
-  module _ (a : numberAt p 0 ≡ 7 → ⊥) (c : numberAt p 0 ≡ 8 → ⊥) where
-    pub begun-broke : {place : ℕ} {r : Tally} → place ≡ positionOf program p → budget ≤ t .steps → r ≡ endedAt 5 place t
-        → Comes ws S r (oneStatement program budget p (carried ws S t))
-    begun-broke l h e = rw (holds-none (numberAt p 0) a c, e) (came ws S (statement-broke program budget p ws S 0 (begins f) l h))
+module _ (program p ws : List ℤ) (S : State) (v : Verb) where
+  takes : {l : Left} → doSimple program p S ws v ≡ got l → Takes ws l
+  takes {l} e = steps-take (steps-iff program p S ws v l .0 e)
 
-  module _ (h : t .steps < budget) {unread : List ℤ} (is : unread ≡ lastOf (t .unread) ws) {Z : State} {done : Done}
-      (g : Does S Z done (doSimple program p S unread (verbOf (numberAt p 0))))
-    where
-      pub begun-few : paid t .accepted + acceptedIn done ≤ paid t .steps
-      begun-few = simple-few program budget p ws S 0 (begins f) h is g
+  few-in : (m : Res Left) → doSimple program p S ws v ≡ m → acceptedIn (doneOf m) ≤ 1
+  few-in (got l) e = takes e .few
+  few-in (stop f) e = omega arith
 
-      pub begun-simple : {place : ℕ} {r : Tally} → (numberAt p 0 ≡ 7 → ⊥) → (numberAt p 0 ≡ 8 → ⊥) → place ≡ positionOf program p → r ≡ doneBy place (paid t) done
-          → Comes ws Z r (oneStatement program budget p (carried ws S t))
-      begun-simple {place} {r} a c l e =
-          rw (holds-none (numberAt p 0) a c, e, done-ran done) (came ws Z (statement-simple program budget p ws S 0 (begins f) h is g a c l refl))
+-- ---- a statement that is begun with a tally that a run carries
+
+module _ (program : List ℤ) (budget : ℕ) (p ws : List ℤ) (S : State) {t : Tally} (b : Begins ws t) {place : ℕ} (l : place ≡ positionOf program p) where
+  abbrev One : Out
+  One = oneStatement program budget p (carries ws S t)
+
+  pub begun-blocks : {r : Tally} → true ≡ holdsBlocks (verbOf (numberAt p 0)) → r ≡ endedAt 2 place t → Goes ws t S r One
+  begun-blocks h e = goes-ends b (omega arith) (λ z. omega arith) e (rw (← h, l))
+
+  module _ (h : false ≡ holdsBlocks (verbOf (numberAt p 0))) {u : Tally} (k : u ≡ paidBy budget place t) where
+    abbrev Taken : Carries → Out
+    Taken v = doVerb (λ q w. doBlock 0 program budget q w) (λ q. after (readBlock 0 q)) program budget p (verbOf (numberAt p 0)) v
+
+    paid-then : thenOut (outOf ws S u) Taken ≡ One
+    paid-then =
+        rw (← h, statement-is (λ q w. doBlock 0 program budget q w) (λ q. after (readBlock 0 q)) program budget p (carries ws S t), ← l)
+        (ap (λ (o : Out). thenOut o Taken) (pay-is budget place k S b))
+
+    pub begun-broke : (u .outcome ≡ 0 → ⊥) → Goes ws t S u One
+    begun-broke n = goes-from (pay-goes budget place k S b) (omega arith) (sym (halted ws S u Taken n) ∙ ap untoldOut paid-then)
+
+    module _ (n : u .outcome ≡ 0) {unread : List ℤ} (is : unread ≡ lastOf (u .unread) ws) {Z : State} {done : Done} (g : Does S Z done (doSimple program p S unread (verbOf (numberAt p 0)))) where
+      few-one : {a : ℕ} → a ≤ 1 → u .accepted + a ≤ u .steps
+      few-one h = rw (pay-one budget place k n .1) (omega (arith, b .few))
+
+      pub begun-few : u .accepted + acceptedIn done ≤ u .steps
+      begun-few = rw (g .is) (few-one (few-in program p unread S (verbOf (numberAt p 0)) (doSimple program p S unread (verbOf (numberAt p 0))) refl))
+
+      simple-is : taken (positionOf program p) (carries ws S u) (doSimple program p S unread (verbOf (numberAt p 0))) ≡ One
+      simple-is =
+          rw is (sym (verb-flat (λ q w. doBlock 0 program budget q w) (λ q. after (readBlock 0 q)) program budget p (carries ws S u) (verbOf (numberAt p 0)) (sym h)))
+          ∙ (rw n at paid-then)
+
+      pub begun-simple : {r : Tally} → r ≡ doneBy place u done → Goes ws t Z r One
+      begun-simple {r} e =
+          rw (e, g .is, g .leaves, l) (by (doSimple program p S unread (verbOf (numberAt p 0))) refl)
         where
-          done-ran : (d : Done) → doneBy place (paid t) d ≡ lentRan (ranOf place (paidOne (counts t)) d)
-          done-ran (Accepted left accepted) = refl
-          done-ran (Refused n word) = refl
+          by : (m : Res Left) → doSimple program p S unread (verbOf (numberAt p 0)) ≡ m
+              → Goes ws t (doneState S m) (doneBy (positionOf program p) u (doneOf m)) One
+          by (got x) q =
+              let y : Takes unread x = takes program p unread S (verbOf (numberAt p 0)) q in
+              let z : Part ws (x .unread) = part-trans (last-part (u .unread) ws) (rw is at (y .part)) in
+              goes-on (record { few = few-one (y .few); inside = z .short; going = refl; nowhere = refl }) (pay-goes budget place k S b .grows)
+              (rw (z .is) (ap untoldOut (sym (taken-got (positionOf program p) (carries ws S u) x) ∙ (rw q at simple-is))))
+          by (stop f) q =
+              goes-ends (went-on (pay-goes budget place k S b) n) (pay-goes budget place k S b .grows) (λ z. let y = simple-not program p S unread (verbOf (numberAt p 0)) f q in omega arith) refl
+              (ap untoldOut (sym (taken-stop (positionOf program p) (carries ws S u) f) ∙ (rw q at simple-is)))
 
--- ---- a tally that goes on, and one that does not
+-- ---- a tally that a run carries, and one that none does
 
 module _ {ws : List ℤ} {S : State} {t : Tally} {o : Out} where
-  stays : goesOn ws t ≡ false → Steps ws S S t t o
-  stays h = record { is = rw h; leaves = rw h; fits = λ f. f }
+  pub stays-so : (Begins ws t → ⊥) → Steps ws S S t t o
+  stays-so n = record { goes = λ b. absurd (n b); stays = λ _. (refl, refl) }
 
-  pub stays-ended : (t .outcome ≡ 0 → ⊥) → Steps ws S S t t o
-  stays-ended h = stays (rw (ne-eqb (t .outcome) 0 h))
-
-  module _ (z : t .outcome ≡ 0) where
-    pub stays-many : t .steps < t .accepted → Steps ws S S t t o
-    stays-many h = stays (rw (eq-eqb (t .outcome) 0 z, lt-leb (t .accepted) (t .steps) h))
-
-    pub stays-outside : t .accepted ≤ t .steps → length ws < t .unread → Steps ws S S t t o
-    stays-outside a h = stays (rw (eq-eqb (t .outcome) 0 z, le-leb (t .accepted) (t .steps) a, lt-leb (t .unread) (length ws) h))
-
-    pub goes : {Z : State} {r : Tally} → t .accepted ≤ t .steps → t .unread ≤ length ws → Comes ws Z r o → Steps ws S Z t r o
-    goes a b c =
-        let h : goesOn ws t ≡ true = rw (eq-eqb (t .outcome) 0 z, le-leb (t .accepted) (t .steps) a, le-leb (t .unread) (length ws) b) in
-        record { is = rw h (c .is); leaves = rw h (c .leaves); fits = λ f. c .fits }
+  pub steps-so : {Z : State} {r : Tally} → Begins ws t → Goes ws t Z r o → Steps ws S Z t r o
+  steps-so b g = record { goes = λ _. g; stays = λ n. absurd (n b) }

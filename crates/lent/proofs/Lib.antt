@@ -1,2 +1,3 @@
+pub mod TallyLaws
 pub mod LentLaws
 pub mod CodeClaims

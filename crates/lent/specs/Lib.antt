@@ -1,2 +1,3 @@
+pub mod Tallied
 pub mod Lending
 pub mod Claims

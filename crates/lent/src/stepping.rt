@@ -1,44 +1,26 @@
 // A statement that holds no block, with the tally by value.
+use super::counting::ended;
+use super::counting::pay;
+use super::counting::tallied;
 use crate::Tally;
-use statements::Done;
+use statements::simple::simple_at;
 ghost use mathlib.Core.Path.{_≡_};
-ghost use Prim.Native.Nat.{_+_, _≤_};
-ghost use lib.ListN.{drop};
-ghost use Rattle.statements.specs.Told.{tables};
-ghost use Rattle.statements.specs.Tallied.{acceptedIn};
-ghost use Rattle.lent.specs.Lending.{Fits, Comes, Steps, endedAt, doneBy, carried, oneStatement};
+ghost use Rattle.program.specs.Forms.{verbOf};
+ghost use Rattle.phases.specs.Told.{tables};
+ghost use Rattle.lent.specs.Tallied.{carries, Begins, Goes};
+ghost use Rattle.lent.specs.Lending.{holdsBlocks, oneStatement, Steps};
 
-// The tally of a run that a statement ends; its counts stay.
-fn ended(t: Tally, outcome: usize, place: usize) -> Tally
-    ensures { λ r. ⌜ r ≡ endedAt outcome place t ⌝ }
+// Whether statements of a verb hold blocks: if and while.
+pub fn holds_blocks(verb: usize) -> bool
+    ensures { λ r. ⌜ r ≡ holdsBlocks (verbOf verb) ⌝ }
 {
-    Tally {
-        steps: t.steps,
-        accepted: t.accepted,
-        unread: t.unread,
-        outcome: outcome,
-        place: place,
+    if verb == 7 {
+        return true;
     }
+    verb == 8
 }
 
-// The tally after a statement whose step is paid. A turned-down proposal is unread.
-fn tallied(t: Tally, place: usize, done: Done) -> Tally
-    requires { ⌜ t .accepted + acceptedIn done ≤ t .steps ⌝ }
-    ensures { λ r. ⌜ r ≡ doneBy place t done ⌝ }
-{
-    match done {
-        Done::Accepted(left, accepted) => Tally {
-            steps: t.steps,
-            accepted: t.accepted + accepted,
-            unread: left,
-            outcome: 0,
-            place: 0,
-        },
-        Done::Refused(number, _) => ended(t, number, place),
-    }
-}
-
-// The statement at p: one that holds blocks is not begun (2), one whose step would pass the budget neither (5).
+// The statement at p, with a tally that a run carries. One that holds blocks is not begun (2), one whose step would pass the budget neither (5).
 fn begun(
     program: &[i32],
     environment: &mut [i32],
@@ -49,49 +31,43 @@ fn begun(
     p: &[i32],
     t: Tally,
 ) -> Tally
-    requires { ⌜ Fits (now proposals) t ⌝ }
-    ensures { λ r. ⌜ Comes (now (proposals .entry)) (tables (now (environment .exit)) (now (heap .exit)) (now (constraints .exit))) r (oneStatement (now (program .entry)) budget (now (p .entry)) (carried (now (proposals .entry)) (tables (now (environment .entry)) (now (heap .entry)) (now (constraints .entry))) t)) ⌝ }
+    requires { ⌜ Begins (now proposals) t ⌝ }
+    ensures { λ r. ⌜ Goes (now (proposals .entry)) t (tables (now (environment .exit)) (now (heap .exit)) (now (constraints .exit))) r (oneStatement (now (program .entry)) budget (now (p .entry)) (carries (now (proposals .entry)) (tables (now (environment .entry)) (now (heap .entry)) (now (constraints .entry))) t)) ⌝ }
 {
     let place = words::less(program.len(), p.len());
     let verb = words::number_at(p, 0);
-    if verb == 7 {
+    if holds_blocks(verb) {
         return ended(t, 2, place);
     }
-    if verb == 8 {
-        return ended(t, 2, place);
+    let u = pay(t, budget, place);
+    if u.outcome != 0 {
+        return u;
     }
-    if budget <= t.steps {
-        return ended(t, 5, place);
-    }
-    let u = Tally {
-        steps: t.steps + 1,
-        accepted: t.accepted,
-        unread: t.unread,
-        outcome: 0,
-        place: 0,
-    };
-    let unread = words::part_last(proposals, t.unread);
+    let unread = words::part_last(proposals, u.unread);
     tallied(
         u,
         place,
-        statements::simple::simple_at(program, environment, heap, constraints, unread, p, verb),
+        simple_at(program, environment, heap, constraints, unread, p, verb),
     )
 }
 
-// The statement at a position of the program. A tally that has ended, or that no run carries, stays as it is.
-pub fn stepped(
+// The statement at p. A tally that has ended, or that no run carries, stays as it is.
+pub(crate) fn stepped(
     program: &[i32],
     environment: &mut [i32],
     heap: &mut [i32],
     constraints: &mut [i32],
     proposals: &[i32],
     budget: usize,
-    position: usize,
+    p: &[i32],
     t: Tally,
 ) -> Tally
-    ensures { λ r. ⌜ Steps (now (proposals .entry)) (tables (now (environment .entry)) (now (heap .entry)) (now (constraints .entry))) (tables (now (environment .exit)) (now (heap .exit)) (now (constraints .exit))) t r (oneStatement (now (program .entry)) budget (drop position (now (program .entry))) (carried (now (proposals .entry)) (tables (now (environment .entry)) (now (heap .entry)) (now (constraints .entry))) t)) ⌝ }
+    ensures { λ r. ⌜ Steps (now (proposals .entry)) (tables (now (environment .entry)) (now (heap .entry)) (now (constraints .entry))) (tables (now (environment .exit)) (now (heap .exit)) (now (constraints .exit))) t r (oneStatement (now (program .entry)) budget (now (p .entry)) (carries (now (proposals .entry)) (tables (now (environment .entry)) (now (heap .entry)) (now (constraints .entry))) t)) ⌝ }
 {
     if t.outcome != 0 {
+        return t;
+    }
+    if t.place != 0 {
         return t;
     }
     if t.steps < t.accepted {
@@ -100,7 +76,6 @@ pub fn stepped(
     if proposals.len() < t.unread {
         return t;
     }
-    let p = words::part_from(program, position);
     begun(
         program,
         environment,

@@ -19,8 +19,7 @@ use Rattle.tables.specs.declared.Slot.the-variants.{Absent, Has}
 use Rattle.tables.specs.declared.Cell.{Cell}
 use Rattle.tables.specs.Values.{slotOf}
 use Rattle.tables.specs.Cells.{Cells, cellAt}
-use Rattle.tables.specs.Sizes.{fieldLocation}
-use Rattle.tables.specs.Records.{recordCount, labelAt}
+use Rattle.tables.specs.Records.{recordCount, labelAt, fieldAt}
 use Rattle.lister.specs.Bytes.{Puts}
 use Rattle.lister.specs.Numerals.{digits, numeral}
 use Rattle.lister.specs.Listing.{valueText, givenText, eachBelow, variableText, fieldText, shownRecords, Listed}
@@ -63,16 +62,16 @@ module _ (S : Cells) {s : List ℕ} {a : ℕ} where
     unfolding variableText
     put-variable-present h i j l = rw (← at, ← is, h) (then (then i j) l)
 
-  module _ (n f : ℕ) {c : Cell} {slot : Slot} (at : c ≡ cellAt S (fieldLocation n f)) (is : slot ≡ slotOf c) where
-    pub put-field-absent : slot ≡ Absent → Puts s a (fieldText S n f) s a
-    unfolding fieldText
-    put-field-absent h = rw (← at, ← is, h) puts-none
+module _ (h : List ℤ) (n f : ℕ) {s : List ℕ} {a : ℕ} {c : Cell} {slot : Slot} (at : c ≡ fieldAt h n f) (is : slot ≡ slotOf c) where
+  pub put-field-absent : slot ≡ Absent → Puts s a (fieldText h n f) s a
+  unfolding fieldText
+  put-field-absent e = rw (← at, ← is, e) puts-none
 
-    pub put-field-present : {v : Value} {b d g i e : List ℕ} {t u w x label r : ℕ} → slot ≡ Has v
-        → Puts s a (114 ∷ []) b t → Puts b t (digits n) d u → Puts d u (46 ∷ []) g w → label ≡ labelAt (S .heap) n f → Puts g w (digits label) i x
-        → Puts i x (givenText v) e r → Puts s a (fieldText S n f) e r
-    unfolding fieldText
-    put-field-present h i j k l m o = rw (← at, ← is, h) (then (then (then (then i j) k) (rw l at m)) o)
+  pub put-field-present : {v : Value} {b d g i e : List ℕ} {t u w x label r : ℕ} → slot ≡ Has v
+      → Puts s a (114 ∷ []) b t → Puts b t (digits n) d u → Puts d u (46 ∷ []) g w → label ≡ labelAt h n f → Puts g w (digits label) i x
+      → Puts i x (givenText v) e r → Puts s a (fieldText h n f) e r
+  unfolding fieldText
+  put-field-present q i j k l m o = rw (← at, ← is, q) (then (then (then (then i j) k) (rw l at m)) o)
 
 -- ---- texts in a row: those of the first i numbers are written
 

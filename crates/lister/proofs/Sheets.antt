@@ -2,9 +2,10 @@
 -- Assumes nothing.
 use mathlib.Core.Path.{_≡_, refl}
 use Rattle.words.specs.Words.{numberAt}
+use Rattle.tables.specs.Sizes.{countWord, labelWord, fieldWord}
 use Rattle.tables.specs.Cells.{cellAt}
-use Rattle.tables.specs.Records.{recordCount, fieldCount, labelAt}
-use Rattle.tables.specs.Kept.{keptCount, positionAt}
+use Rattle.tables.specs.Records.{recordCount, countAt, fieldCount, labelAt, fieldAt}
+use Rattle.tables.specs.Kept.{keptWord, firstKept, keptNumber, keptCount, positionAt}
 use Rattle.tables.specs.Values.{slotOf}
 use Rattle.lister.specs.Bytes.{upTo, past, pieces, begins}
 use Rattle.lister.specs.Numerals.{digitOf, valueFrom, naturalIn, positiveOf, negativeOf, numeralIn, digitsBy, digits, numeral}
@@ -25,9 +26,9 @@ unfolding upTo past pieces begins digitOf valueFrom naturalIn positiveOf negativ
 unfit-sheet = refl
 
 pub output-sheet : listing 0 33 3 3 outputCells outputConstraints ≡ outputText
-unfolding numberAt cellAt recordCount fieldCount labelAt keptCount positionAt slotOf digitsBy digits numeral valueText givenText namedLine countedLine eachBelow variableText variablesText fieldText fieldsText recordText shownRecords recordsText positionsText tablesText answerText listing
+unfolding numberAt countWord labelWord fieldWord cellAt recordCount countAt fieldCount labelAt fieldAt keptWord firstKept keptNumber keptCount positionAt slotOf digitsBy digits numeral valueText givenText namedLine countedLine eachBelow variableText variablesText fieldText fieldsText recordText shownRecords recordsText positionsText tablesText answerText listing
 output-sheet = refl
 
 pub values-sheet : listing 12 7 1000000 20 valuesCells valuesConstraints ≡ valuesText
-unfolding numberAt cellAt recordCount fieldCount labelAt keptCount positionAt slotOf digitsBy digits numeral valueText givenText namedLine countedLine eachBelow variableText variablesText fieldText fieldsText recordText shownRecords recordsText positionsText tablesText answerText listing
+unfolding numberAt countWord labelWord fieldWord cellAt recordCount countAt fieldCount labelAt fieldAt keptWord firstKept keptNumber keptCount positionAt slotOf digitsBy digits numeral valueText givenText namedLine countedLine eachBelow variableText variablesText fieldText fieldsText recordText shownRecords recordsText positionsText tablesText answerText listing
 values-sheet = refl

@@ -17,12 +17,10 @@ use Rattle.tables.specs.declared.Sort.{Sort}
 use Rattle.tables.specs.declared.Sort.the-variants.{Values, Identities}
 use Rattle.tables.specs.Values.{slotOf}
 use Rattle.tables.specs.Cells.{Cells, cellAt}
-use Rattle.tables.specs.Sizes.{fieldLocation}
-use Rattle.tables.specs.Records.{recordCount, fieldCount, labelAt}
+use Rattle.tables.specs.Records.{recordCount, fieldCount, labelAt, fieldAt}
 use Rattle.tables.specs.Kept.{mostKept, keptCount, positionAt}
 use Rattle.tables.proofs.SearchLaws.{cases}
-use Rattle.tables.proofs.FindLaws.{kept-in}
-use Rattle.tables.proofs.FitLaws.{fields-small}
+use Rattle.tables.proofs.FindLaws.{kept-in, fields-small}
 use Rattle.lister.specs.Numerals.{digitsBy, digits, numeral}
 use Rattle.lister.specs.Listing.{valueText, givenText, namedLine, countedLine, eachBelow, cellLine, variableText, variablesText, fieldText, fieldsText, recordText, shownRecords, recordsText, positionsText, tablesText, outcomeName, placeName, stepsName, inputName, answerText, listing, unfitText, listingBytes, Listed}
 use Rattle.lister.specs.Reading.{proposalsName}
@@ -106,36 +104,36 @@ variables-length S =
     each-length (variableText S) 30 64
     (λ x h. cell-length ((118 ∷ []) ++ digits x) (slotOf (cellAt S x)) {k = 3} (omega (arith, digits-two x (omega arith))))
 
-field-length : (S : Cells) (r f : ℕ) → r < 64 → length (fieldText S r f) ≤ 51
+field-length : (h : List ℤ) (r f : ℕ) → r < 64 → length (fieldText h r f) ≤ 51
 unfolding fieldText
-field-length S r f h =
-    cell-length ((114 ∷ []) ++ digits r ++ (46 ∷ []) ++ digits (labelAt (S .heap) r f)) (slotOf (cellAt S (fieldLocation r f))) {k = 24}
-    (both ((114 ∷ []) ++ digits r ++ (46 ∷ [])) (digits (labelAt (S .heap) r f)) {n = 4} {m = 20}
-    (both ((114 ∷ []) ++ digits r) (46 ∷ []) {n = 3} {m = 1} (omega (arith, digits-two r (omega arith))) (omega arith)) (digits-twenty (labelAt (S .heap) r f)))
+field-length h r f row =
+    cell-length ((114 ∷ []) ++ digits r ++ (46 ∷ []) ++ digits (labelAt h r f)) (slotOf (fieldAt h r f)) {k = 24}
+    (both ((114 ∷ []) ++ digits r ++ (46 ∷ [])) (digits (labelAt h r f)) {n = 4} {m = 20}
+    (both ((114 ∷ []) ++ digits r) (46 ∷ []) {n = 3} {m = 1} (omega (arith, digits-two r (omega arith))) (omega arith)) (digits-twenty (labelAt h r f)))
 
-fields-length : (S : Cells) (r : ℕ) → r < 64 → length (fieldsText S r) ≤ 8 * 51
+fields-length : (h : List ℤ) (r : ℕ) → r < 64 → length (fieldsText h r) ≤ 8 * 51
 unfolding fieldsText
-fields-length S r h =
-    let n : fieldCount (S .heap) r ≤ 8 = fields-small (S .heap) r in
-    let l : length (eachBelow (fieldText S r) (fieldCount (S .heap) r)) ≤ fieldCount (S .heap) r * 51 = each-length (fieldText S r) 51 (fieldCount (S .heap) r) (λ f k. field-length S r f h) in
+fields-length h r row =
+    let n : fieldCount h r ≤ 8 = fields-small h r in
+    let l : length (eachBelow (fieldText h r) (fieldCount h r)) ≤ fieldCount h r * 51 = each-length (fieldText h r) 51 (fieldCount h r) (λ f k. field-length h r f row) in
     omega arith
 
-record-length : (S : Cells) (r : ℕ) → r < 64 → length (recordText S r) ≤ 414
+record-length : (h : List ℤ) (r : ℕ) → r < 64 → length (recordText h r) ≤ 414
 unfolding recordText
-record-length S r h =
-    both (countedLine 114 r (fieldCount (S .heap) r)) (fieldsText S r) {n = 6} {m = 408}
-    (counted-length 114 r (fieldCount (S .heap) r) {k = 2} {l = 1} (digits-two r (omega arith)) (digits-one (fieldCount (S .heap) r) (omega (arith, fields-small (S .heap) r))))
-    (fields-length S r h)
+record-length h r row =
+    both (countedLine 114 r (fieldCount h r)) (fieldsText h r) {n = 6} {m = 408}
+    (counted-length 114 r (fieldCount h r) {k = 2} {l = 1} (digits-two r (omega arith)) (digits-one (fieldCount h r) (omega (arith, fields-small h r))))
+    (fields-length h r row)
 
 shown-most : (h : List ℤ) → shownRecords h ≤ 64
 unfolding shownRecords
 shown-most h = cases (leb (recordCount h) 64) (λ y. rw y (leb-true (recordCount h) 64 y)) (λ y. rw y (omega arith))
 
-records-length : (S : Cells) → length (recordsText S) ≤ 64 * 414
+records-length : (h : List ℤ) → length (recordsText h) ≤ 64 * 414
 unfolding recordsText
-records-length S =
-    let n : shownRecords (S .heap) ≤ 64 = shown-most (S .heap) in
-    let l : length (eachBelow (recordText S) (shownRecords (S .heap))) ≤ shownRecords (S .heap) * 414 = each-length (recordText S) 414 (shownRecords (S .heap)) (λ r k. record-length S r (omega arith)) in
+records-length h =
+    let n : shownRecords h ≤ 64 = shown-most h in
+    let l : length (eachBelow (recordText h) (shownRecords h)) ≤ shownRecords h * 414 = each-length (recordText h) 414 (shownRecords h) (λ r k. record-length h r (omega arith)) in
     omega arith
 
 positions-length : (c : List ℤ) (s : Sort) (letter : ℕ) → mostKept s ≤ 64 → length (positionsText c s letter) ≤ keptCount c s * 25
@@ -152,8 +150,8 @@ unfolding tablesText
 tables-length S c =
     let v : keptCount c Values ≤ 64 = kept-in c Values in
     let i : keptCount c Identities ≤ 32 = kept-in c Identities in
-    both (variablesText S ++ recordsText S ++ positionsText c Values 99) (positionsText c Identities 105) {n = 30016} {m = 800}
-    (both (variablesText S ++ recordsText S) (positionsText c Values 99) {n = 28416} {m = 1600} (both (variablesText S) (recordsText S) (variables-length S) (records-length S))
+    both (variablesText S ++ recordsText (S .heap) ++ positionsText c Values 99) (positionsText c Identities 105) {n = 30016} {m = 800}
+    (both (variablesText S ++ recordsText (S .heap)) (positionsText c Values 99) {n = 28416} {m = 1600} (both (variablesText S) (recordsText (S .heap)) (variables-length S) (records-length (S .heap)))
     (omega (arith, positions-length c Values 99 (omega arith))))
     (omega (arith, positions-length c Identities 105 (omega arith)))
 

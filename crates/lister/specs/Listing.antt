@@ -12,10 +12,10 @@ use Rattle.tables.specs.declared.Slot.{Slot}
 use Rattle.tables.specs.declared.Slot.the-variants.{Absent, Has}
 use Rattle.tables.specs.declared.Sort.{Sort}
 use Rattle.tables.specs.declared.Sort.the-variants.{Values, Identities}
-use Rattle.tables.specs.Sizes.{variables, mostRecords, fieldLocation}
+use Rattle.tables.specs.Sizes.{variables, mostRecords}
 use Rattle.tables.specs.Values.{slotOf}
 use Rattle.tables.specs.Cells.{Cells, cellAt}
-use Rattle.tables.specs.Records.{recordCount, fieldCount, labelAt}
+use Rattle.tables.specs.Records.{recordCount, fieldCount, labelAt, fieldAt}
 use Rattle.tables.specs.Kept.{keptCount, positionAt}
 use Rattle.lister.specs.Bytes.{laid}
 use Rattle.lister.specs.Numerals.{digits, numeral}
@@ -62,29 +62,29 @@ unfoldable pub variablesText : Cells → List ℕ
 variablesText S = eachBelow (variableText S) variables
 
 -- "rN.L a field by label in its own order"
-unfoldable pub fieldText : Cells → ℕ → ℕ → List ℕ
-fieldText S r f = cellLine ((114 ∷ []) ++ digits r ++ (46 ∷ []) ++ digits (labelAt (S .heap) r f)) (slotOf (cellAt S (fieldLocation r f)))
+unfoldable pub fieldText : List ℤ → ℕ → ℕ → List ℕ
+fieldText h r f = cellLine ((114 ∷ []) ++ digits r ++ (46 ∷ []) ++ digits (labelAt h r f)) (slotOf (fieldAt h r f))
 
-unfoldable pub fieldsText : Cells → ℕ → List ℕ
-fieldsText S r = eachBelow (fieldText S r) (fieldCount (S .heap) r)
+unfoldable pub fieldsText : List ℤ → ℕ → List ℕ
+fieldsText h r = eachBelow (fieldText h r) (fieldCount h r)
 
 -- "rN a record's field count"
-unfoldable pub recordText : Cells → ℕ → List ℕ
-recordText S r = countedLine 114 r (fieldCount (S .heap) r) ++ fieldsText S r
+unfoldable pub recordText : List ℤ → ℕ → List ℕ
+recordText h r = countedLine 114 r (fieldCount h r) ++ fieldsText h r
 
 -- the records that the heap has; no more than there is room for, whatever its count word says
 unfoldable pub shownRecords : List ℤ → ℕ
 shownRecords h = cond (leb (recordCount h) mostRecords) (recordCount h) mostRecords
 
-unfoldable pub recordsText : Cells → List ℕ
-recordsText S = eachBelow (recordText S) (shownRecords (S .heap))
+unfoldable pub recordsText : List ℤ → List ℕ
+recordsText h = eachBelow (recordText h) (shownRecords h)
 
 -- "cN a kept position", "Then come identities, as `i0=`"
 unfoldable pub positionsText : List ℤ → Sort → ℕ → List ℕ
 positionsText c s letter = eachBelow (λ i. countedLine letter i (positionAt c s i)) (keptCount c s)
 
 unfoldable pub tablesText : Cells → List ℤ → List ℕ
-tablesText S c = variablesText S ++ recordsText S ++ positionsText c Values 99 ++ positionsText c Identities 105
+tablesText S c = variablesText S ++ recordsText (S .heap) ++ positionsText c Values 99 ++ positionsText c Identities 105
 
 -- ---- the whole output
 

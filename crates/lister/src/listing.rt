@@ -90,23 +90,10 @@ fn put_variables(out: &mut [u8], at: usize, environment: &[i32], heap: &[i32]) -
 }
 
 // Field place f of record r, by its label.
-fn put_field(
-    out: &mut [u8],
-    at: usize,
-    environment: &[i32],
-    heap: &[i32],
-    r: usize,
-    f: usize,
-) -> usize
-    requires { ⌜ r < 64 ⌝ }
-    requires { ⌜ f < 8 ⌝ }
-    ensures { λ n. ⌜ Puts (now (out .entry)) at (fieldText (cells (now (environment .entry)) (now (heap .entry))) r f) (now (out .exit)) n ⌝ }
+fn put_field(out: &mut [u8], at: usize, heap: &[i32], r: usize, f: usize) -> usize
+    ensures { λ n. ⌜ Puts (now (out .entry)) at (fieldText (now (heap .entry)) r f) (now (out .exit)) n ⌝ }
 {
-    let slot = tables::cells::slot_of(tables::cells::read_cell(
-        environment,
-        heap,
-        tables::VARIABLES + 8 * r + f,
-    ));
+    let slot = tables::cells::slot_of(tables::records::field_at(heap, r, f));
     match slot {
         Slot::Absent => at,
         Slot::Has(v) => {
@@ -121,14 +108,14 @@ fn put_field(
 }
 
 // The fields of record r, in their own order.
-fn put_fields(out: &mut [u8], at: usize, environment: &[i32], heap: &[i32], r: usize) -> usize
-    ensures { λ n. ⌜ Puts (now (out .entry)) at (fieldsText (cells (now (environment .entry)) (now (heap .entry))) r) (now (out .exit)) n ⌝ }
+fn put_fields(out: &mut [u8], at: usize, heap: &[i32], r: usize) -> usize
+    ensures { λ n. ⌜ Puts (now (out .entry)) at (fieldsText (now (heap .entry)) r) (now (out .exit)) n ⌝ }
 {
     let n = tables::records::field_count(heap, r);
     let mut to = at;
     let mut f: usize = 0;
     while f < n {
-        to = put_field(out, to, environment, heap, r, f);
+        to = put_field(out, to, heap, r, f);
         f += 1;
     }
     to
@@ -146,15 +133,15 @@ fn shown_records(heap: &[i32]) -> usize
 }
 
 // Each record with its field count and its fields.
-fn put_records(out: &mut [u8], at: usize, environment: &[i32], heap: &[i32]) -> usize
-    ensures { λ n. ⌜ Puts (now (out .entry)) at (recordsText (cells (now (environment .entry)) (now (heap .entry)))) (now (out .exit)) n ⌝ }
+fn put_records(out: &mut [u8], at: usize, heap: &[i32]) -> usize
+    ensures { λ n. ⌜ Puts (now (out .entry)) at (recordsText (now (heap .entry))) (now (out .exit)) n ⌝ }
 {
     let n = shown_records(heap);
     let mut to = at;
     let mut r: usize = 0;
     while r < n {
         let fields = put_counted(out, to, b'r', r, tables::records::field_count(heap, r));
-        to = put_fields(out, fields, environment, heap, r);
+        to = put_fields(out, fields, heap, r);
         r += 1;
     }
     to
@@ -201,7 +188,7 @@ fn put_tables(
     ensures { λ r. ⌜ Puts (now (out .entry)) at (tablesText (cells (now (environment .entry)) (now (heap .entry))) (now (constraints .entry))) (now (out .exit)) r ⌝ }
 {
     let records = put_variables(out, at, environment, heap);
-    let values = put_records(out, records, environment, heap);
+    let values = put_records(out, records, heap);
     let identities = put_positions(out, values, constraints, Sort::Values, b'c');
     put_positions(out, identities, constraints, Sort::Identities, b'i')
 }

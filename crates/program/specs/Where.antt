@@ -11,8 +11,8 @@ use Rattle.tables.specs.declared.Sort.{Sort}
 use Rattle.tables.specs.declared.Sort.the-variants.{Values, Identities}
 use Rattle.tables.specs.Search.{every}
 use Rattle.tables.specs.Kept.{keptCount, positionAt}
-use Rattle.tables.specs.Fit.{constraintsFit}
-use Rattle.program.specs.Forms.{mostStatements, blockDepth, expressionDepth}
+use Rattle.fit.specs.Fit.{constraintsFit}
+use Rattle.program.specs.Forms.{mostWords, mostStatements, blockDepth, expressionDepth}
 use Rattle.program.specs.Forms.{Verb, skip, assign, new, always, once, alwaysSame, onceSame, branch, loop, noVerb, verbOf}
 use Rattle.program.specs.Reading.{readExpression, readBlock, readStatement, after}
 use Rattle.program.specs.declared.Spot.{Spot}
@@ -71,9 +71,9 @@ hasVerb n Nowhere = false
 unfoldable pub isAlways : List ℤ → Sort → ℕ → Bool
 isAlways p s at = hasVerb (alwaysOf s) (statementAt p at)
 
--- outcome 3 at place 2: the table's own shape, and each kept position
+-- outcome 3 at place 2: the table's own shape, and each kept position; nothing stands in a program of too many words ("A program is one block, filling at most 4,096 words")
 unfoldable pub positionsStand : List ℤ → List ℤ → Sort → Bool
 positionsStand p c s = every (λ i. isAlways p s (positionAt c s i)) (keptCount c s)
 
 unfoldable pub constraintsStand : List ℤ → List ℤ → Bool
-constraintsStand p c = constraintsFit c && positionsStand p c Values && positionsStand p c Identities
+constraintsStand p c = leb (length p) mostWords && constraintsFit c && positionsStand p c Values && positionsStand p c Identities

@@ -10,8 +10,7 @@ use crate::MOST_WORDS;
 use crate::Spot;
 use tables::Sort;
 ghost use mathlib.Core.Path.{_≡_};
-ghost use Rattle.program.specs.Where.{spotBlock, spotStatement, statementAt, alwaysOf, hasVerb, isAlways, positionsStand, constraintsStand};
-ghost use Rattle.program.specs.Marking.{bothStand};
+ghost use Rattle.program.specs.Where.{spotBlock, spotStatement, statementAt, alwaysOf, constraintsStand};
 
 // The statement at p, whose blocks nest at most d deep, or one inside it.
 fn spot_statement(p: &[i32], d: usize, left: usize) -> Spot
@@ -87,60 +86,20 @@ pub fn always_of(s: Sort) -> usize
     }
 }
 
-fn has_verb(n: usize, spot: Spot) -> bool
-    ensures { λ r. ⌜ r ≡ hasVerb n spot ⌝ }
-{
-    match spot {
-        Spot::At(verb, _) => verb == n,
-        Spot::Nowhere => false,
-    }
-}
-
-// The word is that of an always-statement of the sort.
-pub fn is_always(program: &[i32], s: Sort, at: usize) -> bool
-    ensures { λ r. ⌜ r ≡ isAlways (now (program .entry)) s at ⌝ }
-{
-    has_verb(always_of(s), statement_at(program, at))
-}
-
-fn positions_stand(program: &[i32], constraints: &[i32], s: Sort) -> bool
-    ensures { λ r. ⌜ r ≡ positionsStand (now (program .entry)) (now (constraints .entry)) s ⌝ }
-{
-    let n = tables::kept::kept_count(constraints, s);
-    let mut i: usize = 0;
-    while i < n {
-        if !is_always(program, s, tables::kept::position_at(constraints, s, i)) {
-            return false;
-        }
-        i += 1;
-    }
-    true
-}
-
-// Every kept position of both sorts, each looked for by itself.
-fn each_stands(program: &[i32], constraints: &[i32]) -> bool
-    ensures { λ r. ⌜ r ≡ bothStand (now (program .entry)) (now (constraints .entry)) ⌝ }
-{
-    if !positions_stand(program, constraints, Sort::Values) {
-        return false;
-    }
-    positions_stand(program, constraints, Sort::Identities)
-}
-
-// The constraints table is fit for this program. Marks are made for two positions or more, and not for a program of too many words.
+// The constraints table is fit for this program. Where no position is kept, the program is not read.
 pub fn constraints_stand(program: &[i32], constraints: &[i32]) -> bool
     ensures { λ r. ⌜ r ≡ constraintsStand (now (program .entry)) (now (constraints .entry)) ⌝ }
 {
-    if !tables::fit::constraints_fit(constraints) {
+    if MOST_WORDS < program.len() {
+        return false;
+    }
+    if !fit::constraints_fit(constraints) {
         return false;
     }
     let values = tables::kept::kept_count(constraints, Sort::Values);
     let identities = tables::kept::kept_count(constraints, Sort::Identities);
-    if values + identities < 2 {
-        return each_stands(program, constraints);
-    }
-    if MOST_WORDS < program.len() {
-        return each_stands(program, constraints);
+    if values + identities == 0 {
+        return true;
     }
     marks_stand(program, constraints)
 }

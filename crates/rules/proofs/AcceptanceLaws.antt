@@ -14,8 +14,7 @@ use lib.ListN.{length}
 use Rattle.words.specs.Words.{numberOf}
 use Rattle.words.specs.Answer.{got, stop, _>>=_, _>>_, want}
 use Rattle.words.proofs.AnswerLaws.{stop≢got, got-inj, stop-inj, step, tested, either}
-use Rattle.tables.specs.Cells.{Cells, cellAt}
-use Rattle.tables.specs.Fit.{Sized}
+use Rattle.tables.specs.Cells.{Cells, cellAt, Sized}
 use Rattle.tables.proofs.SearchLaws.{cases, and-left, and-right, and-true}
 use Rattle.tables.proofs.WordLaws.{word-number}
 use Rattle.program.specs.Forms.{required}

@@ -18,9 +18,9 @@ use Rattle.tables.specs.declared.Slot.the-variants.{Has}
 use Rattle.tables.specs.Values.{cellOf}
 use Rattle.tables.specs.Cells.{Cells, cells}
 use Rattle.tables.specs.Records.{recordCount}
-use Rattle.tables.specs.Fit.{cellFits, Fit}
-use Rattle.tables.proofs.ValueLaws.{cell-fits}
-use Rattle.tables.proofs.FitLaws.{fit-count-word, fit-ref}
+use Rattle.fit.specs.Fit.{cellFits, Fit}
+use Rattle.fit.proofs.CellFits.{cell-fits}
+use Rattle.fit.proofs.FitLaws.{fit-count-word, fit-ref}
 use Rattle.program.specs.Forms.{operators, expressionDepth}
 use Rattle.program.specs.Forms.{Form, aNil, aFalse, aTrue, anInteger, aPath, anOperation, anIdentity, noForm, formOf}
 use Rattle.program.specs.Reading.{number, anyWord, readPath, after}

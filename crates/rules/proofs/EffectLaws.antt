@@ -15,14 +15,14 @@ use Rattle.words.proofs.Laws.{eqZ-true, eqZ-refl}
 use Rattle.words.proofs.AnswerLaws.{stop≢got, got-inj, step, tested}
 use Rattle.tables.specs.declared.Cell.{Cell}
 use Rattle.tables.specs.Values.{cell}
-use Rattle.tables.specs.Cells.{Cells, cellAt, putCell}
+use Rattle.tables.specs.Cells.{Cells, cellAt, putCell, Sized}
 use Rattle.tables.specs.Records.{fieldWith}
-use Rattle.tables.specs.Fit.{cellFits, Sized, in-field}
+use Rattle.fit.specs.Fit.{cellFits, in-field}
 use Rattle.tables.proofs.SearchLaws.{cases, and-left, and-right}
 use Rattle.tables.proofs.WordLaws.{word-number}
-use Rattle.tables.proofs.ValueLaws.{a-truth, an-integer as integer-shape, shape-fits}
+use Rattle.fit.proofs.CellFits.{a-truth, an-integer as integer-shape, shape-fits}
 use Rattle.tables.proofs.CellLaws.{read-same, read-other, put-lengths, put-sized, put-records, put-fields, put-label, put-found}
-use Rattle.tables.proofs.FitChanges.{fit-put}
+use Rattle.fit.proofs.FitChanges.{fit-put}
 use Rattle.rules.specs.Constraints.{Part, counted, allHold, requiredHold}
 use Rattle.rules.specs.Evaluation.{at}
 use Rattle.rules.specs.State.{refused}

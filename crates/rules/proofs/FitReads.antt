@@ -13,8 +13,8 @@ use Rattle.words.proofs.Laws.{number-cons}
 use Rattle.tables.specs.declared.Value.{Value}
 use Rattle.tables.specs.Sizes.{labels}
 use Rattle.tables.specs.Cells.{Cells}
-use Rattle.tables.specs.Fit.{Fit}
-use Rattle.tables.proofs.FitLaws.{fit-labels}
+use Rattle.fit.specs.Fit.{Fit}
+use Rattle.fit.proofs.FitLaws.{fit-labels}
 use Rattle.program.specs.Reading.{readPath, readExpression, readConstraint}
 use Rattle.program.specs.Grammar.{Labels, Path, Expression, Parts, Constraint, Takes}
 use Rattle.program.proofs.GrammarSound.{takes-none, takes-word, takes-as, takes-two}

@@ -17,7 +17,7 @@ use Rattle.tables.specs.declared.Slot.{Slot}
 use Rattle.tables.specs.declared.Sort.{Sort}
 use Rattle.tables.specs.declared.Sort.the-variants.{Values, Identities}
 use Rattle.tables.specs.Cells.{Cells}
-use Rattle.tables.specs.Fit.{Fit}
+use Rattle.fit.specs.Fit.{Fit}
 use Rattle.program.specs.Where.{isAlways}
 use Rattle.program.proofs.LengthLaws.{Part as Rest}
 use Rattle.rules.specs.State.{State, refused, orRefuse, slotAt, present, positions}

@@ -8,7 +8,7 @@ use native.Mathlib.Omega.{arith}
 use borrow.Author.Tests.{eq-eqb}
 use lib.IntN.{ℤ}
 use lib.ListN.{length, drop, length-drop}
-use Rattle.tables.proofs.StartLaws.{sized-lengths, tables-fit}
+use Rattle.fit.proofs.StartLaws.{sized-lengths, tables-fit}
 use Rattle.program.proofs.StandLaws.{always-is}
 use Rattle.words.specs.Words.{wordAt, numberOf, numberAt}
 use Rattle.words.specs.Answer.{Answer, got, stop, _>>_, want}
@@ -16,7 +16,7 @@ use Rattle.words.proofs.AnswerLaws.{stop≢got, got-inj, stop-inj, step-on, eit
 use Rattle.tables.specs.declared.Sort.{Sort}
 use Rattle.tables.specs.declared.Sort.the-variants.{Values, Identities}
 use Rattle.tables.specs.Cells.{Cells}
-use Rattle.tables.specs.Fit.{sized, environmentFits, heapFits}
+use Rattle.fit.specs.Fit.{sized, environmentFits, heapFits}
 use Rattle.tables.proofs.SearchLaws.{and-left}
 use Rattle.program.specs.Forms.{Verb, skip, assign, new, always, once, alwaysSame, onceSame, branch, loop, noVerb, verbOf}
 use Rattle.program.specs.Reading.{readProgram}

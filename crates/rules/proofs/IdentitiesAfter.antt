@@ -14,7 +14,7 @@ use Rattle.tables.specs.declared.Slot.the-variants.{Absent, Has}
 use Rattle.tables.specs.declared.Sort.the-variants.{Identities}
 use Rattle.tables.specs.Values.{Sound}
 use Rattle.tables.specs.Cells.{Cells}
-use Rattle.tables.specs.Fit.{Fit}
+use Rattle.fit.specs.Fit.{Fit}
 use Rattle.rules.specs.State.{refused, orRefuse, slotAt, present, positions}
 use Rattle.rules.specs.Paths.{Way, wayAt, valueAt}
 use Rattle.rules.specs.Evaluation.{same}

@@ -13,8 +13,8 @@ use Rattle.tables.specs.declared.Value.the-variants.{Nil, Bool as Truth, Int, R
 use Rattle.tables.specs.declared.Slot.the-variants.{Has}
 use Rattle.tables.specs.Values.{cellOf, Sound}
 use Rattle.tables.specs.Cells.{Cells}
-use Rattle.tables.specs.Fit.{Fit}
-use Rattle.tables.proofs.FitLaws.{fit-count, fit-ref}
+use Rattle.fit.specs.Fit.{Fit}
+use Rattle.fit.proofs.FitLaws.{fit-count, fit-ref}
 use Rattle.program.specs.Forms.{anIdentity}
 use Rattle.rules.specs.State.{slotAt}
 use Rattle.rules.specs.Paths.{valueAt}

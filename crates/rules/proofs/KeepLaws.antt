@@ -17,7 +17,7 @@ use Rattle.tables.specs.declared.Sort.the-variants.{Values, Identities}
 use Rattle.tables.specs.Kept.{mostKept, keptCount, positionAt, isKept, withPosition}
 use Rattle.tables.proofs.SearchLaws.{cases}
 use Rattle.tables.proofs.KeptLaws.{keep-length, keep-count, keep-old, keep-new, keep-count-other, keep-position-other}
-use Rattle.tables.proofs.FitChanges.{keep-fit}
+use Rattle.fit.proofs.FitChanges.{keep-fit}
 use Rattle.program.specs.Where.{isAlways, constraintsStand}
 use Rattle.rules.specs.State.{listed, positions}
 use Rattle.rules.specs.Statements.{hasRoom, keep}
@@ -96,7 +96,7 @@ module _ (c : List ℤ) (s : Sort) (p : ℕ) where
     kept-stand program e a = cases (isKept c s p)
         (λ k. rw k e)
         (λ k. rw k (stand-iff program (withPosition c s p) .1 (
-          keep-fit c s p long (stand-iff program c .0 e .0) (kept-room k) k small,
+          (stand-iff program c .0 e .0 .0, keep-fit c s p long (stand-iff program c .0 e .0 .1) (kept-room k) k small),
           λ t i h. all t (same-sort t s) k i h,
         )))
       where

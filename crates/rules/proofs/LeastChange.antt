@@ -11,7 +11,7 @@ use Rattle.tables.specs.declared.Value.{Value}
 use Rattle.tables.specs.declared.Slot.the-variants.{Has}
 use Rattle.tables.specs.Values.{Sound}
 use Rattle.tables.specs.Cells.{Cells}
-use Rattle.tables.specs.Fit.{Fit}
+use Rattle.fit.specs.Fit.{Fit}
 use Rattle.tables.proofs.SearchLaws.{cases}
 use Rattle.rules.specs.State.{Fault, Res, refused, refuse, slotAt}
 use Rattle.rules.specs.Identities.{Tie, ties, isNode, member, frozenBy, classOf, names, clashFree, putAll, identityPhase}

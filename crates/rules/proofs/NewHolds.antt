@@ -18,13 +18,13 @@ use Rattle.tables.specs.declared.Value.{Value}
 use Rattle.tables.specs.declared.Value.the-variants.{Ref}
 use Rattle.tables.specs.Sizes.{variables, labels, mostFields}
 use Rattle.tables.specs.Values.{cellOf}
-use Rattle.tables.specs.Cells.{Cells, cells, pairAt}
-use Rattle.tables.specs.Records.{recordCount, withRecord}
-use Rattle.tables.specs.Fit.{cellFits, Fit, FieldsFit}
+use Rattle.tables.specs.Cells.{Cells, cells}
+use Rattle.tables.specs.Records.{recordCount, newLabel, newCell, fieldThen, withRecord}
+use Rattle.fit.specs.Fit.{cellFits, Fit, FieldsFit}
 use Rattle.tables.proofs.SearchLaws.{cases}
 use Rattle.tables.proofs.ValueLaws.{cell-used}
-use Rattle.tables.proofs.RecordLaws.{add-records}
-use Rattle.tables.proofs.FitChanges.{fit-add}
+use Rattle.tables.proofs.RecordLaws.{first-label, first-cell, next-label, next-cell, add-records}
+use Rattle.fit.proofs.FitChanges.{fit-add}
 use Rattle.program.specs.Forms.{expressionDepth}
 use Rattle.program.specs.Told.{told}
 use Rattle.program.specs.Reading.{number, readExpression, readFields}
@@ -48,10 +48,7 @@ use Rattle.rules.proofs.AssignHolds.{evaluate-there, there-fits, value-
 -- fields that fit, and none of whose labels is marked
 record Rows (count : ℤ) (marks : List Bool) (fs : List ℤ) (n : ℕ) : Type 0 where
   fit : FieldsFit count fs n
-  unmarked : (f : ℕ) → f < n → getD marks (numberOf (wordAt fs (3 * f))) false ≡ false
-
-skip-three : (a b c : ℤ) (s : List ℤ) (i j : ℕ) → i ≡ suc (suc (suc j)) → wordAt (a ∷ b ∷ c ∷ s) i ≡ wordAt s j
-skip-three a b c s i j e = rw e
+  unmarked : (f : ℕ) → f < n → getD marks (numberOf (newLabel fs f)) false ≡ false
 
 -- no fields
 no-rows : (count : ℤ) (marks : List Bool) (fs : List ℤ) → Rows count marks fs 0
@@ -71,44 +68,42 @@ no-rows count marks fs = record {
 -- a field more, before the others, whose label was not marked and is marked for them
 module _ (count : ℤ) (marks : List Bool) (long : length marks ≡ 32) (l : ℕ) (v : Value) (fs : List ℤ) (n : ℕ) (small : l < 32) (new : getD marks l false ≡ false) (fits : cellFits count (cellOf v) ≡ true) (rows : Rows count (set marks l true) fs n) where
   abbrev whole : List ℤ
-  whole = pos l ∷ cellOf v .kind ∷ cellOf v .payload ∷ fs
+  whole = fieldThen (pos l) (cellOf v) fs
 
-  -- the word o of a later field
-  shift : (g o i j : ℕ) → i ≡ 3 * suc g + o → j ≡ 3 * g + o → wordAt whole i ≡ wordAt fs j
-  shift g o i j e k = skip-three (pos l) (cellOf v .kind) (cellOf v .payload) fs i j (omega arith)
+  head : newLabel whole 0 ≡ pos l
+  head = first-label (pos l) (cellOf v) fs
 
-  label : (g : ℕ) → wordAt whole (3 * suc g) ≡ wordAt fs (3 * g)
-  label g = shift g 0 (3 * suc g) (3 * g) (omega arith) (omega arith)
+  label : (g : ℕ) → newLabel whole (suc g) ≡ newLabel fs g
+  label = next-label (pos l) (cellOf v) fs
 
   -- a later label is another
-  apart : (f : ℕ) → f < n → numberOf (wordAt fs (3 * f)) ≡ l → ⊥
+  apart : (f : ℕ) → f < n → numberOf (newLabel fs f) ≡ l → ⊥
   apart f h e =
       let t : getD (set marks l true) l false ≡ true = getD-set-same marks l true false (omega arith) in
       let u : getD (set marks l true) l false ≡ false = rw e at (rows .unmarked f h) in
       let z : _≡_ {A = ℕ} 0 1 = cc in omega arith
 
-  more-small : (f : ℕ) → f < suc n → numberOf (wordAt whole (3 * f)) < labels
-  more-small zero h = small
+  more-small : (f : ℕ) → f < suc n → numberOf (newLabel whole f) < labels
+  more-small zero h = rw head small
   more-small (suc g) h = rw (label g) (rows .fit .small g (omega arith))
 
-  more-differ : (g f : ℕ) → g < f → f < suc n → numberOf (wordAt whole (3 * g)) ≡ numberOf (wordAt whole (3 * f)) → ⊥
+  more-differ : (g f : ℕ) → g < f → f < suc n → numberOf (newLabel whole g) ≡ numberOf (newLabel whole f) → ⊥
   more-differ g zero a h = let z : ⊥ = omega arith in absurd z
-  more-differ zero (suc f) a h = rw (label f) (λ e. apart f (omega arith) (sym e))
+  more-differ zero (suc f) a h = rw (head, label f) (λ e. apart f (omega arith) (sym e))
   more-differ (suc g) (suc f) a h = rw (label g, label f) (rows .fit .differ g f (omega arith) (omega arith))
 
-  more-fits : (f : ℕ) → f < suc n → cellFits count (pairAt whole (3 * f + 1)) ≡ true
-  more-fits zero h = fits
-  more-fits (suc g) h =
-      rw (shift g 1 (3 * suc g + 1) (3 * g + 1) (omega arith) (omega arith), shift g 2 (3 * suc g + 1 + 1) (3 * g + 1 + 1) (omega arith) (omega arith)) (rows .fit .fits g (omega arith))
+  more-fits : (f : ℕ) → f < suc n → cellFits count (newCell whole f) ≡ true
+  more-fits zero h = rw (first-cell (pos l) (cellOf v) fs) fits
+  more-fits (suc g) h = rw (next-cell (pos l) (cellOf v) fs g) (rows .fit .fits g (omega arith))
 
-  more-used : (f : ℕ) → f < suc n → numberOf (wordAt whole (3 * f + 1)) ≡ 0 → ⊥
-  more-used zero h = cell-used v
-  more-used (suc g) h = rw (shift g 1 (3 * suc g + 1) (3 * g + 1) (omega arith) (omega arith)) (rows .fit .used g (omega arith))
+  more-used : (f : ℕ) → f < suc n → numberOf (newCell whole f .kind) ≡ 0 → ⊥
+  more-used zero h = rw (first-cell (pos l) (cellOf v) fs) (cell-used v)
+  more-used (suc g) h = rw (next-cell (pos l) (cellOf v) fs g) (rows .fit .used g (omega arith))
 
-  more-unmarked : (f : ℕ) → f < suc n → getD marks (numberOf (wordAt whole (3 * f))) false ≡ false
-  more-unmarked zero h = new
+  more-unmarked : (f : ℕ) → f < suc n → getD marks (numberOf (newLabel whole f)) false ≡ false
+  more-unmarked zero h = rw head new
   more-unmarked (suc g) h = rw (label g)
-      (sym (getD-set-other marks l (numberOf (wordAt fs (3 * g))) true false (apart g (omega arith))) ∙ rows .unmarked g (omega arith))
+      (sym (getD-set-other marks l (numberOf (newLabel fs g)) true false (apart g (omega arith))) ∙ rows .unmarked g (omega arith))
 
   more-rows : Rows count marks whole (suc n)
   more-rows = record { fit = record { small = more-small; differ = more-differ; fits = more-fits; used = more-used }; unmarked = more-unmarked }

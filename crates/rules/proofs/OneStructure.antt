@@ -11,7 +11,8 @@ use lib.ListN.{drop}
 use Rattle.words.specs.Words.{numberAt, numberOf}
 use Rattle.words.specs.Answer.{Answer, got, stop, want}
 use Rattle.words.proofs.AnswerLaws.{stop≢got, either, step-on}
-use Rattle.tables.specs.Fit.{Sized, sized}
+use Rattle.tables.specs.Cells.{Sized}
+use Rattle.fit.specs.Fit.{sized}
 use Rattle.tables.proofs.SearchLaws.{cases, and-left}
 use Rattle.program.specs.Forms.{blockDepth, mostStatements, Verb, skip, assign, new, always, once, alwaysSame, onceSame, branch, loop, noVerb, verbOf}
 use Rattle.program.specs.Reading.{number, readBlock, readStatement, after}
@@ -21,7 +22,7 @@ use Rattle.rules.specs.Running.{Tally, Out, on, end, thenOut, paid, take
 use Rattle.rules.specs.Start.{Early, budgetFits, early, starts, ended, run}
 use Rattle.rules.specs.Structure.{SameState}
 use Rattle.rules.specs.Claims.OneStructure.{OneStructure}
-use Rattle.tables.proofs.StartLaws.{sized-lengths}
+use Rattle.fit.proofs.StartLaws.{sized-lengths}
 use Rattle.rules.proofs.Structure.{state-refl}
 use Rattle.rules.proofs.SameRuns.{end≢on, blocks-same}
 use Rattle.rules.proofs.Refusals.{Refuses, NotZero, when-got, when-stop, when-next, simple-not, test-not}

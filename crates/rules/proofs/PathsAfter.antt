@@ -13,7 +13,7 @@ use Rattle.tables.specs.declared.Sort.the-variants.{Identities}
 use Rattle.tables.specs.Values.{Sound}
 use Rattle.tables.specs.Cells.{Cells}
 use Rattle.tables.specs.Records.{fieldWith}
-use Rattle.tables.specs.Fit.{Fit}
+use Rattle.fit.specs.Fit.{Fit}
 use Rattle.rules.specs.State.{slotAt, positions}
 use Rattle.rules.specs.Paths.{Way, wayAt}
 use Rattle.rules.specs.Identities.{Tie, tieAt, tiesOf, ties, classOf, identityPhase}

@@ -9,9 +9,9 @@ use Rattle.tables.specs.declared.Value.the-variants.{Ref}
 use Rattle.tables.specs.Values.{cellOf}
 use Rattle.tables.specs.Cells.{Cells}
 use Rattle.tables.specs.Records.{recordCount}
-use Rattle.tables.specs.Fit.{Fit, MayHold, in-variable, in-field}
-use Rattle.tables.proofs.ValueLaws.{cell-fits}
-use Rattle.tables.proofs.FitLaws.{fit-count, fit-count-word}
+use Rattle.fit.specs.Fit.{Fit, MayHold, in-variable, in-field}
+use Rattle.fit.proofs.CellFits.{cell-fits}
+use Rattle.fit.proofs.FitLaws.{fit-count, fit-count-word}
 use Rattle.rules.specs.Identities.{Tie, ties, classOf, identityPhase}
 use Rattle.rules.specs.IdentityRules.{Target, Ready}
 use Rattle.rules.proofs.ClassLaws.{class-iff}

@@ -13,8 +13,8 @@ use Rattle.tables.specs.declared.Sort.the-variants.{Identities}
 use Rattle.tables.specs.Values.{Sound}
 use Rattle.tables.specs.Cells.{Cells}
 use Rattle.tables.specs.Records.{recordCount}
-use Rattle.tables.specs.Fit.{Fit}
-use Rattle.tables.proofs.FitLaws.{fit-count}
+use Rattle.fit.specs.Fit.{Fit}
+use Rattle.fit.proofs.FitLaws.{fit-count}
 use Rattle.rules.specs.State.{positions}
 use Rattle.rules.specs.Identities.{sameNow, identityPhase}
 use Rattle.rules.specs.IdentityRules.{Target, Ready, Phase}

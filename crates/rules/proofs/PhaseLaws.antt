@@ -19,10 +19,10 @@ use Rattle.tables.specs.declared.Slot.{Slot}
 use Rattle.tables.specs.declared.Slot.the-variants.{Absent, Has}
 use Rattle.tables.specs.Values.{cell, cellOf, slotOf, Sound}
 use Rattle.tables.specs.Cells.{Cells}
-use Rattle.tables.specs.Fit.{Fit}
+use Rattle.fit.specs.Fit.{Fit}
 use Rattle.tables.proofs.SearchLaws.{cases, and-left, and-right, and-true}
 use Rattle.tables.proofs.ValueLaws.{slot-of-cell}
-use Rattle.tables.proofs.FitLaws.{fit-ref, fit-count}
+use Rattle.fit.proofs.FitLaws.{fit-ref, fit-count}
 use Rattle.rules.specs.State.{refused, slotAt}
 use Rattle.rules.specs.Evaluation.{same}
 use Rattle.rules.specs.Identities.{Tie, ties, isNode, member, frozenBy, classOf, names, is, clashFree, identityPhase}

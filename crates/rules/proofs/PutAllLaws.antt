@@ -10,13 +10,13 @@ use Rattle.words.specs.Words.{wordAt, numberOf}
 use Rattle.tables.specs.declared.Value.{Value}
 use Rattle.tables.specs.declared.Slot.the-variants.{Has}
 use Rattle.tables.specs.Values.{cellOf, slotOf, Sound}
-use Rattle.tables.specs.Cells.{Cells, cellAt, putCell}
+use Rattle.tables.specs.Cells.{Cells, cellAt, putCell, Sized}
 use Rattle.tables.specs.Records.{recordCount, fieldCount, labelAt, fieldWith}
-use Rattle.tables.specs.Fit.{Sized, Fit, MayHold, in-variable, in-field, cellFits}
+use Rattle.fit.specs.Fit.{Fit, MayHold, in-variable, in-field, cellFits}
 use Rattle.tables.proofs.SearchLaws.{cases}
 use Rattle.tables.proofs.ValueLaws.{slot-of-cell, cell-used}
 use Rattle.tables.proofs.CellLaws.{read-same, read-other, put-lengths, put-sized, put-count-word, put-records, put-fields, put-label, put-found, no-cell}
-use Rattle.tables.proofs.FitChanges.{fit-put}
+use Rattle.fit.proofs.FitChanges.{fit-put}
 use Rattle.rules.specs.State.{slotAt}
 use Rattle.rules.specs.Identities.{member, putAll}
 use Rattle.rules.proofs.ClassLaws.{member-head, member-tail, member-cons, member-none, false≢true}

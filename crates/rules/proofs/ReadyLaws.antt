@@ -16,13 +16,14 @@ use Rattle.tables.specs.declared.Slot.the-variants.{Has}
 use Rattle.tables.specs.declared.Sort.the-variants.{Identities}
 use Rattle.tables.specs.Sizes.{fieldLocation}
 use Rattle.tables.specs.Values.{slotOf, cellOf}
-use Rattle.tables.specs.Cells.{Cells, cellAt}
+use Rattle.tables.specs.Cells.{Cells, cellAt, Sized}
 use Rattle.tables.specs.Records.{recordCount, fieldWith, withRecord}
-use Rattle.tables.specs.Fit.{Fit, Sized, MayHold, in-variable, in-field}
+use Rattle.fit.specs.Fit.{Fit, MayHold, in-variable, in-field}
 use Rattle.tables.proofs.ValueLaws.{cell-used}
 use Rattle.tables.proofs.RecordLaws.{add-length, add-fields-other, add-label-other, add-cell-other}
 use Rattle.tables.proofs.FindLaws.{field-in}
-use Rattle.tables.proofs.FitLaws.{fit-used, fit-ref}
+use Rattle.tables.proofs.CellLaws.{location-high, same-place}
+use Rattle.fit.proofs.FitLaws.{fit-used, fit-ref}
 use Rattle.program.proofs.NumberLaws.{number-read}
 use Rattle.rules.specs.State.{slotAt, positions}
 use Rattle.rules.specs.Paths.{follow, Way, wayAt}
@@ -38,11 +39,11 @@ Inside S l = (f : ℕ) → f < 8 → l ≡ fieldLocation (recordCount (S .heap))
 
 module _ (S : Cells) where
   pub inside-variable : (l : ℕ) → l < 64 → Inside S l
-  inside-variable l h f b e = omega arith
+  inside-variable l h f b e = omega (arith, location-high (recordCount (S .heap)) f)
 
   module _ (fit : Fit S) where
     inside-field : (r g : ℕ) → r < recordCount (S .heap) → g < 8 → Inside S (fieldLocation r g)
-    inside-field r g h a f b e = omega arith
+    inside-field r g h a f b e = omega (arith, same-place r (recordCount (S .heap)) g f a b e .0)
 
     -- labels lead from a cell that is there to one that is there, through cells that are there
     follow-inside : (n l : ℕ) (p : List ℤ) (x : ℕ × List ℕ) → Inside S l → follow S n l p ≡ got x → Inside S (x .0) × ((k : ℕ) → OneOf k (x .1) → Inside S k)

@@ -12,10 +12,10 @@ use Rattle.words.specs.Answer.{got, stop}
 use Rattle.words.proofs.AnswerLaws.{stop-inj}
 use Rattle.tables.specs.declared.Sort.{Sort}
 use Rattle.tables.specs.declared.Sort.the-variants.{Values, Identities}
-use Rattle.tables.specs.Fit.{sized}
+use Rattle.fit.specs.Fit.{sized}
 use Rattle.tables.specs.Kept.{isKept}
 use Rattle.tables.proofs.SearchLaws.{and-left}
-use Rattle.tables.proofs.StartLaws.{sized-lengths}
+use Rattle.fit.proofs.StartLaws.{sized-lengths}
 use Rattle.tables.proofs.KeptLaws.{KeptAt, kept-here}
 use Rattle.program.specs.Forms.{mostWords, Verb, verbOf}
 use Rattle.program.specs.Reading.{readProgram}

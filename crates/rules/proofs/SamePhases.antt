@@ -14,8 +14,7 @@ use Rattle.words.proofs.AnswerLaws.{got-inj, step, tested}
 use Rattle.tables.specs.declared.Cell.{Cell}
 use Rattle.tables.specs.declared.Value.{Value}
 use Rattle.tables.specs.Values.{cell, cellOf}
-use Rattle.tables.specs.Cells.{Cells, cellAt, putCell}
-use Rattle.tables.specs.Fit.{Sized}
+use Rattle.tables.specs.Cells.{Cells, cellAt, putCell, Sized}
 use Rattle.tables.proofs.SearchLaws.{cases, and-left, and-right}
 use Rattle.tables.proofs.CellLaws.{put-same as put-back, put-sized}
 use Rattle.rules.specs.State.{refused}

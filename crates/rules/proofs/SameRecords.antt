@@ -1,24 +1,21 @@
 -- A record added to two heaps of one structure, with alike fields, leaves one structure.
 -- Assumes nothing.
-use mathlib.Core.Path.{_≡_, refl, sym, ap, _∙_}
-use mathlib.Core.List.{List, _∷_}
-use Prim.Native.Nat.{ℕ, zero, suc, _+_, _-_, _*_, _<_, _≤_}
+use mathlib.Core.Path.{_≡_, sym, ap, _∙_}
+use mathlib.Core.List.{List}
+use Prim.Native.Nat.{ℕ, zero, suc, _+_, _-_, _<_, _≤_}
 use native.Mathlib.Omega.{arith}
 use native.Mathlib.Decide.{decLt, ℕ-discrete}
 use lib.IntN.{ℤ, pos}
-use lib.ListN.{length}
-use Rattle.words.specs.Words.{wordAt, numberOf}
+use Rattle.words.specs.Words.{numberOf}
 use Rattle.words.specs.Answer.{got}
 use Rattle.words.proofs.AnswerLaws.{got-inj, step}
 use Rattle.tables.specs.declared.Cell.{Cell}
-use Rattle.tables.specs.Sizes.{labels, fieldLocation, labelWord}
+use Rattle.tables.specs.Sizes.{labels, fieldLocation}
 use Rattle.tables.specs.Values.{cellOf}
-use Rattle.tables.specs.Cells.{Cells, cells, cellAt, pairAt}
-use Rattle.tables.specs.Records.{recordCount, fieldCount, labelAt, withRecord}
-use Rattle.tables.specs.Fit.{Sized}
-use Rattle.tables.proofs.WordLaws.{number-same}
-use Rattle.tables.proofs.RecordLaws.{add-length, add-records, add-fields, add-fields-other, add-label, add-label-other, add-cell, add-cell-other, add-word-other}
-use Rattle.tables.proofs.FitLaws.{label-is}
+use Rattle.tables.specs.Cells.{Cells, cells, Sized, cellAt}
+use Rattle.tables.specs.Records.{recordCount, fieldCount, labelAt, newLabel, newCell, fieldThen, withRecord}
+use Rattle.tables.proofs.CellLaws.{Among, the-place, no-place, among}
+use Rattle.tables.proofs.RecordLaws.{first-label, first-cell, next-label, next-cell, add-length, add-records, add-fields, add-fields-other, add-label, add-label-other, add-label-after, add-cell, add-cell-other}
 use Rattle.program.specs.Forms.{expressionDepth}
 use Rattle.program.specs.Reading.{number}
 use Rattle.rules.specs.State.{reads}
@@ -30,26 +27,20 @@ use Rattle.rules.proofs.SameValues.{Near, evaluate-near}
 
 -- the words of n fields: the same labels, and alike cells
 pub record FieldsAlike (fs gs : List ℤ) (n : ℕ) : Type 0 where
-  pub labels : (f : ℕ) → f < n → wordAt fs (3 * f) ≡ wordAt gs (3 * f)
-  pub cells : (f : ℕ) → f < n → AlikeCell (pairAt fs (3 * f + 1)) (pairAt gs (3 * f + 1))
+  pub labels : (f : ℕ) → f < n → newLabel fs f ≡ newLabel gs f
+  pub cells : (f : ℕ) → f < n → AlikeCell (newCell fs f) (newCell gs f)
 
 -- one field more, in front
-abbrev inFront : ℤ → Cell → List ℤ → List ℤ
-inFront l c more = l ∷ c .kind ∷ c .payload ∷ more
-
-front-alike : (l : ℤ) (c d : Cell) (fs gs : List ℤ) (n : ℕ) → AlikeCell c d → FieldsAlike fs gs n → FieldsAlike (inFront l c fs) (inFront l d gs) (suc n)
+front-alike : (l : ℤ) (c d : Cell) (fs gs : List ℤ) (n : ℕ) → AlikeCell c d → FieldsAlike fs gs n → FieldsAlike (fieldThen l c fs) (fieldThen l d gs) (suc n)
 front-alike l c d fs gs n a h = record { labels = label; cells = held }
   where
-    label : (f : ℕ) → f < suc n → wordAt (inFront l c fs) (3 * f) ≡ wordAt (inFront l d gs) (3 * f)
-    label zero b = refl
-    label (suc f) b = let e : 3 * suc f ≡ suc (suc (suc (3 * f))) = omega arith in rw e (h .labels f (omega arith))
+    label : (f : ℕ) → f < suc n → newLabel (fieldThen l c fs) f ≡ newLabel (fieldThen l d gs) f
+    label zero b = first-label l c fs ∙ sym (first-label l d gs)
+    label (suc f) b = next-label l c fs f ∙ h .labels f (omega arith) ∙ sym (next-label l d gs f)
 
-    held : (f : ℕ) → f < suc n → AlikeCell (pairAt (inFront l c fs) (3 * f + 1)) (pairAt (inFront l d gs) (3 * f + 1))
-    held zero b = a
-    held (suc f) b =
-        let e : 3 * suc f + 1 ≡ suc (suc (suc (3 * f + 1))) = omega arith in
-        let u : suc (suc (suc (3 * f + 1))) + 1 ≡ suc (suc (suc (3 * f + 1 + 1))) = omega arith in
-        rw (e, u) (h .cells f (omega arith))
+    held : (f : ℕ) → f < suc n → AlikeCell (newCell (fieldThen l c fs) f) (newCell (fieldThen l d gs) f)
+    held zero b = rw (first-cell l c fs, first-cell l d gs) a
+    held (suc f) b = rw (next-cell l c fs f, next-cell l d gs f) (h .cells f (omega arith))
 
 -- the fields of a new have the same labels and alike values
 pub fields-alike : (S Z : Cells) → Same S Z → (n : ℕ) (p : List ℤ) (fs gs : List ℤ) → fieldWords n S p ≡ got fs → fieldWords n Z p ≡ got gs → FieldsAlike fs gs n
@@ -73,14 +64,6 @@ fields-alike S Z s (suc n) p fs gs e g =
 pub add-sized : (S : Cells) (fs : List ℤ) (n : ℕ) → Sized S → Sized (cells (S .environment) (withRecord (S .heap) fs n))
 add-sized S fs n z = record { environment = z .environment; heap = add-length (S .heap) fs n ∙ z .heap }
 
--- the label of a place after the new fields is as it was
-label-after : (h fs : List ℤ) (n : ℕ) → length h ≡ 1601 → recordCount h < 64 → n ≤ 8 → (f : ℕ) → n ≤ f → f < 8 → labelAt (withRecord h fs n) (recordCount h) f ≡ labelAt h (recordCount h) f
-label-after h fs n long room few f a b =
-    label-is (withRecord h fs n) (recordCount h) f room b
-    ∙ number-same (withRecord h fs n) h (labelWord (recordCount h) f) (add-length h fs n)
-    (add-word-other h fs n long room few (labelWord (recordCount h) f) (λ e. omega arith) (λ e. omega arith) (λ e. omega arith))
-    ∙ sym (label-is h (recordCount h) f room b)
-
 module _ (S Z : Cells) (s : Same S Z) (i : Sized S) (j : Sized Z) (fs gs : List ℤ) (n : ℕ) (room : recordCount (S .heap) < 64) (few : n ≤ 8) (a : FieldsAlike fs gs n) where
   abbrev X : Cells
   X = cells (S .environment) (withRecord (S .heap) fs n)
@@ -93,30 +76,23 @@ module _ (S Z : Cells) (s : Same S Z) (i : Sized S) (j : Sized Z) (fs gs : List 
 
   -- the new record has the same number in both
   new-cells : (l : ℕ) → AlikeCell (cellAt X l) (cellAt Y l)
-  new-cells l = go (decLt l (fieldLocation (recordCount (S .heap)) 0)) (decLt l (fieldLocation (recordCount (S .heap)) n))
+  new-cells l = go (among (recordCount (S .heap)) n l)
     where
-      old : ((f : ℕ) → f < n → l ≡ fieldLocation (recordCount (S .heap)) f → ⊥) → AlikeCell (cellAt X l) (cellAt Y l)
-      old d =
+      go : Among (recordCount (S .heap)) n l → AlikeCell (cellAt X l) (cellAt Y l)
+      go (no-place d) =
           rw (add-cell-other (S .heap) fs n (i .heap) room few (S .environment) l d, add-cell-other (Z .heap) gs n (j .heap) room' few (Z .environment) l (rw (s .records) at d)) (s .alike l)
-
-      go : Dec (l < fieldLocation (recordCount (S .heap)) 0) → Dec (l < fieldLocation (recordCount (S .heap)) n) → AlikeCell (cellAt X l) (cellAt Y l)
-      go (yes x) y = old (λ f h e. omega arith)
-      go (no x) (no y) = old (λ f h e. omega arith)
-      go (no x) (yes y) =
-          let f : ℕ = l - fieldLocation (recordCount (S .heap)) 0 in
-          let b : f < n = omega arith in
-          let e : l ≡ fieldLocation (recordCount (S .heap)) f = omega arith in
-          let e' : l ≡ fieldLocation (recordCount (Z .heap)) f = omega (arith, s .records) in
-          let p : cellAt X l ≡ pairAt fs (3 * f + 1) = ap (λ k. cellAt X k) e ∙ add-cell (S .heap) fs n (i .heap) room few (S .environment) f b in
-          let q : cellAt Y l ≡ pairAt gs (3 * f + 1) = ap (λ k. cellAt Y k) e' ∙ add-cell (Z .heap) gs n (j .heap) room' few (Z .environment) f b in
+      go (the-place f b e) =
+          let e' : l ≡ fieldLocation (recordCount (Z .heap)) f = rw (s .records) at e in
+          let p : cellAt X l ≡ newCell fs f = ap (λ k. cellAt X k) e ∙ add-cell (S .heap) fs n (i .heap) room few (S .environment) f b in
+          let q : cellAt Y l ≡ newCell gs f = ap (λ k. cellAt Y k) e' ∙ add-cell (Z .heap) gs n (j .heap) room' few (Z .environment) f b in
           rw (p, q) (a .cells f b)
 
   new-labels : (r f : ℕ) → Dec (r ≡ recordCount (S .heap)) → Dec (f < n) → f < 8 → labelAt (X .heap) r f ≡ labelAt (Y .heap) r f
   new-labels r f (yes e) (yes l) y =
       rw e (add-label (S .heap) fs n (i .heap) room few f l ∙ ap numberOf (a .labels f l) ∙ sym (rw (s .records) (add-label (Z .heap) gs n (j .heap) room' few f l)))
   new-labels r f (yes e) (no l) y =
-      rw e (label-after (S .heap) fs n (i .heap) room few f (omega arith) y ∙ s .labels (recordCount (S .heap)) f y
-      ∙ sym (rw (s .records) (label-after (Z .heap) gs n (j .heap) room' few f (omega arith) y)))
+      rw e (add-label-after (S .heap) fs n (i .heap) room few f (omega arith) ∙ s .labels (recordCount (S .heap)) f y
+      ∙ sym (rw (s .records) (add-label-after (Z .heap) gs n (j .heap) room' few f (omega arith))))
   new-labels r f (no m) d y =
       add-label-other (S .heap) fs n (i .heap) room few r f m ∙ s .labels r f y ∙ sym (add-label-other (Z .heap) gs n (j .heap) room' few r f (rw (s .records) at m))
 

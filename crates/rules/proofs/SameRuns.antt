@@ -11,7 +11,7 @@ use lib.ListN.{length, length-append, drop}
 use Rattle.words.specs.Words.{numberAt}
 use Rattle.words.specs.Answer.{got, stop}
 use Rattle.words.proofs.AnswerLaws.{either}
-use Rattle.tables.specs.Fit.{Sized}
+use Rattle.tables.specs.Cells.{Sized}
 use Rattle.tables.proofs.SearchLaws.{cases}
 use Rattle.program.specs.Forms.{mostStatements, Verb, skip, assign, new, always, once, alwaysSame, onceSame, branch, loop, noVerb, verbOf}
 use Rattle.program.specs.Reading.{number, readBlock, readStatement, after}

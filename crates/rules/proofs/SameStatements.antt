@@ -14,9 +14,8 @@ use Rattle.words.proofs.AnswerLaws.{stop≢got, got-inj, step, step-on, tested}
 use Rattle.tables.specs.declared.Value.the-variants.{Ref}
 use Rattle.tables.specs.declared.Sort.the-variants.{Values, Identities}
 use Rattle.tables.specs.Sizes.{variables, mostFields, mostRecords}
-use Rattle.tables.specs.Cells.{Cells, cells}
+use Rattle.tables.specs.Cells.{Cells, cells, Sized}
 use Rattle.tables.specs.Records.{recordCount, withRecord}
-use Rattle.tables.specs.Fit.{Sized}
 use Rattle.program.specs.Forms.{expressionDepth, Verb, skip, assign, new, always, once, alwaysSame, onceSame, branch, loop, noVerb}
 use Rattle.program.specs.Reading.{Reading, number, readPath, after}
 use Rattle.program.proofs.NumberLaws.{number-read}

@@ -2,10 +2,11 @@
 -- Assumes nothing.
 use mathlib.Core.Path.{_≡_, refl}
 use Rattle.words.specs.Words.{numberAt, wordOf, copied}
-use Rattle.tables.specs.Cells.{cellAt, putCell}
-use Rattle.tables.specs.Fit.{sized, cellFits, environmentFits, labelFits, fieldFits, zeros, placeFits, recordFits, numberFits, heapFits, positionFits, roomFits, sortFits, constraintsFit, cellsFit}
-use Rattle.tables.specs.Kept.{keptCount, positionAt, isKept, withPosition, withoutPosition}
-use Rattle.tables.specs.Records.{recordCount, fieldCount, labelAt, placeWith, fieldWith, withRecord, withoutRecord}
+use Rattle.tables.specs.Sizes.{countWord, labelWord, fieldWord, fieldLocation}
+use Rattle.tables.specs.Cells.{locationWord, cellAt, putCell, zeros}
+use Rattle.fit.specs.Fit.{sized, cellFits, environmentFits, labelFits, fieldFits, placeFits, recordFits, numberFits, heapFits, positionFits, roomFits, sortFits, constraintsFit, cellsFit}
+use Rattle.tables.specs.Kept.{keptWord, firstKept, keptNumber, keptCount, positionAt, blankPosition, isKept, withPosition, withoutPosition}
+use Rattle.tables.specs.Records.{recordCount, countAt, fieldCount, labelAt, fieldAt, blankPlace, blankRecord, placeWith, fieldWith, withRecord, withoutRecord}
 use Rattle.tables.specs.Search.{every, first}
 use Rattle.tables.specs.Values.{cellOf, slotOf}
 use Rattle.program.specs.Forms.{formOf, verbOf}
@@ -23,5 +24,5 @@ use Rattle.rules.specs.State.{freshState, slotAt, listed, positions}
 use Rattle.rules.specs.Statements.{hasRoom, keep, valuePhase, doAssign, fieldWords, doNew, doConstraint, doIdentity, doSimple}
 
 pub sheets-hold : given sheets ≡ wanted sheets
-unfolding numberAt wordOf copied cellAt putCell sized cellFits environmentFits labelFits fieldFits zeros placeFits recordFits numberFits heapFits positionFits roomFits sortFits constraintsFit cellsFit keptCount positionAt isKept withPosition withoutPosition recordCount fieldCount labelAt placeWith fieldWith withRecord withoutRecord every first cellOf slotOf formOf verbOf number anyWord readLabels readPath readPaths readForm readExpression readPart readParts readConstraint among readFields readNew readAssign readVerb readWith readStatements readBlock readStatement ends placeIn readProgram after spotInside spotStatement spotStatements spotBlock statementAt isAlways positionsStand constraintsStand satisfies partAt partsAt constraintAt keptAt keptParts ownParts counted allHold requiredHold opOf comparable takes gives same ranged made apply evaluateForm evaluate kindForm kind isNode sameNow tieAt tiesOf ties member frozenBy grown grownBy classOf names clashFree putAll identityPhase follow wayAt valueAt entries proposal mayTake entryFits entriesFit putEntry applied settle paid taken test tested turns doVerb doStatement doStatements doBlock given wanted budgetFits valuesHold identitiesHold early starts ended run freshState slotAt listed positions hasRoom keep valuePhase doAssign fieldWords doNew doConstraint doIdentity doSimple
+unfolding numberAt wordOf copied countWord labelWord fieldWord fieldLocation locationWord cellAt putCell sized cellFits environmentFits labelFits fieldFits zeros placeFits recordFits numberFits heapFits positionFits roomFits sortFits constraintsFit cellsFit keptWord firstKept keptNumber keptCount positionAt blankPosition isKept withPosition withoutPosition recordCount countAt fieldCount labelAt fieldAt blankPlace blankRecord placeWith fieldWith withRecord withoutRecord every first cellOf slotOf formOf verbOf number anyWord readLabels readPath readPaths readForm readExpression readPart readParts readConstraint among readFields readNew readAssign readVerb readWith readStatements readBlock readStatement ends placeIn readProgram after spotInside spotStatement spotStatements spotBlock statementAt isAlways positionsStand constraintsStand satisfies partAt partsAt constraintAt keptAt keptParts ownParts counted allHold requiredHold opOf comparable takes gives same ranged made apply evaluateForm evaluate kindForm kind isNode sameNow tieAt tiesOf ties member frozenBy grown grownBy classOf names clashFree putAll identityPhase follow wayAt valueAt entries proposal mayTake entryFits entriesFit putEntry applied settle paid taken test tested turns doVerb doStatement doStatements doBlock given wanted budgetFits valuesHold identitiesHold early starts ended run freshState slotAt listed positions hasRoom keep valuePhase doAssign fieldWords doNew doConstraint doIdentity doSimple
 sheets-hold = refl

@@ -10,7 +10,7 @@ use Rattle.words.specs.Words.{wordAt, numberOf}
 use Rattle.words.specs.Answer.{Answer, got, stop, _>>=_, _>>_, want}
 use Rattle.tables.specs.declared.Sort.the-variants.{Values, Identities}
 use Rattle.tables.specs.Cells.{Cells}
-use Rattle.tables.specs.Fit.{sized, environmentFits, heapFits}
+use Rattle.fit.specs.Fit.{sized, environmentFits, heapFits}
 use Rattle.program.specs.Forms.{blockDepth}
 use Rattle.program.specs.Reading.{readProgram}
 use Rattle.program.specs.Where.{constraintsStand}

@@ -12,7 +12,7 @@ use Rattle.words.proofs.AnswerLaws.{stop-inj, stop≢got, step-on}
 use Rattle.tables.specs.declared.Sort.{Sort}
 use Rattle.tables.specs.declared.Sort.the-variants.{Values, Identities}
 use Rattle.tables.specs.Cells.{Cells}
-use Rattle.tables.specs.Fit.{sized, environmentFits, heapFits}
+use Rattle.fit.specs.Fit.{sized, environmentFits, heapFits}
 use Rattle.tables.specs.Kept.{keptCount, positionAt}
 use Rattle.tables.proofs.KeptLaws.{KeptAt}
 use Rattle.program.specs.Reading.{readProgram}

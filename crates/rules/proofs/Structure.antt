@@ -18,13 +18,13 @@ use Rattle.tables.specs.declared.Slot.{Slot}
 use Rattle.tables.specs.declared.Slot.the-variants.{Absent, Has}
 use Rattle.tables.specs.Sizes.{environmentWords, heapWords}
 use Rattle.tables.specs.Values.{cell, cellOf, slotOf}
-use Rattle.tables.specs.Cells.{Cells, cellAt, putCell}
+use Rattle.tables.specs.Cells.{Cells, cellAt, putCell, Sized}
 use Rattle.tables.specs.Records.{fieldCount, labelAt, fieldWith}
-use Rattle.tables.specs.Fit.{Sized, sized}
+use Rattle.fit.specs.Fit.{sized}
 use Rattle.tables.proofs.SearchLaws.{cases, Seeking, seeking-starts, seeking-goes-on}
 use Rattle.tables.proofs.FindLaws.{field-in, find-hits, find-ends}
 use Rattle.tables.proofs.WordLaws.{word-number}
-use Rattle.tables.proofs.ValueLaws.{a-truth, an-integer, shape-fits, cell-of-slot}
+use Rattle.fit.proofs.CellFits.{a-truth, an-integer, shape-fits, cell-of-slot}
 use Rattle.tables.proofs.ValueLaws.{slot-boolean, slot-integer}
 use Rattle.tables.proofs.CellLaws.{no-cell, read-same, read-other, put-records, put-fields, put-label}
 use Rattle.rules.specs.State.{State}

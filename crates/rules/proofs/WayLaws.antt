@@ -23,7 +23,7 @@ use Rattle.tables.specs.Search.{first}
 use Rattle.tables.specs.Cells.{Cells}
 use Rattle.tables.specs.Records.{fieldCount, labelAt, fieldWith}
 use Rattle.tables.proofs.SearchLaws.{Seeking, first-same, first-reach, first-passes, first-hit, first-end}
-use Rattle.tables.proofs.FindLaws.{field-in, find-hits, find-ends}
+use Rattle.tables.proofs.FindLaws.{find-hits, find-ends, find-below}
 use Rattle.program.specs.Forms.{mostSteps}
 use Rattle.program.specs.Reading.{Reading, number}
 use Rattle.program.proofs.NumberLaws.{number-read}
@@ -120,9 +120,7 @@ module _ (S : Cells) where
   pub follow-below : (n l : ℕ) (p : List ℤ) (x : ℕ × List ℕ) → l < 576 → follow S n l p ≡ got x → x .0 < 576
   follow-below zero l p x h e = rw (follow-none l p x e) h
   follow-below (suc n) l p x h e = follow-step n l p x e λ r next y e1 e2 e3 q.
-      let w = found-at (S .heap) r (numberAt p 0) next e2 in
-      let b = field-in (S .heap) r (w .at-place) (w .used) in
-      rw q (follow-below n next (drop 1 p) y (omega (arith, w .is, b .0, b .1)) e3)
+      rw q (follow-below n next (drop 1 p) y (find-below (S .heap) r (numberAt p 0) next e2) e3)
 
   -- each of its prefix cells holds a reference
   pub follow-held : (n l : ℕ) (p : List ℤ) (x : ℕ × List ℕ) → follow S n l p ≡ got x → (k : ℕ) → OneOf k (x .1) → (r : ℕ) × (slotAt S k ≡ Has (Ref r))

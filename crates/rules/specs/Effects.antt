@@ -10,7 +10,7 @@ use Rattle.tables.specs.declared.Cell.{Cell}
 use Rattle.tables.specs.Values.{cell}
 use Rattle.tables.specs.Cells.{Cells, cellAt}
 use Rattle.tables.specs.Records.{recordCount, fieldCount, labelAt}
-use Rattle.tables.specs.Fit.{Fit}
+use Rattle.fit.specs.Fit.{Fit}
 use Rattle.rules.specs.Proposals.{Asked}
 
 -- a payload of the kind of a cell, which is a boolean or an integer: 0 or 1, or any word

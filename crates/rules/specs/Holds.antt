@@ -10,7 +10,7 @@ use Rattle.words.specs.Answer.{got}
 use Rattle.tables.specs.declared.Sort.the-variants.{Values, Identities}
 use Rattle.tables.specs.Sizes.{constraintsWords}
 use Rattle.tables.specs.Cells.{Cells}
-use Rattle.tables.specs.Fit.{Fit}
+use Rattle.fit.specs.Fit.{Fit}
 use Rattle.program.specs.declared.Spot.the-variants.{At}
 use Rattle.program.specs.Forms.{mostWords}
 use Rattle.program.specs.Reading.{readStatement}

@@ -13,7 +13,7 @@ use Rattle.words.specs.Answer.{Answer, got, stop, _>>_, want}
 use Rattle.words.proofs.AnswerLaws.{either}
 use Rattle.tables.specs.declared.Sort.{Sort}
 use Rattle.tables.specs.declared.Sort.the-variants.{Values, Identities}
-use Rattle.tables.specs.Fit.{sized, environmentFits, heapFits}
+use Rattle.fit.specs.Fit.{sized, environmentFits, heapFits}
 use Rattle.tables.specs.Kept.{positionAt, isKept}
 use Rattle.tables.proofs.KeptLaws.{KeptAt, kept-is}
 use Rattle.tables.proofs.SearchLaws.{cases, and-right}

@@ -15,10 +15,9 @@ use Rattle.rules.specs.Running.{Tally as Carries}
 use Rattle.rules.specs.Start.{Early, Ended, starts, run}
 use Rattle.rules.specs.Derivations.{firstTally, finished}
 use Rattle.rules.proofs.RunLaws.{refusedWith, whole, run-early, run-on, run-end}
-use Rattle.statements.specs.declared.Tally.{Tally}
-use Rattle.statements.specs.declared.Ran.{Ran}
-use Rattle.statements.specs.declared.Ran.the-variants.{On, Ends}
-use Rattle.statements.specs.Tallied.{carries, outOf, untold, untoldOut, Runs}
+use Rattle.lent.specs.declared.Tally.{Tally}
+use Rattle.lent.specs.Tallied.{carries, untold, untoldOut, Runs}
+use Rattle.lent.proofs.TallyLaws.{ends-by}
 use Rattle.run.specs.declared.Started.{Started}
 use Rattle.run.specs.declared.Started.the-variants.{Begins}
 use Rattle.run.specs.declared.Started.the-variants.{Early as Refused}
@@ -54,10 +53,10 @@ module _ (program ws : List ℤ) (budget : ℤ) (S : State) where
   begins e h = either {X = starts program budget S ≡ got tt} (starts program budget S) (λ u x. x) (λ f x. never (let y = sym (rw x at e) ∙ h in cc))
 
   -- a run that began
-  module _ (x : starts program budget S ≡ got tt) {Z : State} {r : Ran} (ran : Runs ws Z r (whole program ws budget S)) where
-    pub meets-on : {t : Tally} {answer : List ℤ} → r ≡ On t → answer ≡ wordOf 0 ∷ wordOf (length program) ∷ wordOf (t .steps) ∷ wordOf (t .accepted) ∷ []
+  module _ (x : starts program budget S ≡ got tt) {Z : State} {t : Tally} (ran : Runs ws Z t (whole program ws budget S)) where
+    pub meets-on : {answer : List ℤ} → t .outcome ≡ 0 → answer ≡ wordOf 0 ∷ wordOf (length program) ∷ wordOf (t .steps) ∷ wordOf (t .accepted) ∷ []
         → Meets Z answer (lastOf (t .unread) ws) (run program ws budget S)
-    meets-on {t = t} {answer = answer} h a = by (whole program ws budget S) refl (rw h at (ran .is))
+    meets-on {answer = answer} h a = by (whole program ws budget S) refl (rw h at (ran .is))
       where
         by : (o : Out) → whole program ws budget S ≡ o → on (carries ws Z t) ≡ untoldOut o → Meets Z answer (lastOf (t .unread) ws) (run program ws budget S)
         by (on u) w e =
@@ -69,11 +68,11 @@ module _ (program ws : List ℤ) (budget : ℤ) (S : State) where
             meets (finished program u) (run-on program ws budget S x w) (rw (← y2, ← y3) a) y1 y4
         by (end n place u) w e = never (cc)
 
-    pub meets-end : {outcome place : ℕ} {t : Tally} {answer : List ℤ} → r ≡ Ends outcome place t → answer ≡ wordOf outcome ∷ wordOf place ∷ wordOf (t .steps) ∷ wordOf (t .accepted) ∷ []
+    pub meets-end : {answer : List ℤ} → (t .outcome ≡ 0 → ⊥) → answer ≡ wordOf (t .outcome) ∷ wordOf (t .place) ∷ wordOf (t .steps) ∷ wordOf (t .accepted) ∷ []
         → Meets Z answer (lastOf (t .unread) ws) (run program ws budget S)
-    meets-end {outcome = n} {place = k} {t = t} {answer = answer} h a = by (whole program ws budget S) refl (rw h at (ran .is))
+    meets-end {answer = answer} h a = by (whole program ws budget S) refl (sym (ends-by (t .outcome) (t .place) (carries ws Z t) h) ∙ ran .is)
       where
-        by : (o : Out) → whole program ws budget S ≡ o → end n k (carries ws Z t) ≡ untoldOut o → Meets Z answer (lastOf (t .unread) ws) (run program ws budget S)
+        by : (o : Out) → whole program ws budget S ≡ o → end (t .outcome) (t .place) (carries ws Z t) ≡ untoldOut o → Meets Z answer (lastOf (t .unread) ws) (run program ws budget S)
         by (on u) w e = never (cc)
         by (end m place u) w e =
             let w6 : carries ws Z t ≡ untold u = cc in
@@ -81,6 +80,6 @@ module _ (program ws : List ℤ) (budget : ℤ) (S : State) where
             let y2 : t .steps ≡ u .steps = ap (λ (c : Carries). c .steps) w6 in
             let y3 : t .accepted ≡ u .accepted = ap (λ (c : Carries). c .accepted) w6 in
             let y4 : lastOf (t .unread) ws ≡ u .unread = ap (λ (c : Carries). c .unread) w6 in
-            let y5 : n ≡ m = cc in
-            let y6 : k ≡ place = cc in
+            let y5 : t .outcome ≡ m = cc in
+            let y6 : t .place ≡ place = cc in
             meets (refusedWith m place u) (run-end program ws budget S x w) (rw (← y2, ← y3, ← y5, ← y6) a) y1 y4

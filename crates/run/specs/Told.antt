@@ -7,7 +7,7 @@ use Rattle.words.specs.Words.{wordAt}
 use Rattle.words.specs.Answer.{Answer, got, stop, _>>_, want}
 use Rattle.tables.specs.declared.Sort.the-variants.{Values, Identities}
 use Rattle.tables.specs.Cells.{Cells}
-use Rattle.tables.specs.Fit.{environmentFits, heapFits}
+use Rattle.fit.specs.Fit.{environmentFits, heapFits}
 use Rattle.program.specs.Where.{constraintsStand}
 use Rattle.rules.specs.State.{State, positions}
 use Rattle.rules.specs.Start.{Early, Ended, valuesHold, identitiesHold, early}

@@ -11,19 +11,23 @@ ghost use Rattle.tables.specs.Cells.{cells};
 ghost use Rattle.rules.specs.State.{positions};
 ghost use Rattle.rules.specs.Start.{budgetFits, valuesHold, identitiesHold};
 ghost use Rattle.rules.specs.Start.{starts as startsBy};
-ghost use Rattle.statements.specs.Told.{tables};
+ghost use Rattle.phases.specs.Told.{tables};
 ghost use Rattle.run.specs.Told.{heldOf, startedOf, keptAtStart, tablesAtStart};
 
 // Every kept value constraint reads and its required parts hold; or the position of the first that does not.
 fn values_hold(program: &[i32], environment: &[i32], heap: &[i32], constraints: &[i32]) -> Held
     ensures { λ r. ⌜ r ≡ heldOf (valuesHold (now (program .entry)) (cells (now (environment .entry)) (now (heap .entry))) (positions (now (constraints .entry)) Values)) ⌝ }
 {
-    let after = words::part_from(program, 1);
     let n = tables::kept::kept_count(constraints, Sort::Values);
     let mut i: usize = 0;
     while i < n {
         let position = tables::kept::position_at(constraints, Sort::Values, i);
-        match expressions::constraints::constraint_at(environment, heap, after, position) {
+        let statement = words::part_from(program, position);
+        match expressions::constraints::constraint_at(
+            environment,
+            heap,
+            words::part_from(statement, 1),
+        ) {
             Weighed::Fails(_, _) => {
                 return Held::Not(position);
             }
@@ -87,10 +91,10 @@ fn holds_at_start(
 fn fits_at_start(program: &[i32], environment: &[i32], heap: &[i32], constraints: &[i32]) -> Started
     ensures { λ r. ⌜ r ≡ startedOf (tablesAtStart (now (program .entry)) (tables (now (environment .entry)) (now (heap .entry)) (now (constraints .entry)))) ⌝ }
 {
-    if !tables::fit::environment_fits(environment, heap) {
+    if !fit::environment_fits(environment, heap) {
         return Started::Early(3, 0);
     }
-    if !tables::fit::heap_fits(heap) {
+    if !fit::heap_fits(heap) {
         return Started::Early(3, 1);
     }
     if !program::places::constraints_stand(program, constraints) {
@@ -109,7 +113,7 @@ pub fn starts(
 ) -> Started
     ensures { λ r. ⌜ r ≡ startedOf (startsBy (now (program .entry)) budget (tables (now (environment .entry)) (now (heap .entry)) (now (constraints .entry)))) ⌝ }
 {
-    if !tables::fit::are_sized(environment, heap, constraints) {
+    if !fit::are_sized(environment, heap, constraints) {
         return Started::Early(1, 0);
     }
     if !budget_fits(budget) {

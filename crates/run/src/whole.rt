@@ -1,8 +1,6 @@
 // The run: the start, and then the program's block.
 use super::start::starts;
 use crate::Started;
-use statements::Ran;
-use statements::Tally;
 ghost use mathlib.Core.Path.{_≡_};
 ghost use mathlib.Core.List.{[], _∷_};
 ghost use lib.ListN.{length};
@@ -10,7 +8,7 @@ ghost use Rattle.words.specs.Words.{wordOf, lastOf};
 ghost use Rattle.words.specs.Answer.{got};
 ghost use Rattle.rules.specs.Start.{starts as startsBy};
 ghost use Rattle.rules.specs.Start.{run as runBy};
-ghost use Rattle.statements.specs.Told.{tables};
+ghost use Rattle.phases.specs.Told.{tables};
 ghost use Rattle.run.specs.Told.{Meets};
 
 // The four words of an answer.
@@ -38,16 +36,13 @@ fn run_begun(
     ensures { λ r. ⌜ Meets (tables (now (environment .exit)) (now (heap .exit)) (now (constraints .exit))) (now (answer .exit)) (lastOf r (now (proposals .entry))) (runBy (now (program .entry)) (now (proposals .entry)) budget (tables (now (environment .entry)) (now (heap .entry)) (now (constraints .entry)))) ⌝ }
 {
     let most = words::number(budget);
-    match statements::blocks::run_all(program, environment, heap, constraints, proposals, most) {
-        Ran::On(t) => {
-            answer_with(answer, 0, program.len(), t.steps, t.accepted);
-            t.unread
-        }
-        Ran::Ends(outcome, place, u) => {
-            answer_with(answer, outcome, place, u.steps, u.accepted);
-            u.unread
-        }
+    let t = blocks::run_all(program, environment, heap, constraints, proposals, most);
+    if t.outcome == 0 {
+        answer_with(answer, 0, program.len(), t.steps, t.accepted);
+        return t.unread;
     }
+    answer_with(answer, t.outcome, t.place, t.steps, t.accepted);
+    t.unread
 }
 
 // A run from the start: the answer is outcome, place, steps and accepted proposals; the unread words of the proposals are handed back.

@@ -10,7 +10,7 @@ use Rattle.words.proofs.Laws.{number-in}
 use Rattle.tables.specs.Cells.{cells}
 use Rattle.rules.specs.State.{State}
 use Rattle.rules.specs.Start.{Ended, run}
-use Rattle.statements.specs.Told.{tables}
+use Rattle.phases.specs.Told.{tables}
 use Rattle.run.specs.Told.{answerOf, Meets}
 use Rattle.lister.specs.declared.Input.the-variants.{Reads, Unfit}
 use Rattle.lister.specs.Bytes.{laid}

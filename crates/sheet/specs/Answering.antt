@@ -6,7 +6,7 @@ use Rattle.tables.specs.Sizes.{environmentWords, heapWords, constraintsWords}
 use Rattle.tables.specs.Cells.{fresh}
 use Rattle.rules.specs.State.{State}
 use Rattle.rules.specs.Start.{Ended, run}
-use Rattle.statements.specs.Told.{tables}
+use Rattle.phases.specs.Told.{tables}
 use Rattle.lister.specs.declared.Input.{Input}
 use Rattle.lister.specs.declared.Input.the-variants.{Reads, Unfit}
 use Rattle.lister.specs.Reading.{Given, inputIn}

@@ -14,6 +14,7 @@ use Rattle.words.proofs.AnswerLaws.{stop≢got, got-inj}
 use Rattle.tables.specs.declared.Value.{Value}
 use Rattle.tables.specs.declared.Cell.{Cell}
 use Rattle.tables.specs.Values.{cellOf}
+use Rattle.tables.specs.Sizes.{mostFields, labels}
 use Rattle.tables.specs.Cells.{Cells}
 use Rattle.program.specs.Reading.{number}
 use Rattle.program.proofs.NumberLaws.{number-fits, number-high}
@@ -27,10 +28,10 @@ use Rattle.rules.proofs.StatementClauses.{fields-none, fields-more}
 use Rattle.expressions.specs.declared.Evaluated.{Evaluated}
 use Rattle.expressions.specs.declared.Evaluated.the-variants.{Got, Fails as Fault-at}
 use Rattle.expressions.specs.Told.{evaluatedOf}
-use Rattle.expressions.proofs.EvaluateLaws.{got-on}
+use Rattle.expressions.proofs.LeafLaws.{got-on}
+use Rattle.proposals.proofs.FormLaws.{unlike}
 use Rattle.statements.specs.declared.Fields.the-variants.{All, Fails}
-use Rattle.statements.specs.Filling.{Fills}
-use Rattle.statements.proofs.PhaseLaws.{unlike}
+use Rattle.statements.specs.Filling.{fieldsWords, Fills}
 
 -- ---- three words more
 
@@ -101,10 +102,10 @@ module _ {S : Cells} {n : ℕ} {p before fields : List ℤ} {i left : ℕ} (inv 
     fields-turn : ((reads (number 0 31 q) >>= λ x. evaluate 16 S (x .1) >>= λ y. fieldWords (n - (i + 1)) S (y .1) >>= λ more. got (pos (x .0) ∷ cellOf (y .0) .kind ∷ cellOf (y .0) .payload ∷ more)) >>= λ more. got (inv .done ++ more)) ≡ fieldWords n S p
     fields-turn = let z : n - i ≡ suc (n - (i + 1)) = omega arith in rw (z, ← part, fields-more S q (n - (i + 1))) at (inv .rest)
 
-    pub fields-label : 32 ≤ numberAt q 0 → Fills fields n (Fails 2 (length q)) (fieldWords n S p)
+    pub fields-label : labels ≤ numberAt q 0 → Fills fields n (Fails 2 (length q)) (fieldWords n S p)
     fields-label h = not-filled (rw (number-high 0 31 q (omega arith) (omega arith)) at fields-turn)
 
-    module _ {label : ℕ} (is : label ≡ numberAt q 0) (small : label < 32) {t : List ℤ} (after : t ≡ drop 1 q) {r : Evaluated} (e : r ≡ evaluatedOf (evaluate 16 S t)) where
+    module _ {label : ℕ} (is : label ≡ numberAt q 0) (small : label < labels) {t : List ℤ} (after : t ≡ drop 1 q) {r : Evaluated} (e : r ≡ evaluatedOf (evaluate 16 S t)) where
       fields-value : ((evaluate 16 S t >>= λ y. fieldWords (n - (i + 1)) S (y .1) >>= λ more. got (pos label ∷ cellOf (y .0) .kind ∷ cellOf (y .0) .payload ∷ more)) >>= λ more. got (inv .done ++ more)) ≡ fieldWords n S p
       fields-value = rw (number-fits 0 31 q (omega arith) (omega arith), ← is, ← after) at fields-turn
 
@@ -118,7 +119,7 @@ module _ {S : Cells} {n : ℕ} {p before fields : List ℤ} {i left : ℕ} (inv 
               let z : x .word ≡ w = cc in
               rw (← y, ← z)
 
-      pub fields-go-on : {v : Value} {rest : ℕ} {c : Cell} {one two three : List ℤ} {word kind payload : ℤ} → r ≡ Got v rest → n ≤ 8 → 24 ≤ length before → c ≡ cellOf v
+      pub fields-go-on : {v : Value} {rest : ℕ} {c : Cell} {one two three : List ℤ} {word kind payload : ℤ} → r ≡ Got v rest → n ≤ mostFields → fieldsWords ≤ length before → c ≡ cellOf v
           → word ≡ wordOf label → kind ≡ c .kind → payload ≡ c .payload → one ≡ set fields (3 * i) word → two ≡ set one (3 * i + 1) kind → three ≡ set two (3 * i + 2) payload
           → FieldsLeft S n p before three (i + 1) rest
       fields-go-on {v = v} {rest = rest} {three = three} h few room k w kd py x y z =

@@ -1,16 +1,3 @@
-pub mod UndoLaws
-pub mod FormLaws
-pub mod ProposalLaws
-pub mod RowLaws
-pub mod TieLaws
-pub mod MarkLaws
-pub mod ClassLaws
-pub mod ClassedLaws
-pub mod PutLaws
-pub mod PhaseLaws
 pub mod FieldLaws
 pub mod VerbLaws
 pub mod SimpleLaws
-pub mod TestLaws
-pub mod RunLaws
-pub mod CodeClaims

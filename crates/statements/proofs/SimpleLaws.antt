@@ -3,7 +3,7 @@ use mathlib.Core.Path.{_≡_, refl, sym, _∙_}
 use mathlib.Core.Bool.{Bool, true, false, not, cond, _||_}
 use mathlib.Core.List.{List}
 use mathlib.Core.Option.{none, some}
-use Prim.Native.Nat.{ℕ, _≤_, _<_}
+use Prim.Native.Nat.{ℕ, _-_, _≤_, _<_}
 use native.Mathlib.Omega.{arith}
 use lib.Dec.{ltb}
 use lib.IntN.{ℤ}
@@ -14,10 +14,11 @@ use Rattle.words.proofs.AnswerLaws.{either}
 use Rattle.tables.specs.declared.Value.{Value}
 use Rattle.tables.specs.declared.Sort.{Sort}
 use Rattle.tables.specs.declared.Sort.the-variants.{Values, Identities}
+use Rattle.tables.specs.Sizes.{variables, mostFields}
 use Rattle.tables.specs.Cells.{Cells}
-use Rattle.tables.proofs.RecordLaws.{add-same}
 use Rattle.tables.specs.Kept.{mostKept, keptCount, isKept, withPosition}
 use Rattle.program.specs.declared.Piece.{Piece}
+use Rattle.program.specs.Forms.{expressionDepth}
 use Rattle.program.specs.Reading.{number, readPath, after}
 use Rattle.program.specs.Told.{told}
 use Rattle.program.proofs.NumberLaws.{number-fits, number-high}
@@ -30,21 +31,24 @@ use Rattle.rules.specs.Identities.{isNode, sameNow}
 use Rattle.rules.specs.Proposals.{settle}
 use Rattle.rules.specs.Statements.{Left, positionOf, hasRoom, keep, doAssign, fieldWords, doNew, doConstraint, doIdentity}
 use Rattle.rules.proofs.IdentityClauses.{same-now-is}
-use Rattle.rules.proofs.StatementClauses.{room-is, keep-is, assign-is, new-is, constrain-is, identify-is}
+use Rattle.rules.proofs.StatementClauses.{room-is, keep-is, new-is, constrain-is, identify-is}
 use Rattle.expressions.specs.declared.Evaluated.{Evaluated}
 use Rattle.expressions.specs.declared.Evaluated.the-variants.{Got, Fails as Fault-at}
 use Rattle.expressions.specs.Told.{evaluatedOf}
+use Rattle.proposals.specs.declared.Settled.{Settled}
+use Rattle.proposals.specs.declared.Settled.the-variants.{Takes, Refuses}
+use Rattle.proposals.specs.Told.{settledOf, settledCells, Settles}
+use Rattle.proposals.proofs.FormLaws.{unlike}
+use Rattle.phases.specs.declared.Done.the-variants.{Accepted, Refused}
+use Rattle.phases.specs.Told.{Does}
+use Rattle.phases.specs.Classing.{gives, givesNew}
+use Rattle.phases.proofs.PhaseLaws.{stateOf, refuses, assign-by, new-by, new-same}
 use Rattle.statements.specs.declared.Sameness.{Sameness}
 use Rattle.statements.specs.declared.Sameness.the-variants.{Holds, Fails as Unlike}
-use Rattle.statements.specs.declared.Settled.{Settled}
-use Rattle.statements.specs.declared.Settled.the-variants.{Takes, Refuses}
 use Rattle.statements.specs.declared.Fields.{Fields}
 use Rattle.statements.specs.declared.Fields.the-variants.{All, Fails as Unfilled}
-use Rattle.statements.specs.declared.Done.the-variants.{Accepted, Refused}
-use Rattle.statements.specs.Told.{settledOf, settledCells, Settles, samenessOf, Does}
-use Rattle.statements.specs.Classing.{gives, givesNew}
+use Rattle.statements.specs.Told.{samenessOf}
 use Rattle.statements.specs.Filling.{filledOf, Fills}
-use Rattle.statements.proofs.PhaseLaws.{unlike, stateOf, refuses}
 
 -- an expression that is refused ends the whole
 fails-then : {A : Type 0} {r : Evaluated} {n w : ℕ} (m : Res (Value × List ℤ)) (f : Value × List ℤ → Res A) → r ≡ evaluatedOf m → r ≡ Fault-at n w → (m >>= f) ≡ stop (record { number = n; word = w })
@@ -186,17 +190,13 @@ pub path-after : (p : List ℤ) {r : Piece} {q e : List ℤ} → q ≡ drop 1 p 
 path-after p {q = q} a b c = rw (← a) (after-is (readPath q) (after-part (readPath q) (uses-keeps (path-uses q))) b c)
 
 module _ (program p kept ws : List ℤ) (S : Cells) where
-  gives-last : doAssign program p (stateOf S kept) ws ≡ (evaluate 16 S (after (readPath (drop 1 p))) >>= λ x. gives program p (stateOf S kept) ws (x .0))
-  unfolding gives
-  gives-last = assign-is program p (stateOf S kept) ws
-
-  module _ {e : List ℤ} {r : Evaluated} (at : e ≡ after (readPath (drop 1 p))) (h : r ≡ evaluatedOf (evaluate 16 S e)) where
+  module _ {e : List ℤ} {r : Evaluated} (at : e ≡ after (readPath (drop 1 p))) (h : r ≡ evaluatedOf (evaluate expressionDepth S e)) where
     pub assign-fails : {n w : ℕ} → r ≡ Fault-at n w
         → Does (stateOf S kept) (stateOf S kept) (Refused n w) (doAssign program p (stateOf S kept) ws)
-    assign-fails k = refuses (rw (gives-last, ← at) (fails-then (evaluate 16 S e) _ h k))
+    assign-fails k = refuses (rw (assign-by program p kept ws S, ← at) (fails-then (evaluate expressionDepth S e) _ h k))
 
     pub assign-gives : {v : Value} {left : ℕ} → r ≡ Got v left → gives program p (stateOf S kept) ws v ≡ doAssign program p (stateOf S kept) ws
-    assign-gives k = rw (gives-last, ← at) (by (evaluate 16 S e) (sym h ∙ k))
+    assign-gives k = rw (assign-by program p kept ws S, ← at) (by (evaluate expressionDepth S e) (sym h ∙ k))
       where
         by : {v : Value} {left : ℕ} (m : Res (Value × List ℤ)) → evaluatedOf m ≡ Got v left
             → gives program p (stateOf S kept) ws v ≡ (m >>= λ x. gives program p (stateOf S kept) ws (x .0))
@@ -206,27 +206,22 @@ module _ (program p kept ws : List ℤ) (S : Cells) where
 -- ---- new
 
 module _ (program p kept ws : List ℤ) (S : Cells) {q : List ℤ} {x : ℕ} (first : q ≡ drop 1 p) (named : x ≡ numberAt q 0) where
-  new-last : doNew program p (stateOf S kept) ws
-      ≡ (reads (number 0 63 q) >>= λ y. reads (number 0 8 (y .1)) >>= λ z. fieldWords (z .0) S (z .1) >>= λ fs. givesNew program p (stateOf S kept) ws (y .0) fs (z .0))
-  unfolding givesNew
-  new-last = rw first (new-is program p (stateOf S kept) ws)
-
-  pub new-variable : 64 ≤ x
+  pub new-variable : variables ≤ x
       → Does (stateOf S kept) (stateOf S kept) (Refused 2 (length q)) (doNew program p (stateOf S kept) ws)
-  new-variable h = refuses (rw (new-last, number-high 0 63 q (omega arith) (omega arith)))
+  new-variable h = refuses (rw (new-is program p (stateOf S kept) ws, ← first, number-high 0 (variables - 1) q (omega arith) (omega arith)))
 
-  module _ (variable : x < 64) {r : List ℤ} {n : ℕ} (second : r ≡ drop 1 q) (count : n ≡ numberAt r 0) where
+  module _ (variable : x < variables) {r : List ℤ} {n : ℕ} (second : r ≡ drop 1 q) (count : n ≡ numberAt r 0) where
     new-on : doNew program p (stateOf S kept) ws
-        ≡ (reads (number 0 8 r) >>= λ z. fieldWords (z .0) S (z .1) >>= λ fs. givesNew program p (stateOf S kept) ws x fs (z .0))
-    new-on = rw (new-last, number-fits 0 63 q (omega arith) (omega arith), ← second, ← named)
+        ≡ (reads (number 0 mostFields r) >>= λ z. fieldWords (z .0) S (z .1) >>= λ fs. givesNew program p (stateOf S kept) ws x fs (z .0))
+    new-on = rw (new-by program p kept ws S first named variable, ← second)
 
-    pub new-many : 8 < n
+    pub new-many : mostFields < n
         → Does (stateOf S kept) (stateOf S kept) (Refused 2 (length r)) (doNew program p (stateOf S kept) ws)
-    new-many h = refuses (rw (new-on, number-high 0 8 r (omega arith) (omega arith)))
+    new-many h = refuses (rw (new-on, number-high 0 mostFields r (omega arith) (omega arith)))
 
-    module _ (few : n ≤ 8) {t fields : List ℤ} {a : Fields} (third : t ≡ drop 1 r) (f : Fills fields n a (fieldWords n S t)) where
+    module _ (few : n ≤ mostFields) {t fields : List ℤ} {a : Fields} (third : t ≡ drop 1 r) (f : Fills fields n a (fieldWords n S t)) where
       new-fields : doNew program p (stateOf S kept) ws ≡ (fieldWords n S t >>= λ fs. givesNew program p (stateOf S kept) ws x fs n)
-      new-fields = rw (new-on, number-fits 0 8 r (omega arith) (omega arith), ← third, ← count)
+      new-fields = rw (new-on, number-fits 0 mostFields r (omega arith) (omega arith), ← third, ← count)
 
       pub new-fails : {j w : ℕ} → a ≡ Unfilled j w
           → Does (stateOf S kept) (stateOf S kept) (Refused j w) (doNew program p (stateOf S kept) ws)
@@ -240,8 +235,7 @@ module _ (program p kept ws : List ℤ) (S : Cells) {q : List ℤ} {x : ℕ} (fi
               rw (← c, ← d)
 
       pub new-gives : a ≡ All → givesNew program p (stateOf S kept) ws x fields n ≡ doNew program p (stateOf S kept) ws
-      unfolding givesNew
       new-gives h =
           either (fieldWords n S t)
-          (λ fs e. rw (new-fields, e, add-same (S .heap) fields fs n (f .same fs e)))
+          (λ fs e. new-same program p kept ws S x fields fs n (f .same fs e) ∙ rw (new-fields, e))
           (λ g e. unlike (let y : All ≡ Unfilled (g .number) (g .word) = sym h ∙ f .is ∙ rw e in cc))

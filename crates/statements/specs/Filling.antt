@@ -5,9 +5,14 @@ use mathlib.Core.List.{List}
 use lib.IntN.{ℤ}
 use Rattle.words.specs.Words.{wordAt}
 use Rattle.words.specs.Answer.{got, stop}
+use Rattle.tables.specs.Sizes.{mostFields}
 use Rattle.rules.specs.State.{Res}
 use Rattle.statements.specs.declared.Fields.{Fields}
 use Rattle.statements.specs.declared.Fields.the-variants.{All, Fails}
+
+-- label, kind and payload of each field
+abbrev pub fieldsWords : ℕ
+fieldsWords = 3 * mostFields
 
 abbrev pub filledOf : Res (List ℤ) → Fields
 filledOf (got fs) = All

@@ -1,7 +1,7 @@
 // L == L, tested now.
-use super::classes::is_node;
 use crate::Sameness;
 use expressions::Evaluated;
+use phases::classes::is_node;
 ghost use mathlib.Core.Path.{_≡_};
 ghost use lib.ListN.{drop};
 ghost use Rattle.tables.specs.Cells.{cells};

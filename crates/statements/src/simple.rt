@@ -1,24 +1,26 @@
 // Each statement that holds no block, by itself.
 use super::identities::same_now;
-use super::phases::give;
-use super::phases::give_new;
-use super::proposals::settle;
-use crate::Asked;
-use crate::Done;
+use crate::FIELDS_WORDS;
 use crate::Fields;
 use crate::Sameness;
-use crate::Settled;
 use expressions::Evaluated;
+use phases::Done;
+use phases::giving::give;
+use phases::giving::give_new;
+use proposals::Asked;
+use proposals::Settled;
+use proposals::settling::settle;
 use tables::Sort;
 ghost use mathlib.Core.Path.{_≡_};
 ghost use Prim.Native.Nat.{_≤_};
 ghost use lib.ListN.{length, drop};
 ghost use Rattle.words.specs.Words.{numberAt};
+ghost use Rattle.tables.specs.Sizes.{mostFields};
 ghost use Rattle.tables.specs.Cells.{cells};
 ghost use Rattle.program.specs.Forms.{verbOf};
 ghost use Rattle.rules.specs.Statements.{hasRoom, keep, doAssign, fieldWords, doNew, doConstraint, doIdentity, doSimple};
-ghost use Rattle.statements.specs.Told.{tables, Does};
-ghost use Rattle.statements.specs.Filling.{Fills};
+ghost use Rattle.phases.specs.Told.{tables, Does};
+ghost use Rattle.statements.specs.Filling.{fieldsWords, Fills};
 
 // The assignment at p: its expression, and then its target.
 fn assign(
@@ -42,8 +44,8 @@ fn assign(
 
 // n times label and e, at p: the label, kind and payload of each field.
 fn field_words(environment: &[i32], heap: &[i32], p: &[i32], n: usize, fields: &mut [i32]) -> Fields
-    requires { ⌜ n ≤ 8 ⌝ }
-    requires { ⌜ 24 ≤ length (now fields) ⌝ }
+    requires { ⌜ n ≤ mostFields ⌝ }
+    requires { ⌜ fieldsWords ≤ length (now fields) ⌝ }
     ensures { λ r. ⌜ Fills (now (fields .exit)) n r (fieldWords n (cells (now (environment .entry)) (now (heap .entry))) (now (p .entry))) ⌝ }
 {
     let mut left = p.len();
@@ -92,7 +94,7 @@ fn make_new(
     if tables::FIELDS < n {
         return Done::Refused(2, r.len());
     }
-    let mut fields: [i32; 24] = [0; 24];
+    let mut fields = [0i32; FIELDS_WORDS];
     match field_words(environment, heap, words::part_from(r, 1), n, &mut fields) {
         Fields::Fails(number, word) => Done::Refused(number, word),
         Fields::All => give_new(

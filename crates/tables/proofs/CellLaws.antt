@@ -13,9 +13,8 @@ use lib.Seq.{getD-set-same, getD-set-other, set-getD, set-set, set-comm}
 use Rattle.words.specs.Words.{wordAt, numberAt, numberOf}
 use Rattle.tables.specs.Sizes.{fieldLocation, fieldWord, countWord, labelWord}
 use Rattle.tables.specs.Values.{absent}
-use Rattle.tables.specs.Cells.{Cells, cells, pairAt, putPair, locationWord, cellAt, putCell}
-use Rattle.tables.specs.Records.{recordCount, fieldCount, labelAt, placeWith, fieldWith}
-use Rattle.tables.specs.Fit.{Sized}
+use Rattle.tables.specs.Cells.{Cells, cells, Sized, pairAt, putPair, locationWord, cellAt, putCell}
+use Rattle.tables.specs.Records.{recordCount, countAt, fieldCount, labelAt, fieldAt, placeWith, fieldWith}
 use Rattle.tables.specs.declared.Cell.{Cell}
 use Rattle.tables.proofs.WordLaws.{number-same}
 use Rattle.tables.proofs.SearchLaws.{cases, first-same, and-right}
@@ -38,6 +37,7 @@ pub record Clear (i j : ℕ) : Type 0 where
   pub before : i ≡ j + 1 → ⊥
 
 pub fields-clear : (r q f g : ℕ) → f < 8 → g < 8 → (fieldLocation q g ≡ fieldLocation r f → ⊥) → Clear (fieldWord r f) (fieldWord q g)
+unfolding fieldWord fieldLocation
 fields-clear r q f g a b n = record {
   starts = λ e. let k = apart-words q r (3 * g + 2) (3 * f + 2) (omega arith) (omega arith) (omega arith) in n (omega arith);
   after = λ e. let k = apart-words q r (3 * g + 2) (3 * f + 3) (omega arith) (omega arith) (omega arith) in omega arith;
@@ -97,8 +97,41 @@ pub record AsField (l : ℕ) : Type 0 where
   pub row-small : row < 64
   pub place-small : place < 8
 
+-- the location of a field place is none of a variable, is one of 576, and is that of one place of one record
+pub location-high : (r f : ℕ) → 64 ≤ fieldLocation r f
+unfolding fieldLocation
+location-high r f = omega arith
+
+pub location-low : (r f : ℕ) → r < 64 → f < 8 → fieldLocation r f < 576
+unfolding fieldLocation
+location-low r f a b = omega arith
+
+pub same-place : (r q f g : ℕ) → f < 8 → g < 8 → fieldLocation r f ≡ fieldLocation q g → (r ≡ q) × (f ≡ g)
+unfolding fieldLocation
+same-place r q f g a b e = go (decLt r q) (decLt q r)
+  where
+    go : Dec (r < q) → Dec (q < r) → (r ≡ q) × (f ≡ g)
+    go (yes h) d = let z : ⊥ = omega arith in absurd z
+    go (no h) (yes k) = let z : ⊥ = omega arith in absurd z
+    go (no h) (no k) = let w : r ≡ q = omega arith in (w, omega arith)
+
+-- a location is that of one of the first n field places of record r, or of none of them
+pub data Among (r n l : ℕ) : Type 0 where
+  the-place : (f : ℕ) → f < n → l ≡ fieldLocation r f → Among r n l
+  no-place : ((f : ℕ) → f < n → l ≡ fieldLocation r f → ⊥) → Among r n l
+
+pub among : (r n l : ℕ) → Among r n l
+unfolding fieldLocation
+among r n l = go (decLt l (fieldLocation r 0)) (decLt l (fieldLocation r n))
+  where
+    go : Dec (l < fieldLocation r 0) → Dec (l < fieldLocation r n) → Among r n l
+    go (yes a) d = no-place (λ f i e. omega arith)
+    go (no a) (no b) = no-place (λ f i e. omega arith)
+    go (no a) (yes b) = the-place (l - fieldLocation r 0) (omega arith) (omega arith)
+
 -- a location from 64 to 575 is a field place's
 pub location-split : (l : ℕ) → 64 ≤ l → l < 576 → AsField l
+unfolding fieldLocation
 location-split l a b = record { row = (l - 64) / 8; place = (l - 64) % 8; is = omega arith; row-small = omega arith; place-small = omega arith }
 
 pub located : (l : ℕ) → Located l
@@ -110,10 +143,15 @@ located l = go (decLt l 64) (decLt l 576)
     go (no h) (no k) = let m : 576 ≤ l = omega arith in nowhere m
 
 pub location-word : (r f : ℕ) → f < 8 → locationWord (fieldLocation r f) ≡ fieldWord r f
+unfolding locationWord fieldLocation
 location-word r f h =
     let a : (64 + 8 * r + f - 64) / 8 ≡ r = omega arith in
     let b : (64 + 8 * r + f - 64) % 8 ≡ f = omega arith in
     rw (a, b)
+
+pub location-small : (l : ℕ) → l < 576 → locationWord l < 4096
+unfolding locationWord fieldWord
+location-small l h = omega arith
 
 -- ---- reading and putting, by the kind of location
 
@@ -124,7 +162,11 @@ module _ (S : Cells) where
 
   pub field-cell : (r f : ℕ) → r < 64 → f < 8 → cellAt S (fieldLocation r f) ≡ pairAt (S .heap) (fieldWord r f)
   unfolding cellAt
-  field-cell r f a b = rw (le-ltb (fieldLocation r f) 64 (omega arith), lt-ltb (fieldLocation r f) 576 (omega arith), location-word r f b)
+  field-cell r f a b = rw (le-ltb (fieldLocation r f) 64 (location-high r f), lt-ltb (fieldLocation r f) 576 (location-low r f a b), location-word r f b)
+
+  pub field-at : (r f : ℕ) → r < 64 → f < 8 → cellAt S (fieldLocation r f) ≡ fieldAt (S .heap) r f
+  unfolding fieldAt
+  field-at r f a b = rw (lt-ltb r 64 a, lt-ltb f 8 b) (field-cell r f a b)
 
   pub no-cell : (l : ℕ) → 576 ≤ l → cellAt S l ≡ absent
   unfolding cellAt
@@ -136,7 +178,7 @@ module _ (S : Cells) where
 
   pub put-field : (r f : ℕ) (c : Cell) → r < 64 → f < 8 → putCell S (fieldLocation r f) c ≡ cells (S .environment) (putPair (S .heap) (fieldWord r f) c)
   unfolding putCell
-  put-field r f c a b = rw (le-ltb (fieldLocation r f) 64 (omega arith), lt-ltb (fieldLocation r f) 576 (omega arith), location-word r f b)
+  put-field r f c a b = rw (le-ltb (fieldLocation r f) 64 (location-high r f), lt-ltb (fieldLocation r f) 576 (location-low r f a b), location-word r f b)
 
   pub put-nowhere : (l : ℕ) (c : Cell) → 576 ≤ l → putCell S l c ≡ S
   unfolding putCell
@@ -145,6 +187,7 @@ module _ (S : Cells) where
 -- ---- what is put is read back, and the rest stays
 
 pub read-same : (S : Cells) (l : ℕ) (c : Cell) → Sized S → l < 576 → cellAt (putCell S l c) l ≡ c
+unfolding fieldWord
 read-same S l c s h = go l (located l) h
   where
     go : (k : ℕ) → Located k → k < 576 → cellAt (putCell S k c) k ≡ c
@@ -244,12 +287,14 @@ abbrev pub NoCell : ℕ → Type 0
 NoCell k = (r f : ℕ) → f < 8 → (k ≡ fieldWord r f → ⊥) × (k ≡ fieldWord r f + 1 → ⊥)
 
 pub count-no-cell : (q : ℕ) → NoCell (countWord q)
+unfolding countWord fieldWord
 count-no-cell q r f h = (
   λ e. let k = apart-words q r 0 (3 * f + 2) (omega arith) (omega arith) (omega arith) in omega arith,
   λ e. let k = apart-words q r 0 (3 * f + 3) (omega arith) (omega arith) (omega arith) in omega arith,
 )
 
 pub label-no-cell : (q g : ℕ) → g < 8 → NoCell (labelWord q g)
+unfolding labelWord fieldWord
 label-no-cell q g l r f h = (
   λ e. let k = apart-words q r (3 * g + 1) (3 * f + 2) (omega arith) (omega arith) (omega arith) in omega arith,
   λ e. let k = apart-words q r (3 * g + 1) (3 * f + 3) (omega arith) (omega arith) (omega arith) in omega arith,
@@ -279,15 +324,20 @@ module _ (S : Cells) (l : ℕ) (c : Cell) where
   put-number k n = number-same (putCell S l c .heap) (S .heap) k (put-lengths .1) (put-word k (pos 0) n)
 
   pub put-count-word : wordAt (putCell S l c .heap) 0 ≡ wordAt (S .heap) 0
+  unfolding fieldWord
   put-count-word = put-word 0 (pos 0) (λ r f h. (λ e. omega arith, λ e. omega arith))
 
   pub put-records : recordCount (putCell S l c .heap) ≡ recordCount (S .heap)
-  unfolding recordCount
+  unfolding recordCount fieldWord
   put-records = put-number 0 (λ r f h. (λ e. omega arith, λ e. omega arith))
+
+  pub put-count : (r : ℕ) → countAt (putCell S l c .heap) r ≡ countAt (S .heap) r
+  unfolding countAt
+  put-count r = rw (put-number (countWord r) (count-no-cell r))
 
   pub put-fields : (r : ℕ) → fieldCount (putCell S l c .heap) r ≡ fieldCount (S .heap) r
   unfolding fieldCount
-  put-fields r = rw (put-number (countWord r) (count-no-cell r))
+  put-fields r = rw (put-count r)
 
   pub put-label : (r f : ℕ) → labelAt (putCell S l c .heap) r f ≡ labelAt (S .heap) r f
   unfolding labelAt

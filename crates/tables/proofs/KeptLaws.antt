@@ -10,13 +10,14 @@ use lib.IntN.{ℤ, pos}
 use lib.ListN.{length, set, length-set}
 use lib.Seq.{getD-set-same, getD-set-other, set-getD, set-set, set-comm}
 use Rattle.words.specs.Words.{wordAt, numberAt, numberOf, wordOf}
-use Rattle.words.proofs.Laws.{number-word}
+use Rattle.words.proofs.Laws.{number-word, eqZ-true}
+use Rattle.tables.specs.Sizes.{constraintsWords}
 use Rattle.tables.specs.Search.{first}
-use Rattle.tables.specs.Kept.{keptWord, mostKept, firstKept, keptCount, positionAt, isKept, withPosition, withoutPosition}
+use Rattle.tables.specs.Kept.{keptWord, mostKept, firstKept, keptNumber, keptCount, positionAt, blankPosition, isKept, withPosition, withoutPosition}
 use Rattle.tables.specs.declared.Sort.{Sort}
 use Rattle.tables.specs.declared.Sort.the-variants.{Values, Identities}
 use Rattle.tables.proofs.SearchLaws.{cases, first-passes, first-before}
-use Rattle.tables.proofs.WordLaws.{number-of, number-same}
+use Rattle.tables.proofs.WordLaws.{number-of, word-of, number-same}
 
 -- the sizes of both sorts
 pub most-small : (s : Sort) → mostKept s ≤ 64
@@ -24,25 +25,34 @@ most-small Values = omega arith
 most-small Identities = omega arith
 
 pub first-small : (s : Sort) → firstKept s ≤ 66
+unfolding firstKept
 first-small Values = omega arith
 first-small Identities = omega arith
 
 pub sort-words : (s : Sort) → (keptWord s < 2) × ((2 ≤ firstKept s) × (firstKept s + mostKept s ≤ 98))
+unfolding keptWord firstKept
 sort-words Values = (omega arith, (omega arith, omega arith))
 sort-words Identities = (omega arith, (omega arith, omega arith))
 
 -- two sorts have no word in common
 pub counts-apart : (t s : Sort) → (t ≡ s → ⊥) → keptWord t ≡ keptWord s → ⊥
+unfolding keptWord
 counts-apart Values Values n e = n refl
 counts-apart Values Identities n e = omega arith
 counts-apart Identities Values n e = omega arith
 counts-apart Identities Identities n e = n refl
 
 pub rooms-apart : (t s : Sort) → (t ≡ s → ⊥) → (i j : ℕ) → i < mostKept t → j < mostKept s → firstKept t + i ≡ firstKept s + j → ⊥
+unfolding firstKept
 rooms-apart Values Values n i j a b e = n refl
 rooms-apart Values Identities n i j a b e = omega arith
 rooms-apart Identities Values n i j a b e = omega arith
 rooms-apart Identities Identities n i j a b e = n refl
+
+-- a count that is in its range
+pub kept-are : (c : List ℤ) (s : Sort) → keptNumber c s ≤ mostKept s → keptCount c s ≡ keptNumber c s
+unfolding keptCount
+kept-are c s h = rw (le-leb (keptNumber c s) (mostKept s) h)
 
 -- ---- a position more
 
@@ -66,9 +76,22 @@ module _ (c : List ℤ) (s : Sort) (p : ℕ) where
   pub keep-number : (k : ℕ) → (k ≡ keptWord s → ⊥) → (keptCount c s < mostKept s → k ≡ firstKept s + keptCount c s → ⊥) → numberAt (withPosition c s p) k ≡ numberAt c k
   keep-number k a b = number-same (withPosition c s p) c k keep-length (keep-word k a b)
 
+  pub keep-number-other : (t : Sort) → (t ≡ s → ⊥) → keptNumber (withPosition c s p) t ≡ keptNumber c t
+  unfolding keptNumber
+  keep-number-other t n = keep-number (keptWord t) (counts-apart t s n) (λ h e. omega (arith, sort-words t .0, sort-words s .1 .0))
+
   pub keep-count-other : (t : Sort) → (t ≡ s → ⊥) → keptCount (withPosition c s p) t ≡ keptCount c t
   unfolding keptCount
-  keep-count-other t n = rw (keep-number (keptWord t) (counts-apart t s n) (λ h e. omega (arith, sort-words t .0, sort-words s .1 .0)))
+  keep-count-other t n = rw (keep-number-other t n)
+
+  -- the words for positions after those that are kept, and those of the other sort
+  pub keep-blank : (i : ℕ) → keptCount c s < i → blankPosition (withPosition c s p) s i ≡ blankPosition c s i
+  unfolding blankPosition
+  keep-blank i l = rw (keep-word (firstKept s + i) (λ q. omega (arith, sort-words s .0, sort-words s .1 .0)) (λ h q. omega arith))
+
+  pub keep-blank-other : (t : Sort) (i : ℕ) → (t ≡ s → ⊥) → i < mostKept t → blankPosition (withPosition c s p) t i ≡ blankPosition c t i
+  unfolding blankPosition
+  keep-blank-other t i n l = rw (keep-word (firstKept t + i) (λ e. omega (arith, sort-words s .0, sort-words t .1 .0)) (λ h e. rooms-apart t s n i (keptCount c s) l h e))
 
   pub keep-old : (i : ℕ) → i < keptCount c s → positionAt (withPosition c s p) s i ≡ positionAt c s i
   unfolding positionAt
@@ -82,7 +105,7 @@ module _ (c : List ℤ) (s : Sort) (p : ℕ) where
 
   -- ---- where there is room for it
 
-  module _ (long : length c ≡ 98) (room : keptCount c s < mostKept s) where
+  module _ (long : length c ≡ constraintsWords) (room : keptCount c s < mostKept s) where
     kept-more : withPosition c s p ≡ set (set c (firstKept s + keptCount c s) (wordOf p)) (keptWord s) (pos (keptCount c s + 1))
     unfolding withPosition
     kept-more = rw (lt-ltb (keptCount c s) (mostKept s) room)
@@ -99,9 +122,13 @@ module _ (c : List ℤ) (s : Sort) (p : ℕ) where
     number-of-word : (k : ℕ) (z : ℤ) → k < 98 → wordAt (withPosition c s p) k ≡ z → numberAt (withPosition c s p) k ≡ numberOf z
     number-of-word k z l e = number-of (withPosition c s p) k z (rw keep-length (omega arith)) e
 
+    pub keep-written : keptNumber (withPosition c s p) s ≡ keptCount c s + 1
+    unfolding keptNumber
+    keep-written = number-of-word (keptWord s) (pos (keptCount c s + 1)) (omega (arith, sort-words s .0)) keep-count-word
+
     pub keep-count : keptCount (withPosition c s p) s ≡ keptCount c s + 1
     unfolding keptCount
-    keep-count = rw (number-of-word (keptWord s) (pos (keptCount c s + 1)) (omega (arith, sort-words s .0)) keep-count-word, le-leb (keptCount c s + 1) (mostKept s) (omega arith))
+    keep-count = rw (keep-written, le-leb (keptCount c s + 1) (mostKept s) (omega arith))
 
     pub keep-new : p < 2147483648 → positionAt (withPosition c s p) s (keptCount c s) ≡ p
     unfolding positionAt
@@ -110,9 +137,11 @@ module _ (c : List ℤ) (s : Sort) (p : ℕ) where
         (number-of-word (firstKept s + keptCount c s) (wordOf p) (omega (arith, sort-words s .1 .1)) keep-new-word ∙ number-word p h)
 
     -- and a position less: the table as it was
-    pub keep-unkeep : wordAt c (firstKept s + keptCount c s) ≡ pos 0 → wordAt c (keptWord s) ≡ pos (keptCount c s) → withoutPosition (withPosition c s p) s ≡ c
-    unfolding withoutPosition
-    keep-unkeep a b =
+    pub keep-unkeep : blankPosition c s (keptCount c s) ≡ true → keptNumber c s ≡ keptCount c s → withoutPosition (withPosition c s p) s ≡ c
+    unfolding withoutPosition blankPosition keptNumber
+    keep-unkeep blank written =
+        let a : wordAt c (firstKept s + keptCount c s) ≡ pos 0 = eqZ-true (wordAt c (firstKept s + keptCount c s)) (pos 0) blank in
+        let b : wordAt c (keptWord s) ≡ pos (keptCount c s) = word-of c (keptWord s) (keptCount c s) (omega (arith, sort-words s .0)) written (omega (arith, room, most-small s)) in
         let k = keptCount c s in
         let e : k + 1 - 1 ≡ k = omega arith in
         let n : keptWord s ≡ firstKept s + k → ⊥ = λ q. omega (arith, sort-words s .0, sort-words s .1 .0) in
@@ -132,6 +161,17 @@ module _ (c : List ℤ) (s : Sort) (p : ℕ) where
 pub unkeep-length : (c : List ℤ) (s : Sort) → length (withoutPosition c s) ≡ length c
 unfolding withoutPosition
 unkeep-length c s = cases (ltb 0 (keptCount c s)) (λ e. rw e (simp length-set)) (λ e. rw e)
+
+-- ---- constraints that are all zero
+
+module _ (c : List ℤ) (s : Sort) (zero : (k : ℕ) → wordAt c k ≡ pos 0) where
+  pub zero-kept : length c ≡ constraintsWords → keptNumber c s ≡ 0
+  unfolding keptNumber
+  zero-kept long = number-of c (keptWord s) (pos 0) (omega (arith, sort-words s .0)) (zero (keptWord s))
+
+  pub zero-position : (i : ℕ) → blankPosition c s i ≡ true
+  unfolding blankPosition
+  zero-position i = rw (zero (firstKept s + i))
 
 -- ---- which positions are kept
 

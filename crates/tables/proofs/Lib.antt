@@ -7,6 +7,4 @@ pub mod WordLaws
 pub mod CellLaws
 pub mod RecordLaws
 pub mod ClearLaws
-pub mod FitLaws
-pub mod FitChanges
-pub mod StartLaws
+pub mod SameLaws

@@ -1,8 +1,8 @@
 -- Laws of a record more and a record less. Assumes nothing.
-use mathlib.Core.Path.{_≡_, refl, sym, _∙_}
+use mathlib.Core.Path.{_≡_, refl, sym, ap, _∙_}
 use mathlib.Core.Bool.{true, _&&_}
 use mathlib.Core.List.{List, []}
-use Prim.Native.Nat.{ℕ, _+_, _-_, _*_, _≤_, _<_}
+use Prim.Native.Nat.{ℕ, suc, _+_, _-_, _*_, _≤_, _<_}
 use native.Mathlib.Omega.{arith}
 use native.Mathlib.Decide.{decLt, ℕ-discrete}
 use borrow.Author.Tests.{lt-ltb, le-ltb, le-leb, ltb-true, leb-true}
@@ -12,11 +12,11 @@ use lib.ListN.{length, set, drop, length-set}
 use lib.Seq.{getD-set-same, getD-set-other, getD-drop, ext-getD}
 use Rattle.words.specs.Words.{wordAt, numberAt, numberOf, copied, cleared, eqZ}
 use Rattle.words.proofs.Laws.{length-copied, copied-in, copied-out, eqZ-true, number-in}
-use Rattle.tables.specs.Sizes.{fieldLocation, fieldWord, countWord, labelWord}
-use Rattle.tables.specs.Cells.{cells, pairAt, cellAt}
-use Rattle.tables.specs.Records.{recordCount, fieldCount, labelAt, withRecord, withoutRecord, laidBy, broughtBack}
-use Rattle.tables.specs.Fit.{zeros}
-use Rattle.tables.proofs.SearchLaws.{cases, and-right, every-at, every-all}
+use Rattle.tables.specs.Sizes.{heapWords, savedWords, fieldLocation, fieldWord, countWord, labelWord}
+use Rattle.tables.specs.Cells.{cells, pairAt, cellAt, zeros}
+use Rattle.tables.specs.declared.Cell.{Cell}
+use Rattle.tables.specs.Records.{recordCount, countAt, fieldCount, labelAt, blankPlace, blankRecord, newLabel, newCell, fieldThen, withRecord, withoutRecord, laidBy, broughtBack}
+use Rattle.tables.proofs.SearchLaws.{cases, and-right, every-at, every-all, every-same}
 use Rattle.tables.proofs.WordLaws.{word-of, number-of, number-same}
 use Rattle.tables.proofs.CellLaws.{Located, a-variable, a-field, nowhere, located, variable-cell, field-cell, no-cell}
 
@@ -30,9 +30,35 @@ pub zeros-all : (s : List ℤ) (at n : ℕ) → ((i : ℕ) → i < n → wordAt 
 unfolding zeros
 zeros-all s at n f = every-all (λ j. eqZ (wordAt s (at + j)) (pos 0)) n (λ i h. rw (f i h))
 
-pub count-word : (h : List ℤ) → length h ≡ 1601 → recordCount h < 2147483648 → wordAt h 0 ≡ pos (recordCount h)
+pub zeros-same : (s t : List ℤ) (at n : ℕ) → ((i : ℕ) → i < n → wordAt s (at + i) ≡ wordAt t (at + i)) → zeros s at n ≡ zeros t at n
+unfolding zeros
+zeros-same s t at n f = every-same (λ j. eqZ (wordAt s (at + j)) (pos 0)) (λ j. eqZ (wordAt t (at + j)) (pos 0)) n (λ i h. rw (f i h))
+
+pub count-word : (h : List ℤ) → length h ≡ heapWords → recordCount h < 2147483648 → wordAt h 0 ≡ pos (recordCount h)
 unfolding recordCount
 count-word h l b = word-of h 0 (numberAt h 0) (omega arith) refl b
+
+-- ---- the fields of a new record, one by one
+
+module _ (label : ℤ) (c : Cell) (fs : List ℤ) where
+  pub first-label : newLabel (fieldThen label c fs) 0 ≡ label
+  unfolding newLabel
+  first-label = refl
+
+  pub first-cell : newCell (fieldThen label c fs) 0 ≡ c
+  unfolding newCell
+  first-cell = refl
+
+  pub next-label : (f : ℕ) → newLabel (fieldThen label c fs) (suc f) ≡ newLabel fs f
+  unfolding newLabel
+  next-label f = let e : 3 * suc f ≡ suc (suc (suc (3 * f))) = omega arith in rw e
+
+  pub next-cell : (f : ℕ) → newCell (fieldThen label c fs) (suc f) ≡ newCell fs f
+  unfolding newCell
+  next-cell f =
+      let e : 3 * suc f + 1 ≡ suc (suc (suc (3 * f + 1))) = omega arith in
+      let u : suc (suc (suc (3 * f + 1))) + 1 ≡ suc (suc (suc (3 * f + 1 + 1))) = omega arith in
+      rw (e, u)
 
 -- ---- lengths, and a full heap
 
@@ -50,7 +76,7 @@ full h fs n l = rw (le-ltb (recordCount h) 64 l)
 
 -- ---- a record more
 
-module _ (h fs : List ℤ) (n : ℕ) (long : length h ≡ 1601) (room : recordCount h < 64) (few : n ≤ 8) where
+module _ (h fs : List ℤ) (n : ℕ) (long : length h ≡ heapWords) (room : recordCount h < 64) (few : n ≤ 8) where
   -- the heap with the fields, and then with the field count
   abbrev filled : List ℤ
   filled = copied fs (countWord (recordCount h) + 1) (3 * n) h
@@ -68,6 +94,7 @@ module _ (h fs : List ℤ) (n : ℕ) (long : length h ≡ 1601) (room : recordCo
       (simp (length-set, length-copied) (omega arith)))
 
   pub add-fields-word : wordAt (withRecord h fs n) (countWord (recordCount h)) ≡ pos n
+  unfolding countWord labelWord fieldWord
   add-fields-word = rw added-is
       (getD-set-other counted 0 (countWord (recordCount h)) (pos (recordCount h + 1)) (pos 0) (λ e. omega arith)
       ∙ getD-set-same filled (countWord (recordCount h)) (pos n) (pos 0) (simp length-copied (omega arith)))
@@ -78,6 +105,7 @@ module _ (h fs : List ℤ) (n : ℕ) (long : length h ≡ 1601) (room : recordCo
       ∙ getD-set-other filled (countWord (recordCount h)) k (pos n) (pos 0) b)
 
   pub add-word : (i k : ℕ) → i < 3 * n → k ≡ countWord (recordCount h) + 1 + i → wordAt (withRecord h fs n) k ≡ wordAt fs i
+  unfolding countWord labelWord fieldWord
   add-word i k l e = rw e (rest-word (countWord (recordCount h) + 1 + i) (λ q. omega arith) (λ q. omega arith) ∙ copied-in fs (countWord (recordCount h) + 1) (3 * n) h i l (omega arith))
 
   pub add-word-other : (k : ℕ) → (k ≡ 0 → ⊥) → (k ≡ countWord (recordCount h) → ⊥) → (countWord (recordCount h) + 1 ≤ k → countWord (recordCount h) + 1 + 3 * n ≤ k) → wordAt (withRecord h fs n) k ≡ wordAt h k
@@ -85,6 +113,7 @@ module _ (h fs : List ℤ) (n : ℕ) (long : length h ≡ 1601) (room : recordCo
 
   -- a word of another record
   pub add-record-other : (q o k : ℕ) → (q ≡ recordCount h → ⊥) → o < 25 → k ≡ 25 * q + 1 + o → wordAt (withRecord h fs n) k ≡ wordAt h k
+  unfolding countWord labelWord fieldWord
   add-record-other q o k d l e = go (decLt q (recordCount h))
     where
       go : Dec (q < recordCount h) → wordAt (withRecord h fs n) k ≡ wordAt h k
@@ -98,28 +127,59 @@ module _ (h fs : List ℤ) (n : ℕ) (long : length h ≡ 1601) (room : recordCo
   unfolding recordCount
   add-records = number-of-word 0 (pos (recordCount h + 1)) (omega arith) add-count-word
 
+  pub add-count : countAt (withRecord h fs n) (recordCount h) ≡ n
+  unfolding countAt countWord
+  add-count = rw (lt-ltb (recordCount h) 64 room) (number-of-word (countWord (recordCount h)) (pos n) (omega arith) add-fields-word)
+
+  pub add-count-other : (q : ℕ) → (q ≡ recordCount h → ⊥) → countAt (withRecord h fs n) q ≡ countAt h q
+  unfolding countAt countWord
+  add-count-other q d = rw (number-same (withRecord h fs n) h (countWord q) (add-length h fs n) (add-record-other q 0 (countWord q) d (omega arith) (omega arith)))
+
   pub add-fields : fieldCount (withRecord h fs n) (recordCount h) ≡ n
   unfolding fieldCount
-  add-fields = rw (lt-ltb (recordCount h) 64 room, number-of-word (countWord (recordCount h)) (pos n) (omega arith) add-fields-word, le-leb n 8 few)
+  add-fields = rw (add-count, le-leb n 8 few)
 
   pub add-fields-other : (q : ℕ) → (q ≡ recordCount h → ⊥) → fieldCount (withRecord h fs n) q ≡ fieldCount h q
   unfolding fieldCount
-  add-fields-other q d = rw (number-same (withRecord h fs n) h (countWord q) (add-length h fs n) (add-record-other q 0 (countWord q) d (omega arith) (omega arith)))
+  add-fields-other q d = rw (add-count-other q d)
 
-  pub add-label : (f : ℕ) → f < n → labelAt (withRecord h fs n) (recordCount h) f ≡ numberOf (wordAt fs (3 * f))
-  unfolding labelAt
+  pub add-label : (f : ℕ) → f < n → labelAt (withRecord h fs n) (recordCount h) f ≡ numberOf (newLabel fs f)
+  unfolding labelAt countWord labelWord fieldWord newLabel
   add-label f l =
       rw (lt-ltb (recordCount h) 64 room, lt-ltb f 8 (omega arith))
       (number-of-word (labelWord (recordCount h) f) (wordAt fs (3 * f)) (omega arith) (add-word (3 * f) (labelWord (recordCount h) f) (omega arith) (omega arith)))
 
   pub add-label-other : (q f : ℕ) → (q ≡ recordCount h → ⊥) → labelAt (withRecord h fs n) q f ≡ labelAt h q f
-  unfolding labelAt
+  unfolding labelAt countWord labelWord fieldWord
   add-label-other q f d = cases (ltb q 64 && ltb f 8)
       (λ e. let l : f < 8 = ltb-true f 8 (and-right (ltb q 64) (ltb f 8) e) in
       rw (e, number-same (withRecord h fs n) h (labelWord q f) (add-length h fs n) (add-record-other q (3 * f + 1) (labelWord q f) d (omega arith) (omega arith))))
       (λ e. rw e)
 
-  pub add-cell : (e : List ℤ) (f : ℕ) → f < n → cellAt (cells e (withRecord h fs n)) (fieldLocation (recordCount h) f) ≡ pairAt fs (3 * f + 1)
+  -- the label of a place after the new fields is as it was
+  pub add-label-after : (f : ℕ) → n ≤ f → labelAt (withRecord h fs n) (recordCount h) f ≡ labelAt h (recordCount h) f
+  unfolding labelAt labelWord countWord
+  add-label-after f a = cases (ltb f 8)
+      (λ e. let l : f < 8 = ltb-true f 8 e in
+      rw (lt-ltb (recordCount h) 64 room, e)
+      (number-same (withRecord h fs n) h (labelWord (recordCount h) f) (add-length h fs n)
+      (add-word-other (labelWord (recordCount h) f) (λ z. omega arith) (λ z. omega arith) (λ z. omega arith))))
+      (λ e. rw (lt-ltb (recordCount h) 64 room, e))
+
+  -- a place of another record, or after the new fields, is as blank as it was
+  pub add-blank : (r f : ℕ) → (r ≡ recordCount h → n ≤ f) → blankPlace (withRecord h fs n) r f ≡ blankPlace h r f
+  unfolding blankPlace labelWord countWord
+  add-blank r f d = cases (ltb r 64 && ltb f 8)
+      (λ e. let l : f < 8 = ltb-true f 8 (and-right (ltb r 64) (ltb f 8) e) in
+      rw e (zeros-same (withRecord h fs n) h (labelWord r f) 3 (λ i m. go l i m (ℕ-discrete r (recordCount h)))))
+      (λ e. rw e)
+    where
+      go : f < 8 → (i : ℕ) → i < 3 → Dec (r ≡ recordCount h) → wordAt (withRecord h fs n) (labelWord r f + i) ≡ wordAt h (labelWord r f + i)
+      go l i m (yes e) = let k = d e in add-word-other (labelWord r f + i) (λ z. omega arith) (λ z. omega arith) (λ z. omega arith)
+      go l i m (no x) = add-record-other r (3 * f + 1 + i) (labelWord r f + i) x (omega arith) (omega arith)
+
+  pub add-cell : (e : List ℤ) (f : ℕ) → f < n → cellAt (cells e (withRecord h fs n)) (fieldLocation (recordCount h) f) ≡ newCell fs f
+  unfolding countWord labelWord fieldWord newCell
   add-cell e f l =
       rw (
         field-cell (cells e (withRecord h fs n)) (recordCount h) f room (omega arith),
@@ -129,10 +189,11 @@ module _ (h fs : List ℤ) (n : ℕ) (long : length h ≡ 1601) (room : recordCo
 
   -- the cell of a field place that is none of the new fields
   add-field-other : (q g : ℕ) → g < 8 → ((f : ℕ) → f < n → fieldLocation q g ≡ fieldLocation (recordCount h) f → ⊥) → pairAt (withRecord h fs n) (fieldWord q g) ≡ pairAt h (fieldWord q g)
+  unfolding countWord labelWord fieldWord
   add-field-other q g b d = go (ℕ-discrete q (recordCount h)) (decLt g n)
     where
       go : Dec (q ≡ recordCount h) → Dec (g < n) → pairAt (withRecord h fs n) (fieldWord q g) ≡ pairAt h (fieldWord q g)
-      go (yes e) (yes l) = absurd (d g l (omega arith))
+      go (yes e) (yes l) = absurd (d g l (ap (λ k. fieldLocation k g) e))
       go (yes e) (no l) =
           rw (add-word-other (fieldWord q g) (λ z. omega arith) (λ z. omega arith) (λ z. omega arith), add-word-other (fieldWord q g + 1) (λ z. omega arith) (λ z. omega arith) (λ z. omega arith))
       go (no m) l =
@@ -160,7 +221,8 @@ module _ (h fs : List ℤ) (n : ℕ) (long : length h ≡ 1601) (room : recordCo
       let e : recordCount h + 1 - 1 ≡ recordCount h = omega arith in
       rw (add-records, lt-ltb 0 (recordCount h + 1) (omega arith), le-leb (recordCount h + 1) 64 (omega arith), e)
 
-  pub add-drop : zeros h (countWord (recordCount h)) 25 ≡ true → withoutRecord (withRecord h fs n) ≡ h
+  pub add-drop : blankRecord h (recordCount h) ≡ true → withoutRecord (withRecord h fs n) ≡ h
+  unfolding blankRecord countWord
   add-drop z = ext-getD (pos 0) (withoutRecord (withRecord h fs n)) h (drop-length (withRecord h fs n) ∙ add-length h fs n) (λ i l. rw dropped-is (go i (ℕ-discrete i 0) (decLt i (countWord (recordCount h))) (decLt i (25 * recordCount h + 26))))
     where
       size : length emptied ≡ 1601
@@ -204,7 +266,7 @@ add-same h fs gs n same = rw (copied-same fs gs (countWord (recordCount h) + 1) 
 
 -- a record more changes the count word and the words of the first record that is not used, and no other
 add-elsewhere : (h fs : List ℤ) (n k : ℕ) → (k ≡ 0 → ⊥) → (countWord (recordCount h) ≤ k → countWord (recordCount h) + 25 ≤ k) → wordAt (withRecord h fs n) k ≡ wordAt h k
-unfolding withRecord
+unfolding withRecord countWord labelWord fieldWord
 add-elsewhere h fs n k a b =
     cases (ltb (recordCount h) 64 && leb n 8)
     (λ e.
@@ -219,7 +281,7 @@ brought-length : (saved h : List ℤ) → length (broughtBack saved h) ≡ lengt
 unfolding broughtBack
 brought-length saved h = cases (ltb (numberAt saved 0) 64) (λ e. rw e (simp (length-set, length-copied))) (λ e. rw e (simp length-set))
 
-module _ (h fs saved : List ℤ) (n : ℕ) (long : 26 ≤ length saved) where
+module _ (h fs saved : List ℤ) (n : ℕ) (long : savedWords ≤ length saved) where
   abbrev counts : List ℤ
   counts = set saved 0 (wordAt h 0)
 
@@ -264,6 +326,7 @@ module _ (h fs saved : List ℤ) (n : ℕ) (long : 26 ≤ length saved) where
   brought-full l r = rw (laid-number l, le-ltb (recordCount h) 64 r, laid-count)
 
   pub add-back : broughtBack (laidBy h saved) (withRecord h fs n) ≡ h
+  unfolding countWord labelWord fieldWord
   add-back = ext-getD (pos 0) (broughtBack (laidBy h saved) (withRecord h fs n)) h (brought-length (laidBy h saved) (withRecord h fs n) ∙ add-length h fs n) (λ k l. go k (rw (brought-length (laidBy h saved) (withRecord h fs n) ∙ add-length h fs n) at l) (decLt (recordCount h) 64) (ℕ-discrete k 0) (decLt k at-first) (decLt k (at-first + 25)))
     where
       size : length (withRecord h fs n) ≡ length h

@@ -5,14 +5,14 @@ use mathlib.Core.List.{List}
 use lib.Dec.{ltb, leb, eqb}
 use lib.IntN.{ℤ, pos}
 use lib.ListN.{set}
-use Rattle.words.specs.Words.{numberAt, wordOf}
+use Rattle.words.specs.Words.{wordAt, numberAt, wordOf, eqZ}
 use Rattle.tables.specs.Sizes.{noNumber}
-use Rattle.tables.specs.Search.{first}
+use Rattle.tables.specs.Search.{every, first}
 use Rattle.tables.specs.declared.Sort.{Sort}
 use Rattle.tables.specs.declared.Sort.the-variants.{Values, Identities}
 
 -- "value count, identity count, 64 value positions, 32 identity positions": the word of a sort's count, the room for its positions, and their first word
-abbrev pub keptWord : Sort → ℕ
+unfoldable pub keptWord : Sort → ℕ
 keptWord Values = 0
 keptWord Identities = 1
 
@@ -20,17 +20,28 @@ abbrev pub mostKept : Sort → ℕ
 mostKept Values = 64
 mostKept Identities = 32
 
-abbrev pub firstKept : Sort → ℕ
+unfoldable pub firstKept : Sort → ℕ
 firstKept Values = 2
 firstKept Identities = 66
 
+-- the count of a sort as it is written
+unfoldable pub keptNumber : List ℤ → Sort → ℕ
+keptNumber c s = numberAt c (keptWord s)
+
 -- how many positions of a sort are kept; none where the count is out of its range
 unfoldable pub keptCount : List ℤ → Sort → ℕ
-keptCount c s = cond (leb (numberAt c (keptWord s)) (mostKept s)) (numberAt c (keptWord s)) 0
+keptCount c s = cond (leb (keptNumber c s) (mostKept s)) (keptNumber c s) 0
 
 -- the kept position number i of a sort
 unfoldable pub positionAt : List ℤ → Sort → ℕ → ℕ
 positionAt c s i = cond (ltb i (mostKept s)) (numberAt c (firstKept s + i)) noNumber
+
+-- "unused words are 0": the word for position number i of a sort, and those for every position from number n on
+unfoldable pub blankPosition : List ℤ → Sort → ℕ → Bool
+blankPosition c s i = eqZ (wordAt c (firstKept s + i)) (pos 0)
+
+unfoldable pub blankPositions : List ℤ → Sort → ℕ → Bool
+blankPositions c s n = every (λ i. blankPosition c s (n + i)) (mostKept s - n)
 
 unfoldable pub isKept : List ℤ → Sort → ℕ → Bool
 isKept c s p = ltb (first (λ i. eqb (positionAt c s i) p) 0 (keptCount c s)) (keptCount c s)

@@ -4,4 +4,3 @@ pub mod Values
 pub mod Cells
 pub mod Records
 pub mod Kept
-pub mod Fit

@@ -24,22 +24,26 @@ labels = 32
 abbrev pub recordWords : ℕ
 recordWords = 25
 
+-- the words that a record more may change: the count word and those of one record
+abbrev pub savedWords : ℕ
+savedWords = 26
+
 -- the word of the field count of record r
-abbrev pub countWord : ℕ → ℕ
+unfoldable pub countWord : ℕ → ℕ
 countWord r = 25 * r + 1
 
 -- the words of the label and of the cell of field place f of record r
-abbrev pub labelWord : ℕ → ℕ → ℕ
+unfoldable pub labelWord : ℕ → ℕ → ℕ
 labelWord r f = 25 * r + 3 * f + 2
 
-abbrev pub fieldWord : ℕ → ℕ → ℕ
+unfoldable pub fieldWord : ℕ → ℕ → ℕ
 fieldWord r f = 25 * r + 3 * f + 3
 
 -- "Locations: 0 to 63 variables; 64 + 8r + f for field place f of record r."
 abbrev pub locations : ℕ
 locations = 576
 
-abbrev pub fieldLocation : ℕ → ℕ → ℕ
+unfoldable pub fieldLocation : ℕ → ℕ → ℕ
 fieldLocation r f = 64 + 8 * r + f
 
 -- "Constraints, 98 words: value count, identity count, 64 value positions, 32 identity positions."

@@ -8,7 +8,7 @@ ghost use mathlib.Core.Path.{_≡_};
 ghost use Prim.Native.Nat.{_<_};
 ghost use lib.ListN.{length};
 ghost use Rattle.tables.specs.Values.{slotOf, cellOf};
-ghost use Rattle.tables.specs.Cells.{cells, cellAt, putCell, pairAt, putPair, locationWord, fresh};
+ghost use Rattle.tables.specs.Cells.{cells, cellAt, putCell, pairAt, putPair, locationWord, fresh, zeros};
 
 // What a cell holds. A kind that no cell may have is read as absent.
 pub fn slot_of(c: Cell) -> Slot
@@ -124,4 +124,33 @@ pub fn make_fresh(table: &mut [i32])
 {
     let n = table.len();
     words::clear(table, 0, n);
+}
+
+// n zeros from the word at on.
+pub(crate) fn are_zeros(s: &[i32], at: usize, n: usize) -> bool
+    requires { ⌜ at < 4096 ⌝ }
+    requires { ⌜ n < 4096 ⌝ }
+    ensures { λ r. ⌜ r ≡ zeros (now (s .entry)) at n ⌝ }
+{
+    let mut i: usize = 0;
+    while i < n {
+        if !words::same(words::word_at(s, at + i), 0) {
+            return false;
+        }
+        i += 1;
+    }
+    true
+}
+
+// Whether every word is 0. It has no early return, so that words are tested several at a time.
+pub fn is_clear(s: &[i32]) -> bool
+    ensures { λ r. ⌜ r ≡ zeros (now (s .entry)) 0 (length (now (s .entry))) ⌝ }
+{
+    let mut clear = true;
+    let mut i: usize = 0;
+    while i < s.len() {
+        clear = clear & (s[i] == 0);
+        i += 1;
+    }
+    clear
 }

@@ -1,12 +1,13 @@
 // The kept positions of both sorts.
+use super::cells::is_clear;
 use crate::IDENTITY_POSITIONS;
 use crate::Sort;
 use crate::VALUE_POSITIONS;
 ghost use mathlib.Core.Path.{_≡_};
-ghost use Rattle.tables.specs.Kept.{keptWord, mostKept, firstKept, keptCount, positionAt, isKept, withPosition, withoutPosition};
+ghost use Rattle.tables.specs.Kept.{keptWord, mostKept, firstKept, keptNumber, keptCount, positionAt, blankPositions, isKept, withPosition, withoutPosition};
 
 // The word that counts the kept positions of a sort.
-pub fn kept_word(s: Sort) -> usize
+fn kept_word(s: Sort) -> usize
     ensures { λ r. ⌜ r ≡ keptWord s ⌝ }
 {
     match s {
@@ -16,7 +17,7 @@ pub fn kept_word(s: Sort) -> usize
 }
 
 // The word of the first kept position of a sort.
-pub fn first_kept(s: Sort) -> usize
+fn first_kept(s: Sort) -> usize
     ensures { λ r. ⌜ r ≡ firstKept s ⌝ }
 {
     match s {
@@ -35,11 +36,18 @@ pub fn most_kept(s: Sort) -> usize
     }
 }
 
+// The count of a sort as it is written.
+pub fn count_at(constraints: &[i32], s: Sort) -> usize
+    ensures { λ r. ⌜ r ≡ keptNumber (now (constraints .entry)) s ⌝ }
+{
+    words::number_at(constraints, kept_word(s))
+}
+
 // How many positions of a sort are kept; none where the count is out of range.
 pub fn kept_count(constraints: &[i32], s: Sort) -> usize
     ensures { λ r. ⌜ r ≡ keptCount (now (constraints .entry)) s ⌝ }
 {
-    let n = words::number_at(constraints, kept_word(s));
+    let n = count_at(constraints, s);
     if most_kept(s) < n {
         return 0;
     }
@@ -54,6 +62,17 @@ pub fn position_at(constraints: &[i32], s: Sort, i: usize) -> usize
         return 2147483648;
     }
     words::number_at(constraints, first_kept(s) + i)
+}
+
+// Whether the words for every position of a sort from number n on are zero.
+pub fn are_blank_from(constraints: &[i32], s: Sort, n: usize) -> bool
+    ensures { λ r. ⌜ r ≡ blankPositions (now (constraints .entry)) s n ⌝ }
+{
+    let most = most_kept(s);
+    if most <= n {
+        return true;
+    }
+    is_clear(words::part_to(words::part_from(constraints, first_kept(s) + n), most - n))
 }
 
 pub fn is_kept(constraints: &[i32], s: Sort, position: usize) -> bool

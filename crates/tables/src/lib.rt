@@ -1,9 +1,8 @@
 // The lent tables: the environment and the heap with their cells, and the constraints with the kept positions.
 // Nothing here asks anything of its caller; each function is defined for tables of any length and content.
 pub mod cells; // cells.rt: values, and the cell at a location
-pub mod records; // records.rt: counts, labels, a record more and a record less
+pub mod records; // records.rt: counts, labels, cells, a record more and a record less
 pub mod kept; // kept.rt: kept positions of both sorts
-pub mod fit; // fit.rt: which tables are fit
 
 pub const VARIABLES: usize = 64;
 

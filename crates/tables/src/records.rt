@@ -1,11 +1,15 @@
-// The heap's records: counts, labels, a record more and a record less.
+// The heap's records: counts, labels, cells, a record more and a record less.
+use super::cells::are_zeros;
+use super::cells::is_clear;
+use super::cells::pair_at;
+use crate::Cell;
 use crate::FIELDS;
 use crate::Found;
 use crate::RECORD_WORDS;
 use crate::RECORDS;
 use crate::VARIABLES;
 ghost use mathlib.Core.Path.{_≡_};
-ghost use Rattle.tables.specs.Records.{recordCount, fieldCount, labelAt, fieldWith, withRecord, withoutRecord, laidBy, broughtBack};
+ghost use Rattle.tables.specs.Records.{recordCount, countAt, fieldCount, labelAt, fieldAt, blankPlace, blankFrom, fieldWith, withRecord, withoutRecord, laidBy, broughtBack};
 
 // The count word as a number.
 pub fn record_count(heap: &[i32]) -> usize
@@ -14,14 +18,21 @@ pub fn record_count(heap: &[i32]) -> usize
     words::number_at(heap, 0)
 }
 
+// The field count of record r as it is written.
+pub fn count_at(heap: &[i32], r: usize) -> usize
+    ensures { λ n. ⌜ n ≡ countAt (now (heap .entry)) r ⌝ }
+{
+    if RECORDS <= r {
+        return 2147483648;
+    }
+    words::number_at(heap, 25 * r + 1)
+}
+
 // How many fields record r has; none where its count is out of range.
 pub fn field_count(heap: &[i32], r: usize) -> usize
     ensures { λ n. ⌜ n ≡ fieldCount (now (heap .entry)) r ⌝ }
 {
-    if RECORDS <= r {
-        return 0;
-    }
-    let n = words::number_at(heap, 25 * r + 1);
+    let n = count_at(heap, r);
     if FIELDS < n {
         return 0;
     }
@@ -39,6 +50,48 @@ pub fn label_at(heap: &[i32], r: usize, f: usize) -> usize
         return 2147483648;
     }
     words::number_at(heap, 25 * r + 3 * f + 2)
+}
+
+// The cell of field place f of record r; absent where there is no such place.
+pub fn field_at(heap: &[i32], r: usize, f: usize) -> Cell
+    ensures { λ c. ⌜ c ≡ fieldAt (now (heap .entry)) r f ⌝ }
+{
+    if RECORDS <= r {
+        return Cell {
+            kind: 0,
+            payload: 0,
+        };
+    }
+    if FIELDS <= f {
+        return Cell {
+            kind: 0,
+            payload: 0,
+        };
+    }
+    pair_at(heap, 25 * r + 3 * f + 3)
+}
+
+// Whether the label and the cell of field place f of record r are all zero.
+pub fn is_blank(heap: &[i32], r: usize, f: usize) -> bool
+    ensures { λ b. ⌜ b ≡ blankPlace (now (heap .entry)) r f ⌝ }
+{
+    if RECORDS <= r {
+        return true;
+    }
+    if FIELDS <= f {
+        return true;
+    }
+    are_zeros(heap, 25 * r + 3 * f + 2, 3)
+}
+
+// Whether every record from number n on is all zero.
+pub fn are_blank_from(heap: &[i32], n: usize) -> bool
+    ensures { λ b. ⌜ b ≡ blankFrom (now (heap .entry)) n ⌝ }
+{
+    if RECORDS <= n {
+        return true;
+    }
+    is_clear(words::part_to(words::part_from(heap, 25 * n + 1), 1600 - 25 * n))
 }
 
 // The location of the field of record r that has the label.

@@ -23,6 +23,7 @@ pub fn all() -> Vec<Case> {
         k1(),
         five_constraints(),
         fifteen_constraints(),
+        desk_constraints(),
         class_in_order("class", "class of 33 cells, 32 identities", false),
         class_in_order("class-back", "the same, kept from the far end", true),
         full_tables(),
@@ -125,6 +126,58 @@ fn fifteen_constraints() -> Case {
         runs: 1,
         outcome: Outcome::Finished,
         steps: 31 + 1 + 2 * turns as u32,
+    }
+}
+
+/// A core's file as a desk lays it out, and its depth counted up: a multiple,
+/// a sum of three fields, a product, `and`, `or`, and paths of two labels.
+fn desk_constraints() -> Case {
+    let turns = 10_000;
+    let core = |label| written::field(1, label);
+    let [samples, bytes, header, trailer, total, depth, limit] = [0, 1, 2, 3, 4, 5, 6].map(core);
+    let in_file = |label| written::path(1, &[7, label]);
+    let in_block = |label| written::field(2, label);
+    let int = written::integer;
+    let on = written::operator;
+    let sum = on(1, on(1, header, bytes.clone()), trailer);
+    let enough = on(9, samples.clone(), int(0));
+    let kept = [
+        vec![(3, on(6, bytes, on(3, int(4), samples.clone())))],
+        vec![(3, on(6, total.clone(), sum))],
+        vec![(3, on(6, in_block(2), on(3, in_block(0), in_block(1))))],
+        vec![(3, on(10, enough, on(5, samples, int(1_000_000))))],
+        vec![(
+            3,
+            on(11, on(8, in_file(0), total), on(6, depth.clone(), int(0))),
+        )],
+        vec![
+            (1, on(6, in_file(1), int(512))),
+            (3, on(5, depth.clone(), limit)),
+        ],
+    ];
+    let fields = [16, 64, 128, 8, 200, 0, turns, 0];
+    let labelled: Vec<(i32, i32)> = (0..).zip(fields).collect();
+    let mut statements = vec![
+        written::new(0, &[(0, 100_000), (1, 512)]),
+        written::new(1, &labelled),
+        written::new(2, &[(0, 8), (1, 8), (2, 64)]),
+        written::assign(&written::field(1, 7), written::variable(0)),
+    ];
+    statements.extend(kept.iter().map(|parts| written::always(parts)));
+    statements.push(written::repeat(
+        on(4, depth.clone(), int(turns)),
+        &[written::assign(&depth, on(1, depth.clone(), int(1)))],
+    ));
+    Case {
+        name: "desk",
+        title: "loop over 6 constraints as a desk writes them",
+        program: written::block(&statements),
+        tables: Tables::fresh(),
+        proposals: vec![0; 10 + turns as usize],
+        budget: 1_000_000,
+        runs: 1,
+        outcome: Outcome::Finished,
+        steps: 11 + 2 * turns as u32,
     }
 }
 
@@ -239,7 +292,7 @@ mod tests {
     #[test]
     fn both_programs_give_what_each_case_says() {
         let told: Result<Vec<()>, String> = all().iter().map(agree).collect();
-        assert_eq!(told.map(|cases| cases.len()), Ok(7));
+        assert_eq!(told.map(|cases| cases.len()), Ok(8));
     }
 
     #[test]
@@ -273,6 +326,7 @@ mod tests {
     fn the_loops_keep_what_they_say() {
         assert_eq!(kept(five_constraints()), (5, 0));
         assert_eq!(kept(fifteen_constraints()), (15, 0));
+        assert_eq!(kept(desk_constraints()), (6, 0));
         assert_eq!(kept(class_in_order("", "", false)), (0, 32));
         assert_eq!(kept(class_in_order("", "", true)), (0, 32));
     }

@@ -70,6 +70,10 @@ pub fn field(own: i32, label: i32) -> Words {
     vec![24, own, 1, label]
 }
 
+pub fn path(own: i32, labels: &[i32]) -> Words {
+    joined(&[&[24, own, labels.len() as i32], labels])
+}
+
 pub fn operator(number: i32, left: Words, right: Words) -> Words {
     joined(&[&[25, number], &left, &right])
 }

@@ -6,8 +6,7 @@ use mathlib.Core.Bool.{true}
 use mathlib.Core.List.{List}
 use lib.IntN.{ℤ}
 use Rattle.words.specs.Answer.{got, stop}
-use Rattle.tables.specs.Cells.{Cells}
-use Rattle.tables.specs.Fit.{Sized}
+use Rattle.tables.specs.Cells.{Cells, Sized}
 use Rattle.rules.specs.State.{refused}
 use Rattle.rules.specs.Constraints.{Part, counted}
 use Rattle.rules.specs.Proposals.{Asked, settle}

@@ -3,8 +3,7 @@ use mathlib.Core.Path.{_≡_}
 use mathlib.Core.List.{List}
 use lib.IntN.{ℤ}
 use Rattle.words.specs.Answer.{got}
-use Rattle.tables.specs.Cells.{Cells}
-use Rattle.tables.specs.Fit.{Sized}
+use Rattle.tables.specs.Cells.{Cells, Sized}
 use Rattle.rules.specs.Proposals.{Asked, settle}
 use Rattle.rules.specs.Effects.{Effect}
 

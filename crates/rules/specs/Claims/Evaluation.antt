@@ -9,7 +9,7 @@ use Rattle.words.specs.Answer.{got}
 use Rattle.tables.specs.declared.Value.{Value}
 use Rattle.tables.specs.declared.Value.the-variants.{Bool as Truth}
 use Rattle.tables.specs.Cells.{Cells}
-use Rattle.tables.specs.Fit.{Fit}
+use Rattle.fit.specs.Fit.{Fit}
 use Rattle.rules.specs.Paths.{Way, wayAt}
 use Rattle.rules.specs.Evaluation.{Kind, evaluate, kind}
 use Rattle.rules.specs.Constraints.{Part, constraintAt}

@@ -9,7 +9,7 @@ use Rattle.tables.specs.declared.Value.{Value}
 use Rattle.tables.specs.declared.Slot.the-variants.{Has}
 use Rattle.tables.specs.Values.{Sound}
 use Rattle.tables.specs.Cells.{Cells}
-use Rattle.tables.specs.Fit.{Fit}
+use Rattle.fit.specs.Fit.{Fit}
 use Rattle.rules.specs.State.{Res, refuse, slotAt}
 use Rattle.rules.specs.Identities.{Tie, ties, isNode, identityPhase}
 use Rattle.rules.specs.IdentityRules.{Relevant, Names, Satisfies, RelevantUpdate, Solves, Clash, Target, Ready}

@@ -8,7 +8,7 @@ use Rattle.tables.specs.declared.Value.{Value}
 use Rattle.tables.specs.declared.Sort.the-variants.{Identities}
 use Rattle.tables.specs.Values.{Sound}
 use Rattle.tables.specs.Cells.{Cells}
-use Rattle.tables.specs.Fit.{Fit}
+use Rattle.fit.specs.Fit.{Fit}
 use Rattle.rules.specs.State.{positions}
 use Rattle.rules.specs.Identities.{identityPhase}
 use Rattle.rules.specs.IdentityRules.{Target, Ready}

@@ -9,7 +9,7 @@ use Rattle.words.specs.Answer.{got}
 use Rattle.tables.specs.declared.Value.{Value}
 use Rattle.tables.specs.Values.{Sound}
 use Rattle.tables.specs.Cells.{Cells}
-use Rattle.tables.specs.Fit.{Fit}
+use Rattle.fit.specs.Fit.{Fit}
 use Rattle.rules.specs.State.{Res, refuse}
 use Rattle.rules.specs.Identities.{Tie, ties, isNode, identityPhase}
 use Rattle.rules.specs.IdentityRules.{Names, Clash, Phase}

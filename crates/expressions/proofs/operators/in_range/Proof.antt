@@ -9,7 +9,7 @@ use Rattle.expressions.proofs.operators.in_range.Lts as lts
 enum-known-r : tie.Need-enum-known-r
 enum-known-r c = search needs
 
--- src/operators.rt:81:28
+-- src/operators.rt:86:20
 enum-told : tie.Need-enum-told
 enum-told c = search needs
 

@@ -2,7 +2,7 @@ use mathlib.Core.Path.{_≡_, sym, ap, _∙_}
 use Rattle.tables.specs.Cells.{cells}
 use Rattle.rules.specs.Evaluation.{kindOf, aBool}
 use Rattle.expressions.specs.Told.{kindNumber}
-use Rattle.expressions.proofs.JudgeLaws.{no-bool, a-bool, test-fails, test-comes}
+use Rattle.expressions.proofs.TestLaws.{no-bool, a-bool, test-fails, test-comes}
 use borrow.Author.Needs.{needs}
 use Rattle.expressions.proofs.testing.test_at.Statement.{statement}
 use Rattle.expressions.proofs.testing.test_at.Tie as tie

@@ -1,4 +1,3 @@
-use Rattle.tables.specs.Cells.{cells}
 use Rattle.lister.proofs.ListingLaws.{put-field-absent, put-field-present}
 use borrow.Author.Needs.{needs}
 use Rattle.lister.proofs.listing.put_field.Statement.{statement}
@@ -8,25 +7,13 @@ use Rattle.lister.proofs.listing.put_field.Lts as lts
 use Rattle.lister.proofs.bytes.put.Reads as put-reads
 use Rattle.lister.proofs.listing.put_given.Reads as put-given-reads
 use Rattle.lister.proofs.numerals.put_natural.Reads as put-natural-reads
-use Rattle.tables.proofs.cells.read_cell.Reads as read-cell-reads
+use Rattle.tables.proofs.records.field_at.Reads as field-at-reads
 use Rattle.tables.proofs.cells.slot_of.Reads as slot-of-reads
 use Rattle.tables.proofs.records.label_at.Reads as label-at-reads
 
--- src/listing.rt:98:103
-mul-read-cell : tie.Need-mul-read-cell
-mul-read-cell c = search needs
-
--- src/listing.rt:98:83
-add-read-cell : tie.Need-add-read-cell
-add-read-cell c = search needs
-
--- src/listing.rt:98:83
-add-read-cell-2 : tie.Need-add-read-cell-2
-add-read-cell-2 c = search needs
-
 -- src/listing.rt:98:39
-read-cell-requires : tie.Need-read-cell-requires
-read-cell-requires c κs = search needs
+field-at-requires : tie.Need-field-at-requires
+field-at-requires c κs = search needs
 
 -- src/listing.rt:98:9
 slot-of-requires : tie.Need-slot-of-requires
@@ -66,7 +53,7 @@ put-given-requires c κs = search needs
 
 -- src/listing.rt:93:1
 returns : tie.Need-returns
-returns c = put-field-absent (cells (c .before .before .before .before .before .args .environment .now) (c .before .before .before .before .before .args .heap .now)) (c .before .before .before .before .before .args .r) (c .before .before .before .before .before .args .f) (c .before .before .before .read-cell .ensures) (c .before .before .slot-of .ensures) (c .enum-told .given .1)
+returns c = put-field-absent (c .before .before .before .before .before .args .heap .now) (c .before .before .before .before .before .args .r) (c .before .before .before .before .before .args .f) (c .before .before .before .field-at .ensures) (c .before .before .slot-of .ensures) (c .enum-told .given .1)
 
 -- src/listing.rt:93:1
 same-length : tie.Need-same-length
@@ -74,16 +61,13 @@ same-length c = search needs
 
 -- src/listing.rt:93:1
 returns-2 : tie.Need-returns-2
-returns-2 c = put-field-present (cells (c .before .before .before .before .before .before .before .before .before .before .before .before .before .before .before .before .before .before .before .before .before .before .before .before .before .before .before .args .environment .now) (c .before .before .before .before .before .before .before .before .before .before .before .before .before .before .before .before .before .before .before .before .before .before .before .before .before .before .before .args .heap .now)) (c .before .before .before .before .before .before .before .before .before .before .before .before .before .before .before .before .before .before .before .before .before .before .before .before .before .before .before .args .r) (c .before .before .before .before .before .before .before .before .before .before .before .before .before .before .before .before .before .before .before .before .before .before .before .before .before .before .before .args .f) (c .before .before .before .before .before .before .before .before .before .before .before .before .before .before .before .before .before .before .before .before .before .before .before .before .before .read-cell .ensures) (c .before .before .before .before .before .before .before .before .before .before .before .before .before .before .before .before .before .before .before .before .before .before .before .before .slot-of .ensures) (c .before .before .before .before .before .before .before .before .before .before .before .before .before .before .before .before .before .before .before .before .before .before .slot .given .1) (c .before .before .before .before .before .before .before .before .before .before .before .before .before .before .before .before .before .before .put .ensures) (c .before .before .before .before .before .before .before .before .before .before .before .before .before .before .put-natural .ensures) (c .before .before .before .before .before .before .before .before .before .before .put2 .ensures) (c .before .before .before .before .before .before .before .before .before .before .before .before .before .before .before .before .before .before .before .before .label-at .ensures) (c .before .before .before .before .before .before .put-natural2 .ensures) (c .before .before .put-given .ensures)
+returns-2 c = put-field-present (c .before .before .before .before .before .before .before .before .before .before .before .before .before .before .before .before .before .before .before .before .before .before .before .before .before .before .before .args .heap .now) (c .before .before .before .before .before .before .before .before .before .before .before .before .before .before .before .before .before .before .before .before .before .before .before .before .before .before .before .args .r) (c .before .before .before .before .before .before .before .before .before .before .before .before .before .before .before .before .before .before .before .before .before .before .before .before .before .before .before .args .f) (c .before .before .before .before .before .before .before .before .before .before .before .before .before .before .before .before .before .before .before .before .before .before .before .before .before .field-at .ensures) (c .before .before .before .before .before .before .before .before .before .before .before .before .before .before .before .before .before .before .before .before .before .before .before .before .slot-of .ensures) (c .before .before .before .before .before .before .before .before .before .before .before .before .before .before .before .before .before .before .before .before .before .before .slot .given .1) (c .before .before .before .before .before .before .before .before .before .before .before .before .before .before .before .before .before .before .put .ensures) (c .before .before .before .before .before .before .before .before .before .before .before .before .before .before .put-natural .ensures) (c .before .before .before .before .before .before .before .before .before .before .put2 .ensures) (c .before .before .before .before .before .before .before .before .before .before .before .before .before .before .before .before .before .before .before .before .label-at .ensures) (c .before .before .before .before .before .before .put-natural2 .ensures) (c .before .before .put-given .ensures)
 
 pub put-field-spec : {M : Type 1} → statement M
 put-field-spec =
     tie.close
     (tie.spec
-    mul-read-cell
-    add-read-cell
-    add-read-cell-2
-    read-cell-requires
+    field-at-requires
     slot-of-requires
     enum-told
     enum-known-slot

@@ -1,9 +1,7 @@
 use native.Mathlib.Omega.{arith}
 use borrow.Author.Needs.{needs}
 use Prim.Native.Nat.{_-_}
-use Rattle.tables.specs.Cells.{cells}
 use Rattle.tables.specs.Records.{fieldCount}
-use Rattle.tables.proofs.FindLaws.{field-in}
 use Rattle.lister.specs.Listing.{fieldText, fieldsText}
 use Rattle.lister.proofs.ListingLaws.{Each, each-starts, each-goes-on, each-ends}
 use Rattle.lister.proofs.listing.put_fields.Statement.{statement}
@@ -14,10 +12,10 @@ use Rattle.lister.proofs.listing.put_field.Reads as put-field-reads
 use Rattle.tables.proofs.records.field_count.Reads as field-count-reads
 
 abbrev Inv-loop : tie.InvT-loop
-Inv-loop out₀ at environment heap r n to₀ f₀ out to f = Each (fieldText (cells environment heap) r) (fieldCount heap r) out₀ at out to f
+Inv-loop out₀ at heap r n to₀ f₀ out to f = Each (fieldText heap r) (fieldCount heap r) out₀ at out to f
 
 abbrev μ-loop : tie.MeasureT-loop
-μ-loop out₀ at environment heap r n to₀ f₀ out to f = n - f
+μ-loop out₀ at heap r n to₀ f₀ out to f = n - f
 
 -- src/listing.rt:115:9
 field-count-requires : tie.Need-field-count-requires Inv-loop μ-loop
@@ -29,7 +27,7 @@ loop-holds c = each-starts
 
 -- src/listing.rt:119:9
 put-field-requires : tie.Need-put-field-requires Inv-loop μ-loop
-put-field-requires c κs = field-in (c .before .before .before .before .before .args .heap .now) (c .before .before .before .before .before .args .r) (c .before .before .loop .f) (omega (arith, c .before .loop-test .taken, c .before .before .before .field-count .ensures))
+put-field-requires c κs = search needs
 
 -- src/listing.rt:120:9
 add-f : tie.Need-add-f Inv-loop μ-loop

@@ -2,7 +2,6 @@ use borrow.Author.Needs.{needs}
 use Prim.Native.Nat.{_-_}
 use native.Mathlib.Omega.{arith}
 use mathlib.Core.Path.{ap, _∙_}
-use Rattle.tables.specs.Cells.{cells}
 use Rattle.lister.specs.Listing.{countedLine, recordText, recordsText, shownRecords}
 use Rattle.lister.proofs.BufferLaws.{then, puts-as}
 use Rattle.lister.proofs.ListingLaws.{Each, each-starts, each-goes-on, each-ends}
@@ -16,10 +15,10 @@ use Rattle.lister.proofs.listing.shown_records.Reads as shown-records-r
 use Rattle.tables.proofs.records.field_count.Reads as field-count-reads
 
 abbrev Inv-loop : tie.InvT-loop
-Inv-loop out₀ at environment heap n to₀ r₀ out to r = Each (recordText (cells environment heap)) (shownRecords heap) out₀ at out to r
+Inv-loop out₀ at heap n to₀ r₀ out to r = Each (recordText heap) (shownRecords heap) out₀ at out to r
 
 abbrev μ-loop : tie.MeasureT-loop
-μ-loop out₀ at environment heap n to₀ r₀ out to r = n - r
+μ-loop out₀ at heap n to₀ r₀ out to r = n - r
 
 -- src/listing.rt:140:9
 shown-records-requires : tie.Need-shown-records-requires Inv-loop μ-loop

@@ -3,10 +3,10 @@ use borrow.Author.Tests.{not-true, not-false}
 use Rattle.words.specs.Words.{wordAt}
 use Rattle.words.specs.Answer.{_>>_, want}
 use Rattle.tables.specs.Cells.{cells}
-use Rattle.tables.specs.Fit.{environmentFits, heapFits}
+use Rattle.fit.specs.Fit.{environmentFits, heapFits}
 use Rattle.program.specs.Where.{constraintsStand}
 use Rattle.rules.specs.Start.{early}
-use Rattle.statements.specs.Told.{tables}
+use Rattle.phases.specs.Told.{tables}
 use Rattle.run.specs.Told.{keptAtStart}
 use Rattle.run.proofs.BeginLaws.{test-stop, test-on}
 use borrow.Author.Needs.{needs}
@@ -16,8 +16,8 @@ use Rattle.run.proofs.start.fits_at_start.Reads as reads
 use Rattle.run.proofs.start.fits_at_start.Lts as lts
 use Rattle.program.proofs.places.constraints_stand.Reads as constraints-stand-reads
 use Rattle.run.proofs.start.holds_at_start.Reads as holds-at-start-reads
-use Rattle.tables.proofs.fit.environment_fits.Reads as environment-fits-reads
-use Rattle.tables.proofs.fit.heap_fits.Reads as heap-fits-reads
+use Rattle.fit.proofs.environment_fits.Reads as environment-fits-reads
+use Rattle.fit.proofs.heap_fits.Reads as heap-fits-reads
 
 -- src/start.rt:104:9
 environment-fits-requires : tie.Need-environment-fits-requires

@@ -1,4 +1,4 @@
-use Rattle.tables.specs.Fit.{sized}
+use Rattle.fit.specs.Fit.{sized}
 use Rattle.rules.specs.Start.{early, budgetFits}
 use mathlib.Core.Path.{_≡_, sym, ap, _∙_}
 use mathlib.Core.Bool.{_&&_}
@@ -8,7 +8,7 @@ use Rattle.words.proofs.Signed.{back32}
 use Rattle.program.specs.Reading.{readProgram}
 use Rattle.rules.specs.Start.{early}
 use Rattle.rules.proofs.StartClauses.{starts-is}
-use Rattle.statements.specs.Told.{tables}
+use Rattle.phases.specs.Told.{tables}
 use Rattle.run.specs.Told.{tablesAtStart}
 use Rattle.run.proofs.BeginLaws.{test-stop, test-on, read-stop, read-on, and-false, and-second, both}
 use borrow.Author.Needs.{needs}
@@ -19,7 +19,7 @@ use Rattle.run.proofs.start.starts.Lts as lts
 use Rattle.program.proofs.blocks.read_program.Reads as read-program-reads
 use Rattle.run.proofs.start.budget_fits.Reads as budget-fits-reads
 use Rattle.run.proofs.start.fits_at_start.Reads as fits-at-start-reads
-use Rattle.tables.proofs.fit.are_sized.Reads as are-sized-reads
+use Rattle.fit.proofs.are_sized.Reads as are-sized-reads
 
 -- src/start.rt:126:9
 are-sized-requires : tie.Need-are-sized-requires

@@ -1,6 +1,6 @@
 use mathlib.Core.Path.{_≡_, sym, ap, _∙_}
 use Rattle.words.proofs.Signed.{back32}
-use Rattle.statements.specs.Told.{tables}
+use Rattle.phases.specs.Told.{tables}
 use Rattle.run.proofs.WholeLaws.{meets-early, begins}
 use borrow.Author.Needs.{needs}
 use Rattle.run.proofs.whole.run.Statement.{statement}

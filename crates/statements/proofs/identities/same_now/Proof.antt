@@ -3,7 +3,7 @@ use borrow.Author.Tests.{not-true, not-false}
 use Rattle.tables.specs.Cells.{cells}
 use Rattle.rules.specs.Paths.{valueAt}
 use Rattle.rules.proofs.EvaluateClauses.{value-part}
-use Rattle.expressions.proofs.EvaluateLaws.{got-on}
+use Rattle.expressions.proofs.LeafLaws.{got-on}
 use Rattle.statements.proofs.SimpleLaws.{same-left, same-right, same-kind, same-kinds, same-not, same-holds}
 use borrow.Author.Needs.{needs}
 use Rattle.statements.proofs.identities.same_now.Statement.{statement}
@@ -12,7 +12,7 @@ use Rattle.statements.proofs.identities.same_now.Reads as reads
 use Rattle.statements.proofs.identities.same_now.Lts as lts
 use Rattle.expressions.proofs.operators.are_same.Reads as are-same-reads
 use Rattle.expressions.proofs.paths.value_at.Reads as value-at-reads
-use Rattle.statements.proofs.classes.is_node.Reads as is-node-reads
+use Rattle.phases.proofs.classes.is_node.Reads as is-node-reads
 use Rattle.words.proofs.part_from.Reads as part-from-reads
 use Rattle.words.proofs.part_last.Reads as part-last-reads
 

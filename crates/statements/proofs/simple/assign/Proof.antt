@@ -1,5 +1,5 @@
 use Rattle.tables.specs.Cells.{cells}
-use Rattle.statements.proofs.PhaseLaws.{does-same}
+use Rattle.phases.proofs.PhaseLaws.{does-same}
 use Rattle.statements.proofs.SimpleLaws.{path-after, assign-fails, assign-gives}
 use borrow.Author.Needs.{needs}
 use Rattle.statements.proofs.simple.assign.Statement.{statement}
@@ -8,7 +8,7 @@ use Rattle.statements.proofs.simple.assign.Reads as reads
 use Rattle.statements.proofs.simple.assign.Lts as lts
 use Rattle.expressions.proofs.values.find_value.Reads as find-value-reads
 use Rattle.program.proofs.reading.read_path.Reads as read-path-reads
-use Rattle.statements.proofs.phases.give.Reads as give-reads
+use Rattle.phases.proofs.giving.give.Reads as give-reads
 use Rattle.words.proofs.part_from.Reads as part-from-reads
 use Rattle.words.proofs.part_last.Reads as part-last-reads
 

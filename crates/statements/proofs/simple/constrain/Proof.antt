@@ -4,7 +4,7 @@ use Rattle.statements.proofs.simple.constrain.Statement.{statement}
 use Rattle.statements.proofs.simple.constrain.Tie as tie
 use Rattle.statements.proofs.simple.constrain.Reads as reads
 use Rattle.statements.proofs.simple.constrain.Lts as lts
-use Rattle.statements.proofs.proposals.settle.Reads as settle-reads
+use Rattle.proposals.proofs.settling.settle.Reads as settle-reads
 use Rattle.statements.proofs.simple.has_room.Reads as has-room-reads
 use Rattle.statements.proofs.simple.keep_once.Reads as keep-once-reads
 use Rattle.words.proofs.less.Reads as less-reads

@@ -1,12 +1,12 @@
 use Rattle.tables.specs.Cells.{cells}
-use Rattle.statements.proofs.PhaseLaws.{does-same}
+use Rattle.phases.proofs.PhaseLaws.{does-same}
 use Rattle.statements.proofs.SimpleLaws.{new-variable, new-many, new-fails, new-gives}
 use borrow.Author.Needs.{needs}
 use Rattle.statements.proofs.simple.make_new.Statement.{statement}
 use Rattle.statements.proofs.simple.make_new.Tie as tie
 use Rattle.statements.proofs.simple.make_new.Reads as reads
 use Rattle.statements.proofs.simple.make_new.Lts as lts
-use Rattle.statements.proofs.phases.give_new.Reads as give-new-reads
+use Rattle.phases.proofs.giving.give_new.Reads as give-new-reads
 use Rattle.statements.proofs.simple.field_words.Reads as field-words-reads
 use Rattle.words.proofs.number_at.Reads as number-at-reads
 use Rattle.words.proofs.part_from.Reads as part-from-reads

@@ -2,8 +2,8 @@ use mathlib.Core.Path.{refl}
 use native.Mathlib.Omega.{arith}
 use Rattle.program.specs.Forms.{skip, assign, new, always, once, alwaysSame, onceSame}
 use Rattle.rules.proofs.StatementClauses.{simple-skip, simple-assign, simple-new, simple-always, simple-once, simple-always-same, simple-once-same}
-use Rattle.statements.specs.Told.{tables}
-use Rattle.statements.proofs.PhaseLaws.{does-same, refuses}
+use Rattle.phases.specs.Told.{tables}
+use Rattle.phases.proofs.PhaseLaws.{does-same, refuses}
 use Rattle.statements.proofs.VerbLaws.{simple-by, simple-other}
 use borrow.Author.Needs.{needs}
 use Rattle.statements.proofs.simple.simple_at.Statement.{statement}

@@ -1,3 +1,5 @@
+use native.Mathlib.Omega.{arith}
+use Rattle.tables.proofs.CellLaws.{location-small}
 use borrow.Author.Tests.{lt-ltb, le-ltb}
 use Rattle.tables.specs.Cells.{putCell}
 use borrow.Author.Needs.{needs}
@@ -31,7 +33,7 @@ location-word-requires c κs = search needs
 
 -- src/cells.rt:117:9
 put-pair-requires-2 : tie.Need-put-pair-requires-2
-put-pair-requires-2 c κs = search needs
+put-pair-requires-2 c κs = omega (arith, c .location-word .ensures, location-small (c .before .before .before .before .args .l) (c .before .before .if2 .taken))
 
 -- src/cells.rt:109:1
 same-length-2 : tie.Need-same-length-2

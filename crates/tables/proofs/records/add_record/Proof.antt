@@ -4,6 +4,7 @@ use native.Mathlib.Omega.{arith}
 use borrow.Author.Tests.{lt-ltb, le-ltb, le-leb, lt-leb}
 use Rattle.words.proofs.Signed.{back32}
 use Rattle.words.proofs.Laws.{word-is}
+use Rattle.tables.specs.Sizes.{countWord}
 use Rattle.tables.specs.Records.{recordCount, withRecord}
 use borrow.Author.Needs.{needs}
 use Rattle.tables.proofs.records.add_record.Statement.{statement}
@@ -83,7 +84,7 @@ same-length-3 c = search needs
 
 -- src/records.rt:60:1
 returns-3 : tie.Need-returns-3
-unfolding withRecord
+unfolding withRecord countWord
 returns-3 c =
     let l : recordCount (c .before .before .before .before .before .before .before .before .before .before .before .before .before .before .before .args .heap .now) < 64 = rw (c .before .before .before .before .before .before .before .before .before .before .before .before .before .record-count .ensures) at (c .before .before .before .before .before .before .before .before .before .before .before .before .if1 .left) in
     let p = back32 (c .before .before .before .before .before .before .word-of .result) (record { sfits = c .before .before .before .before .before .before .word-of .ok }) in

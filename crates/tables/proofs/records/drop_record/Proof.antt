@@ -4,6 +4,7 @@ use native.Mathlib.Omega.{arith}
 use borrow.Author.Tests.{lt-ltb, le-ltb, le-leb, lt-leb}
 use Rattle.words.proofs.Signed.{back32}
 use Rattle.words.proofs.Laws.{word-is}
+use Rattle.tables.specs.Sizes.{countWord}
 use Rattle.tables.specs.Records.{recordCount, withoutRecord}
 use borrow.Author.Needs.{needs}
 use Rattle.tables.proofs.records.drop_record.Statement.{statement}
@@ -75,7 +76,7 @@ same-length-3 c = search needs
 
 -- src/records.rt:77:1
 returns-3 : tie.Need-returns-3
-unfolding withoutRecord
+unfolding withoutRecord countWord
 returns-3 c =
     let l : 0 < recordCount (c .before .before .before .before .before .before .before .before .before .before .before .args .heap .now) = omega (arith, c .before .before .before .before .before .before .before .before .before .record-count .ensures, c .before .before .before .before .before .before .before .before .if1 .left) in
     let m : recordCount (c .before .before .before .before .before .before .before .before .before .before .before .args .heap .now) ≤ 64 = rw (c .before .before .before .before .before .before .before .before .before .record-count .ensures) at (c .before .before .before .before .before .before .before .if2 .left) in

@@ -4,6 +4,7 @@ use Prim.Native.Nat.{_-_, _≤_, _<_}
 use native.Mathlib.Omega.{arith}
 use lib.Dec.{eqb}
 use borrow.Author.Tests.{ne-eqb}
+use Rattle.tables.specs.Sizes.{fieldLocation}
 use Rattle.tables.specs.Records.{fieldCount, labelAt}
 use Rattle.tables.proofs.SearchLaws.{Seeking, seeking-starts, seeking-goes-on}
 use Rattle.tables.proofs.FindLaws.{field-in, find-hits, find-ends}
@@ -46,6 +47,7 @@ add-t10 c = omega (arith, field-in (c .before .before .before .before .before .a
 
 -- src/records.rt:52:13
 returns : tie.Need-returns Inv-loop μ-loop
+unfolding fieldLocation
 returns c = find-hits (c .before .before .before .before .before .args .heap .now) (c .before .before .before .before .before .args .r) (c .before .before .before .before .before .args .label) (c .before .before .before .loop .f) (c .before .before .before .loop .inv .1) (rw (c .before .before .before .loop .inv .0) at (c .before .before .loop-test .taken)) (sym (c .before .label-at .ensures) ∙ c .if1 .taken)
 
 -- src/records.rt:54:9

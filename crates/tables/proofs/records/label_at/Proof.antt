@@ -1,4 +1,5 @@
 use borrow.Author.Tests.{lt-ltb, le-ltb}
+use Rattle.tables.specs.Sizes.{labelWord}
 use Rattle.tables.specs.Records.{labelAt}
 use borrow.Author.Needs.{needs}
 use Rattle.tables.proofs.records.label_at.Statement.{statement}
@@ -39,7 +40,7 @@ number-at-requires c κs = search needs
 
 -- src/records.rt:32:1
 returns-3 : tie.Need-returns-3
-unfolding labelAt
+unfolding labelAt labelWord
 returns-3 c = rw (lt-ltb (c .before .before .before .args .r) 64 (c .before .before .if1 .left), lt-ltb (c .before .before .before .args .f) 8 (c .before .if2 .left)) (c .number-at .ensures)
 
 pub label-at-spec : {M : Type 1} → statement M

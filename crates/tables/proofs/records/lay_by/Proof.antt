@@ -2,6 +2,7 @@ use mathlib.Core.Path.{_≡_, sym, _∙_}
 use Prim.Native.Nat.{_<_, _≤_}
 use borrow.Author.Tests.{lt-ltb, le-ltb}
 use Rattle.words.proofs.Signed.{back32}
+use Rattle.tables.specs.Sizes.{countWord}
 use Rattle.tables.specs.Records.{recordCount, laidBy}
 use borrow.Author.Needs.{needs}
 use Rattle.tables.proofs.records.lay_by.Statement.{statement}
@@ -59,7 +60,7 @@ same-length-2 c = search needs
 
 -- src/records.rt:92:1
 returns-2 : tie.Need-returns-2
-unfolding laidBy
+unfolding laidBy countWord
 returns-2 c =
     let v = back32 (c .before .before .before .before .before .before .before .before .word-at .result) (record { sfits = c .before .before .before .before .before .before .before .before .word-at .ok }) in
     rw (lt-ltb _ 64 (rw (c .before .before .before .before .before .record-count .ensures) at (c .before .before .before .before .if1 .left))) (cc)

@@ -1,0 +1,5 @@
+pub mod CellFits
+pub mod FitLaws
+pub mod FitChanges
+pub mod RestLaws
+pub mod StartLaws

@@ -1,0 +1,5 @@
+pub mod Sizes
+pub mod Told
+pub mod Taking
+pub mod Tying
+pub mod Classing

@@ -1,0 +1,4 @@
+pub mod UndoLaws
+pub mod FormLaws
+pub mod ProposalLaws
+pub mod CodeClaims

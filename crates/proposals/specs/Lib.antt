@@ -1,0 +1,3 @@
+pub mod Told
+pub mod Undoing
+pub mod Claims
