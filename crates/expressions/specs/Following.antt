@@ -13,8 +13,10 @@ use Rattle.tables.specs.declared.Slot.{Slot}
 use Rattle.tables.specs.declared.Slot.the-variants.{Absent, Has}
 use Rattle.tables.specs.declared.Found.{Found}
 use Rattle.tables.specs.declared.Found.the-variants.{At, Nothing}
+use Rattle.tables.specs.Sizes.{variables}
 use Rattle.tables.specs.Cells.{Cells}
 use Rattle.tables.specs.Records.{fieldWith}
+use Rattle.program.specs.Forms.{mostSteps}
 use Rattle.rules.specs.State.{slotAt}
 use Rattle.rules.specs.Paths.{wayAt}
 use Rattle.expressions.specs.declared.Named.{Named}
@@ -59,7 +61,7 @@ onWay S (suc n) l p k on = goOn (stepTo S l (numberAt p 0)) (λ next. onWay S n 
 -- the words `on` with the prefix cells of the L at p
 unfoldable pub wayOn : Cells → List ℤ → List ℤ → List ℤ
 wayOn S p on =
-    cond (ltb (numberAt p 0) 64 && leb (numberAt (drop 1 p) 0) 7)
+    cond (ltb (numberAt p 0) variables && leb (numberAt (drop 1 p) 0) mostSteps)
     (onWay S (numberAt (drop 1 p) 0) (numberAt p 0) (drop 1 (drop 1 p)) 0 on)
     on
 

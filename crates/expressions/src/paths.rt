@@ -78,7 +78,7 @@ pub fn follow_on(environment: &[i32], heap: &[i32], p: &[i32], on: &mut [i32]) -
 pub fn value_at(environment: &[i32], heap: &[i32], p: &[i32]) -> Evaluated
     ensures { λ r. ⌜ r ≡ evaluatedOf (valueAt (cells (now (environment .entry)) (now (heap .entry))) (now (p .entry))) ⌝ }
 {
-    let mut on: [i32; 7] = [0; 7];
+    let mut on: [i32; program::MOST_STEPS] = [0; program::MOST_STEPS];
     match follow_on(environment, heap, p, &mut on) {
         Named::Cell(l, left) => {
             let slot = tables::cells::slot_of(tables::cells::read_cell(environment, heap, l));

@@ -219,11 +219,11 @@ fn row_at(p: &[i32], d: usize) -> Row
     if program::OPERATORS < o {
         return no_row(q.len());
     }
-    let r = words::part_from(q, 1);
+    let first = words::part_from(q, 1);
     Row {
         number: 0,
         operator: o,
-        left: r.len(),
+        left: first.len(),
         depth: d - 1,
     }
 }

@@ -36,7 +36,7 @@ fn run_begun(
     ensures { λ r. ⌜ Meets (tables (now (environment .exit)) (now (heap .exit)) (now (constraints .exit))) (now (answer .exit)) (lastOf r (now (proposals .entry))) (runBy (now (program .entry)) (now (proposals .entry)) budget (tables (now (environment .entry)) (now (heap .entry)) (now (constraints .entry)))) ⌝ }
 {
     let most = words::number(budget);
-    let t = blocks::run_all(program, environment, heap, constraints, proposals, most);
+    let t = block::run_all(program, environment, heap, constraints, proposals, most);
     if t.outcome == 0 {
         answer_with(answer, 0, program.len(), t.steps, t.accepted);
         return t.unread;

@@ -1,11 +1,11 @@
 use Rattle.phases.specs.Told.{tables}
-use Rattle.blocks.proofs.RunLaws.{starts, whole-is}
+use Rattle.block.proofs.RunLaws.{starts, whole-is}
 use borrow.Author.Needs.{needs}
-use Rattle.blocks.proofs.run_all.Statement.{statement}
-use Rattle.blocks.proofs.run_all.Tie as tie
-use Rattle.blocks.proofs.run_all.Reads as reads
-use Rattle.blocks.proofs.run_all.Lts as lts
-use Rattle.blocks.proofs.run_block.Reads as run-block-reads
+use Rattle.block.proofs.run_all.Statement.{statement}
+use Rattle.block.proofs.run_all.Tie as tie
+use Rattle.block.proofs.run_all.Reads as reads
+use Rattle.block.proofs.run_all.Lts as lts
+use Rattle.block.proofs.run_block.Reads as run-block-reads
 
 -- src/lib.rt:244:5
 run-block-requires : tie.Need-run-block-requires

@@ -36,7 +36,7 @@ use Rattle.lent.specs.Lending.{holdsBlocks, oneStatement, Steps}
 use Rattle.lent.proofs.TallyLaws.{halted, goes-from, goes-on, goes-ends, went-on, pay-one, pay-is, pay-goes}
 use Rattle.lent.proofs.LentLaws.{is-eight}
 use Rattle.lent.proofs.CodeClaims.{as-in-a-run}
-use Rattle.blocks.proofs.TestLaws.{Forgets, then-untold, then-forgets, paid-forgets, turns-forget, turn-forgets, statements-forget, block-forgets}
+use Rattle.block.proofs.TestLaws.{Forgets, then-untold, then-forgets, paid-forgets, turns-forget, turn-forgets, statements-forget, block-forgets}
 
 -- the tables keep their lengths
 pub record SameLengths (e₀ h₀ c₀ e h c : List ℤ) : Type 0 where

@@ -5,23 +5,23 @@ use borrow.Author.Needs.{needs}
 use borrow.Author.Tests.{not-true, not-false}
 use Rattle.expressions.specs.declared.Tested.the-variants.{Is}
 use Rattle.phases.specs.Told.{tables}
-use Rattle.blocks.proofs.RunLaws.{past-test, past-block, block-deep, block-long, Row, row-starts, row-halts, row-quits, row-goes-on, row-ends, if-refused, if-first, if-second}
-use Rattle.blocks.proofs.RunLaws.{Turning, turning-starts, turning-refused, turning-quits, turning-halts, turning-broke, turning-less, turning-again, statement-simple, statement-begins, statement-broke, statement-if, statement-while}
+use Rattle.block.proofs.RunLaws.{past-test, past-block, block-deep, block-long, Row, row-starts, row-halts, row-quits, row-goes-on, row-ends, if-refused, if-first, if-second}
+use Rattle.block.proofs.RunLaws.{Turning, turning-starts, turning-refused, turning-quits, turning-halts, turning-broke, turning-less, turning-again, statement-simple, statement-begins, statement-broke, statement-if, statement-while}
 use Prim.Native.Nat.{ℕ, _<_}
 use borrow.Fn.Kinds.{In}
 use borrow.Fn.PlainCycle.{Measures, is, falls, and}
-use Rattle.blocks.proofs.run_block.Reads as run-block
-use Rattle.blocks.proofs.run_block.Kinds as run-block-kinds
-use Rattle.blocks.proofs.+run_block+run_if+run_statement+run_while.Lts-run_block as run-block-lts
-use Rattle.blocks.proofs.run_if.Reads as run-if
-use Rattle.blocks.proofs.run_if.Kinds as run-if-kinds
-use Rattle.blocks.proofs.+run_block+run_if+run_statement+run_while.Lts-run_if as run-if-lts
-use Rattle.blocks.proofs.run_statement.Reads as run-statement
-use Rattle.blocks.proofs.run_statement.Kinds as run-statement-kinds
-use Rattle.blocks.proofs.+run_block+run_if+run_statement+run_while.Lts-run_statement as run-statement-lts
-use Rattle.blocks.proofs.run_while.Reads as run-while
-use Rattle.blocks.proofs.run_while.Kinds as run-while-kinds
-use Rattle.blocks.proofs.+run_block+run_if+run_statement+run_while.Lts-run_while as run-while-lts
+use Rattle.block.proofs.run_block.Reads as run-block
+use Rattle.block.proofs.run_block.Kinds as run-block-kinds
+use Rattle.block.proofs.+run_block+run_if+run_statement+run_while.Lts-run_block as run-block-lts
+use Rattle.block.proofs.run_if.Reads as run-if
+use Rattle.block.proofs.run_if.Kinds as run-if-kinds
+use Rattle.block.proofs.+run_block+run_if+run_statement+run_while.Lts-run_if as run-if-lts
+use Rattle.block.proofs.run_statement.Reads as run-statement
+use Rattle.block.proofs.run_statement.Kinds as run-statement-kinds
+use Rattle.block.proofs.+run_block+run_if+run_statement+run_while.Lts-run_statement as run-statement-lts
+use Rattle.block.proofs.run_while.Reads as run-while
+use Rattle.block.proofs.run_while.Kinds as run-while-kinds
+use Rattle.block.proofs.+run_block+run_if+run_statement+run_while.Lts-run_while as run-while-lts
 use Rattle.expressions.proofs.testing.test_at.Reads as test-at-reads
 use Rattle.lent.proofs.counting.ended.Reads as ended-reads
 use Rattle.lent.proofs.counting.pay.Reads as pay-reads
@@ -34,8 +34,8 @@ use Rattle.words.proofs.less.Reads as less-reads
 use Rattle.words.proofs.number_at.Reads as number-at-reads
 use Rattle.words.proofs.part_from.Reads as part-from-reads
 use Rattle.words.proofs.part_last.Reads as part-last-reads
-use Rattle.blocks.proofs.+run_block+run_if+run_statement+run_while.{statement}
-use Rattle.blocks.proofs.+run_block+run_if+run_statement+run_while.Tie.{close}
+use Rattle.block.proofs.+run_block+run_if+run_statement+run_while.{statement}
+use Rattle.block.proofs.+run_block+run_if+run_statement+run_while.Tie.{close}
 
 abbrev μ-run-block : Measures 6 run-block-kinds.ps ℕ
 μ-run-block κs a = 3 * a .1 .1 .1 .1 .1 .1 .1 .0
