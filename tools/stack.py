@@ -23,7 +23,7 @@ NESTING = {
     "mark_statement": 9,
     "read_expression": 17,
     "evaluate_at": 17,
-    "judge_at": 17,
+    "operand": 17,
 }
 # More than this fails.
 MOST = 65536
