@@ -22,9 +22,10 @@ use Rattle.rules.specs.State.{State, Fault, Res}
 use Rattle.rules.specs.Statements.{positionOf}
 use Rattle.rules.specs.Running.{Out, on, thenOut, paid, noted, test, tested, turns, pastTest, doVerb, doStatement, doStatements, doBlock}
 use Rattle.rules.specs.Running.{Tally as Carries}
-use Rattle.rules.proofs.Refusals.{test-not}
+use Rattle.rules.proofs.RefusalLaws.{refusal-least, test-refuses}
 use Rattle.rules.proofs.RunningClauses.{tested-true, tested-false, tested-stop, turns-more}
 use Rattle.rules.proofs.RunningClauses.{verb-branch, verb-loop, statement-is, statements-none, statements-more, block-none, block-unfit, block-is}
+use Rattle.proposals.proofs.FormLaws.{unlike}
 use Rattle.expressions.specs.declared.Tested.{Tested}
 use Rattle.expressions.specs.declared.Tested.the-variants.{Is, Fails}
 use Rattle.expressions.specs.Judging.{testedOf}
@@ -140,19 +141,16 @@ module _ {program p ws e₀ h₀ c₀ e h c : List ℤ} {budget d n : ℕ} {t u 
 
 -- ---- how a test comes out
 
-untested : {A : Type 0} → _≡_ {A = ℕ} 0 1 → A
-untested e = absurd (omega arith)
-
 module _ {g : Tested} (m : Res Bool) (k : g ≡ testedOf m) where
   is-got : {b : Bool} → g ≡ Is b → m ≡ got b
   is-got {b} h = by m (sym k ∙ h)
     where
       by : (x : Res Bool) → testedOf x ≡ Is b → x ≡ got b
       by (got y) e = cc
-      by (stop f) e = untested cc
+      by (stop f) e = unlike cc
 
   is-stop : {A : Type 0} {n w : ℕ} → g ≡ Fails n w → ((f : Fault) → m ≡ stop f → f .number ≡ n → A) → A
-  is-stop {A} {n} {w} h x = either m (λ b e. untested (let y : Is b ≡ Fails n w = sym (rw e at k) ∙ h in cc)) (λ f e. x f e (let y : Fails (f .number) (f .word) ≡ Fails n w = sym (rw e at k) ∙ h in cc))
+  is-stop {A} {n} {w} h x = either m (λ b e. unlike (let y : Is b ≡ Fails n w = sym (rw e at k) ∙ h in cc)) (λ f e. x f e (let y : Fails (f .number) (f .word) ≡ Fails n w = sym (rw e at k) ∙ h in cc))
 
 -- ---- an if
 
@@ -166,7 +164,7 @@ module _ (program : List ℤ) (budget : ℕ) (p ws : List ℤ) (S : State) (t : 
 
     pub if-refused : {number word place : ℕ} {r : Tally} → Begins ws t → place ≡ positionOf program p → g ≡ Fails number word → r ≡ endedAt number place t → Goes ws t S r If
     if-refused b l h x = is-stop (test (S .cells) q) k h λ f e n.
-        goes-ends b (omega arith) (λ z. let y = test-not (S .cells) q f e in omega arith) x (rw (l, ← n) (ap untoldOut (sym (tested-stop (positionOf program p) (carries ws S t) f _ _) ∙ (rw e at if-is))))
+        goes-ends b (omega arith) (λ z. let y = refusal-least (test-refuses (S .cells) q .bad f e) in omega arith) x (rw (l, ← n) (ap untoldOut (sym (tested-stop (positionOf program p) (carries ws S t) f _ _) ∙ (rw e at if-is))))
 
     pub if-first : {Z : State} {r : Tally} {first : List ℤ} → g ≡ Is true → first ≡ pastTest p → Goes ws t Z r (doBlock d program budget first (carries ws S t)) → Goes ws t Z r If
     if-first h l x =
@@ -222,7 +220,7 @@ module _ {program p ws e₀ h₀ c₀ e h c q body : List ℤ} {budget d place :
 
     pub turning-refused : {number word : ℕ} {r : Tally} → g ≡ Fails number word → r ≡ endedAt number place u → Goes ws t (tables e h c) r While
     turning-refused a y = is-stop (test (cells e h) q) k a λ f x n.
-        goes-ends (inv .begins) (inv .grows) (λ z. let m = test-not (cells e h) q f x in omega arith) y (rw (← n) (ap untoldOut (sym (tested-stop place (carries ws (tables e h c) u) f _ _)) ∙ (rw x at turn)))
+        goes-ends (inv .begins) (inv .grows) (λ z. let m = refusal-least (test-refuses (cells e h) q .bad f x) in omega arith) y (rw (← n) (ap untoldOut (sym (tested-stop place (carries ws (tables e h c) u) f _ _)) ∙ (rw x at turn)))
 
     pub turning-quits : g ≡ Is false → Goes ws t (tables e h c) u While
     turning-quits a =

@@ -3,7 +3,6 @@ use mathlib.Core.Path.{_≡_, refl, sym, ap, _∙_}
 use mathlib.Core.Bool.{false}
 use mathlib.Core.List.{List}
 use Prim.Native.Nat.{ℕ, zero, suc, _≤_}
-use native.Mathlib.Omega.{arith}
 use native.Mathlib.Decide.{ℕ-discrete, decLe}
 use lib.IntN.{ℤ}
 use lib.ListN.{length}
@@ -15,6 +14,7 @@ use Rattle.rules.specs.Statements.{positionOf}
 use Rattle.rules.specs.Running.{Out, on, end, thenOut, paid, doVerb, doBlock}
 use Rattle.rules.specs.Running.{Tally as Carries}
 use Rattle.rules.proofs.RunningClauses.{statement-is}
+use Rattle.proposals.proofs.FormLaws.{unlike}
 use Rattle.lent.specs.declared.Tally.{Tally}
 use Rattle.lent.specs.Tallied.{carries, outBy, Begins}
 use Rattle.lent.specs.Lending.{holdsBlocks}
@@ -38,9 +38,6 @@ as-in-a-run block past program budget p u h =
 
 -- ---- one answer
 
-never : {A : Type 0} → _≡_ {A = ℕ} 0 1 → A
-never e = absurd (omega arith)
-
 -- what is told of a tally tells its outcome, its place where it has ended, and what it carries
 pub record SameOut (n m k l : ℕ) (u v : Carries) : Type 0 where
   pub outcome : n ≡ m
@@ -49,8 +46,8 @@ pub record SameOut (n m k l : ℕ) (u v : Carries) : Type 0 where
 
 same-out : (n m k l : ℕ) (u v : Carries) → outBy n k u ≡ outBy m l v → SameOut n m k l u v
 same-out zero zero k l u v e = record { outcome = refl; place = λ h. absurd (h refl); carried = cc }
-same-out zero (suc m) k l u v e = never cc
-same-out (suc n) zero k l u v e = never cc
+same-out zero (suc m) k l u v e = unlike cc
+same-out (suc n) zero k l u v e = unlike cc
 same-out (suc n) (suc m) k l u v e = record { outcome = cc; place = λ _. cc; carried = cc }
 
 same-tally : (r r′ : Tally) → r .steps ≡ r′ .steps → r .accepted ≡ r′ .accepted → r .unread ≡ r′ .unread → r .outcome ≡ r′ .outcome → r .place ≡ r′ .place → r ≡ r′

@@ -21,7 +21,7 @@ use Rattle.rules.specs.Running.{Out, thenOut, taken, doVerb, doBlock}
 use Rattle.rules.specs.Running.{Tally as Carries}
 use Rattle.rules.proofs.SimpleLaws.{steps-iff}
 use Rattle.rules.proofs.CountLaws.{Takes, steps-take}
-use Rattle.rules.proofs.Refusals.{simple-not}
+use Rattle.rules.proofs.RefusalLaws.{refusal-least, simple-refuses}
 use Rattle.rules.proofs.RunningClauses.{is-skip, is-assign, is-new, is-always, is-once, is-always-same, is-once-same}
 use Rattle.rules.proofs.RunningClauses.{taken-got, taken-stop, verb-simple, verb-none, statement-is}
 use Rattle.phases.specs.declared.Done.{Done}
@@ -138,7 +138,7 @@ module _ (program : List ℤ) (budget : ℕ) (p ws : List ℤ) (S : State) {t : 
               goes-on (record { few = few-one (y .few); inside = z .short; going = refl; nowhere = refl }) (pay-goes budget place k S b .grows)
               (rw (z .is) (ap untoldOut (sym (taken-got (positionOf program p) (carries ws S u) x) ∙ (rw q at simple-is))))
           by (stop f) q =
-              goes-ends (went-on (pay-goes budget place k S b) n) (pay-goes budget place k S b .grows) (λ z. let y = simple-not program p S unread (verbOf (numberAt p 0)) f q in omega arith) refl
+              goes-ends (went-on (pay-goes budget place k S b) n) (pay-goes budget place k S b .grows) (λ z. let y = refusal-least (simple-refuses program p S unread (verbOf (numberAt p 0)) .bad f q) in omega arith) refl
               (ap untoldOut (sym (taken-stop (positionOf program p) (carries ws S u) f) ∙ (rw q at simple-is)))
 
 -- ---- a tally that a run carries, and one that none does

@@ -21,11 +21,12 @@ use Rattle.program.specs.Forms.{required}
 use Rattle.rules.specs.State.{Res, refused}
 use Rattle.rules.specs.Evaluation.{at}
 use Rattle.rules.specs.Constraints.{Part, counted, allHold, requiredHold}
-use Rattle.rules.specs.Proposals.{Entry, entries, proposal, mayTake, isTarget, entryFits, entriesFit, applied, none?, Asked, settle}
-use Rattle.rules.specs.Conditions.{Each, none as no-each, more as and-each, Rising, none as no-rising, more as rises, wordsOf, Formed, Allowed, Satisfied, Met, Needed, Acceptable, Judged, accepted, failed, Fails, no-words, not-formed, not-allowed, not-needed, not-met}
+use Rattle.rules.specs.Proposals.{Entry, entries, proposal, mayTake, isTarget, entryFits, entriesFit, putEntry, applied, none?, Asked, settle}
+use Rattle.rules.specs.Conditions.{Each, none as no-each, more as and-each, Puts, no-entry, entry, Rising, none as no-rising, more as rises, wordsOf, Formed, Allowed, Satisfied, Met, Needed, Acceptable, Judged, accepted, failed, Fails, no-words, not-formed, not-allowed, not-needed, not-met}
 use Rattle.rules.specs.Claims.Acceptance.{AcceptedExactly, RefusedExactly, EveryJudged}
 use Rattle.rules.proofs.EffectLaws.{takes-other, kind-takes, entry-kind, entry-free, applied-near, entries-rise, settled}
 use Rattle.rules.proofs.NearLaws.{counted-again}
+use Rattle.rules.proofs.CountedLaws.{counted-iff}
 
 true≢false {ℓ} : {X : Type ℓ} {b : Bool} → b ≡ true → b ≡ false → X
 true≢false t f = absurd (let z : _≡_ {A = ℕ} 0 1 = cc in omega arith)
@@ -155,6 +156,21 @@ proposal-none : proposal [] ≡ stop 6
 unfolding proposal
 proposal-none = refl
 
+-- ---- the entries put
+
+puts-sound : (S : Cells) (es : List Entry) → Puts S es (applied S es)
+unfolding applied putEntry
+puts-sound S [] = no-entry
+puts-sound S (e ∷ es) = entry (puts-sound (putEntry S e) es)
+
+puts-as : (S Z : Cells) (es : List Entry) → Z ≡ applied S es → Puts S es Z
+puts-as S Z es e = rw e (puts-sound S es)
+
+puts-is : {S Z : Cells} {es : List Entry} → Puts S es Z → applied S es ≡ Z
+unfolding applied putEntry
+puts-is no-entry = refl
+puts-is (entry p) = puts-is p
+
 -- ---- the verdict
 
 -- what settle comes to: accepted, or refused at the statement's word with the number of what fails first
@@ -180,9 +196,10 @@ module _ (program kept : List ℤ) (asked : Asked) (word : List ℤ) (S : Cells)
     last : entriesFit S (asked .target) es ≡ true → Needed before es → Verdict program kept asked word S before ws (ending program kept asked word S before ws (es, rest))
     last fits need =
         let again = counted-again asked S (applied S es) (applied-near asked S es sized (formed .rising) fits) program kept (asked .own) before read in
+        let reads-as = counted-iff program (applied S es) kept (asked .own) (again .parts) .0 in
         rw (again .is) (cases (requiredHold (again .parts))
-        (λ c. rw c (accepts (record { es = es; formed = formed; allowed = allowed-iff S (asked .target) es .0 fits; needed = need; is = refl; after = again .parts; reads = again .is; met = met-iff (again .parts) .0 c })))
-        (λ c. rw c (refuses (not-met formed (allowed-iff S (asked .target) es .0 fits) need (again .is) (λ m. true≢false (met-iff (again .parts) .1 m) c)))))
+        (λ c. rw c (accepts (record { es = es; formed = formed; allowed = allowed-iff S (asked .target) es .0 fits; needed = need; puts = puts-sound S es; after = again .parts; reads = reads-as (again .is); met = met-iff (again .parts) .0 c })))
+        (λ c. rw c (refuses (not-met formed (allowed-iff S (asked .target) es .0 fits) need (puts-sound S es) (reads-as (again .is)) (λ m. true≢false (met-iff (again .parts) .1 m) c)))))
 
     judged : Verdict program kept asked word S before ws (judging program kept asked word S before ws (es, rest))
     judged = cases (entriesFit S (asked .target) es)
@@ -217,8 +234,8 @@ module _ (program kept : List ℤ) (asked : Asked) (word : List ℤ) (S : Cells)
       from (not-allowed {es} {rest} f a) = rw (formed-iff ws es rest .1 f, fails (entriesFit S (asked .target) es) (λ t. a (allowed-iff S (asked .target) es .0 t)))
       from (not-needed {es} {rest} f a n) =
           rw (formed-iff ws es rest .1 f, allowed-iff S (asked .target) es .1 a, fails (not (allHold before) || none? es) (λ t. n (needed-iff before es .0 t)))
-      from (not-met {es} {rest} {after} f a n r m) =
-          rw (formed-iff ws es rest .1 f, allowed-iff S (asked .target) es .1 a, needed-iff before es .1 n, r, fails (requiredHold after) (λ t. m (met-iff after .0 t)))
+      from (not-met {es} {rest} {Z} {after} f a n z r m) =
+          rw (formed-iff ws es rest .1 f, allowed-iff S (asked .target) es .1 a, needed-iff before es .1 n, puts-is z, counted-iff program Z kept (asked .own) after .1 r, fails (requiredHold after) (λ t. m (met-iff after .0 t)))
 
 -- a proposal is accepted exactly when it is acceptable
 pub accepted-iff : AcceptedExactly
@@ -233,16 +250,16 @@ accepted-iff program kept asked word S before ws Z rest read room = (to, from)
           formed = formed-iff ws (s .es) rest .0 (s .proposed);
           allowed = allowed-iff S (asked .target) (s .es) .0 (s .fits);
           needed = needed-iff before (s .es) .0 (rw q at (s .needed));
-          is = s .is;
+          puts = puts-as S Z (s .es) (s .is);
           after = s .after;
-          reads = s .still;
+          reads = counted-iff program Z kept (asked .own) (s .after) .0 (s .still);
           met = met-iff (s .after) .0 (s .met);
         }
 
     from : Acceptable program kept asked S before ws Z rest → settle program kept asked word S ws ≡ got (Z, rest)
     from a =
         settle-is program kept asked word S before ws read room ∙
-        rw (formed-iff ws (a .es) rest .1 (a .formed), allowed-iff S (asked .target) (a .es) .1 (a .allowed), needed-iff before (a .es) .1 (a .needed), ← a .is, a .reads, met-iff (a .after) .1 (a .met))
+        rw (formed-iff ws (a .es) rest .1 (a .formed), allowed-iff S (asked .target) (a .es) .1 (a .allowed), needed-iff before (a .es) .1 (a .needed), puts-is (a .puts), counted-iff program Z kept (asked .own) (a .after) .1 (a .reads), met-iff (a .after) .1 (a .met))
 
 -- and it is refused with a number exactly when that number's condition is the first to fail
 pub refused-iff : RefusedExactly

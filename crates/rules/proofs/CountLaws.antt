@@ -38,7 +38,7 @@ pub record Takes (ws : List ℤ) (l : Left) : Type 0 where
 pub steps-take : {program p ws : List ℤ} {S : State} {verb : Verb} {l : Left} → Steps program p S ws verb l → Takes ws l
 steps-take {ws = ws} s-skip = record { part = part-refl ws; few = omega arith }
 steps-take (s-assign v w i s) = record { part = settles-part s; few = omega arith }
-steps-take (s-new a b c d i s) = record { part = settles-part s; few = omega arith }
+steps-take (s-new e a b c d i s) = record { part = settles-part s; few = omega arith }
 steps-take (s-once s) = record { part = settles-part s; few = omega arith }
 steps-take (s-always s r) = record { part = steps-take s .part; few = omega arith }
 steps-take {ws = ws} (s-once-identity a b c d e) = record { part = part-refl ws; few = omega arith }

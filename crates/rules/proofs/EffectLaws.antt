@@ -30,6 +30,7 @@ use Rattle.rules.specs.Proposals.{Entry, entries, proposal, mayTake, isT
 use Rattle.rules.proofs.WordSteps.{at-got}
 use Rattle.rules.specs.Conditions.{Rising, none as no-more, more}
 use Rattle.rules.specs.Effects.{OfKind, a-boolean, an-integer, Moved, unmoved, another, Effect}
+use Rattle.rules.specs.Structure.{AlikeCell, Same}
 use Rattle.rules.specs.Claims.Effect.{ProposalsMove}
 
 -- ---- what an entry may be
@@ -228,3 +229,21 @@ module _ (program kept : List ℤ) (asked : Asked) (word : List ℤ) (S : Cells)
 -- an accepted proposal moves nothing but payloads of booleans and integers, each to one of its kind, and not the target
 pub proposals-move : ProposalsMove
 proposals-move program kept asked word S ws Z rest z e = settle-near program kept asked word S ws Z rest e z .effect
+
+-- ---- what a proposal leaves has the structure of what was there
+
+moved-alike : {c d : Cell} → Moved c d → AlikeCell c d
+moved-alike unmoved = record { kind = refl; payload = λ m n. refl }
+moved-alike (another k) = record { kind = refl; payload = λ m n. absurd (changes k m n) }
+  where
+    changes : {c : Cell} {n : ℤ} → OfKind c n → (numberOf (c .kind) ≡ 2 → ⊥) → (numberOf (c .kind) ≡ 3 → ⊥) → ⊥
+    changes (a-boolean b) m n = m refl
+    changes an-integer m n = n refl
+
+pub effect-same : {asked : Asked} {S Z : Cells} → Effect asked S Z → Same S Z
+effect-same e = record {
+  alike = λ l. moved-alike (e .cells l);
+  labels = λ r f b. sym (e .labels r f);
+  fields = λ r. sym (e .fields r);
+  records = sym (e .records);
+}

@@ -55,13 +55,14 @@ Fine P G m = Ends G (λ f. P (f .number)) m
 abbrev pub Any : {A : Type 0} → A → Type 0
 Any a = Unit {0}
 
+-- what comes from below, with the equation of its answer
 module _ {A : Type 0} (P : ℕ → Type 0) where
-  pub fine-refused : {E : Type 0} (n : ℕ) (p : List ℤ) (m : Answer E A) → P n → Fine P Any (orRefuse n p m)
-  fine-refused n p (got a) s = ends-got tt
+  pub fine-refused : {E : Type 0} (n : ℕ) (p : List ℤ) (m : Answer E A) → P n → Fine P (λ a. m ≡ got a) (orRefuse n p m)
+  fine-refused n p (got a) s = ends-got refl
   fine-refused n p (stop e) s = ends-stop s
 
-  pub fine-reads : (m : Reading A) → P 2 → Fine P Any (reads m)
-  fine-reads (got a) s = ends-got tt
+  pub fine-reads : (m : Reading A) → P 2 → Fine P (λ a. m ≡ got a) (reads m)
+  fine-reads (got a) s = ends-got refl
   fine-reads (stop e) s = ends-stop s
 
   pub fine-at : {G : A → Type 0} (p : List ℤ) (m : Answer ℕ A) → Ends G P m → Fine P G (at p m)

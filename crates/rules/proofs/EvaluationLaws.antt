@@ -1,22 +1,18 @@
 -- The definition `evaluate` and the paper's E-rules say the same. Assumes nothing.
-use mathlib.Core.Path.{_≡_, sym, ap, _∙_}
+use mathlib.Core.Path.{_≡_, _∙_}
 use mathlib.Core.Logic.{_≢_, _↔_}
-use mathlib.Core.Bool.{true, false}
 use mathlib.Core.List.{List, _∷_}
 use Prim.Native.Nat.{ℕ, zero, suc, _<_, _≤_}
 use native.Mathlib.Omega.{arith}
 use lib.IntN.{ℤ, pos}
 use lib.ListN.{drop}
-use Rattle.words.specs.Words.{numberAt, eqZ}
+use Rattle.words.specs.Words.{numberAt}
 use Rattle.words.specs.Answer.{got}
 use Rattle.words.proofs.AnswerLaws.{got-inj, stop≢got, step}
-use Rattle.words.proofs.Laws.{number-first, eqZ-refl, eqZ-true}
+use Rattle.words.proofs.Laws.{number-first}
 use Rattle.tables.specs.declared.Value.{Value}
-use Rattle.tables.specs.Values.{cell, cellOf, slotOf, Sound}
 use Rattle.tables.specs.Cells.{Cells}
-use Rattle.tables.specs.declared.Slot.the-variants.{Has}
-use Rattle.tables.proofs.SearchLaws.{cases, and-left, and-right, and-true}
-use Rattle.tables.proofs.ValueLaws.{slot-of-cell}
+use Rattle.tables.proofs.SearchLaws.{cases}
 use Rattle.program.specs.Forms.{operators, Form, aNil, aFalse, aTrue, anInteger, aPath, anOperation, anIdentity, noForm, formOf}
 use Rattle.program.specs.Reading.{anyWord}
 use Rattle.program.proofs.NumberLaws.{number-of, any-fits}
@@ -24,40 +20,11 @@ use Rattle.program.proofs.FormLaws.{numberOfForm}
 use Rattle.rules.specs.State.{Res, reads}
 use Rattle.rules.specs.Paths.{valueAt}
 use Rattle.rules.specs.Evaluation.{opOf, apply, at, same, evaluateForm, evaluate}
+use Rattle.rules.specs.OperatorRules.{Makes}
 use Rattle.rules.specs.EvaluationRules.{Evaluates, e-nil, e-false, e-true, e-integer, e-path, e-operation, e-same, e-differ, depth, Within}
 use Rattle.rules.proofs.WordSteps.{at-got, by-number, by-word, form-words, form-is, apart}
 use Rattle.rules.proofs.NameLaws.{holds-sound, holds-complete}
-
--- ---- kind and payload
-
-module _ (a b : Value) where
-  pub same-true : same a b ≡ true → cellOf a ≡ cellOf b
-  unfolding same
-  same-true e =
-      let k : cellOf a .kind ≡ cellOf b .kind = eqZ-true _ _ (and-left (eqZ (cellOf a .kind) (cellOf b .kind)) _ e) in
-      let v : cellOf a .payload ≡ cellOf b .payload = eqZ-true _ _ (and-right (eqZ (cellOf a .kind) (cellOf b .kind)) _ e) in
-      let c : cell (cellOf a .kind) (cellOf a .payload) ≡ cell (cellOf b .kind) (cellOf b .payload) = cc in
-      c
-
-  pub cell-same : cellOf a ≡ cellOf b → same a b ≡ true
-  unfolding same
-  cell-same e =
-      rw e (and-true (eqZ (cellOf b .kind) (cellOf b .kind)) (eqZ (cellOf b .payload) (cellOf b .payload)) (eqZ-refl (cellOf b .kind)) (eqZ-refl (cellOf b .payload)))
-
-  pub same-false : same a b ≡ false → cellOf a ≢ cellOf b
-  same-false e q =
-      let c : true ≡ false = sym (cell-same q) ∙ e in
-      let z : _≡_ {A = ℕ} 0 1 = cc in
-      omega arith
-
-  pub cell-differs : cellOf a ≢ cellOf b → same a b ≡ false
-  cell-differs h = cases (same a b) (λ e. absurd (h (same-true e))) (λ e. e)
-
-  -- of values that a cell can hold: kind and payload are the same exactly where the value is
-  pub same-value : Sound a → Sound b → cellOf a ≡ cellOf b → a ≡ b
-  same-value x y e =
-      let q : Has a ≡ Has b = sym (slot-of-cell a x) ∙ ap slotOf e ∙ slot-of-cell b y in
-      cc
+use Rattle.rules.proofs.OperatorLaws.{same-true, cell-same, same-false, cell-differs, makes-sound, makes-operator, makes-complete}
 
 -- ---- what the definition answers, the rules derive
 
@@ -78,12 +45,12 @@ module _ (S : Cells) (d : ℕ) (go : List ℤ → Res (Value × List ℤ)) (ih :
       step (go q) _ k λ y e2 k2.
       step (go (y .1)) _ k2 λ z e3 k3.
       step (at (pos 25 ∷ p) (apply (opOf o) (y .0) (z .0))) _ k3 λ v e4 k4.
-      operation o q a b s y z v (ih q y e2) (ih (y .1) z e3) (at-got (pos 25 ∷ p) (apply (opOf o) (y .0) (z .0)) e4) (got-inj k4)
+      operation o q s y z v (ih q y e2) (ih (y .1) z e3) (makes-sound v (y .0) (z .0) o a b (at-got (pos 25 ∷ p) (apply (opOf o) (y .0) (z .0)) e4)) (got-inj k4)
     where
-      operation : (o : ℕ) (q : List ℤ) → 1 ≤ o → o ≤ operators → p ≡ pos o ∷ q → (y z : Value × List ℤ) (v : Value)
-          → Within S d q (y .0) (y .1) → Within S d (y .1) (z .0) (z .1) → apply (opOf o) (y .0) (z .0) ≡ got v → (v, z .1) ≡ x
+      operation : (o : ℕ) (q : List ℤ) → p ≡ pos o ∷ q → (y z : Value × List ℤ) (v : Value)
+          → Within S d q (y .0) (y .1) → Within S d (y .1) (z .0) (z .1) → Makes o (y .0) (z .0) v → (v, z .1) ≡ x
           → Within S (suc d) (pos 25 ∷ p) (x .0) (x .1)
-      operation o q a b s y z v l r e4 i = rw (s, ← i) (record { rule = e-operation a b (l .rule) (r .rule) e4; deep = omega (arith, l .deep, r .deep) })
+      operation o q s y z v l r m i = rw (s, ← i) (record { rule = e-operation (l .rule) (r .rule) m; deep = omega (arith, l .deep, r .deep) })
   form-sound anIdentity p x e =
       step (valueAt S p) _ e λ y e1 k1.
       step (valueAt S (y .1)) _ k1 λ z e2 k2.
@@ -111,7 +78,7 @@ deep-pos e-false = omega arith
 deep-pos e-true = omega arith
 deep-pos e-integer = omega arith
 deep-pos (e-path h) = omega arith
-deep-pos (e-operation a b l r e) = omega arith
+deep-pos (e-operation l r m) = omega arith
 deep-pos (e-same h k e) = omega arith
 deep-pos (e-differ h k e) = omega arith
 
@@ -129,9 +96,9 @@ evaluate-complete {S} (suc d) (e-false {p = p}) h = evaluate-opens S d aFalse p 
 evaluate-complete {S} (suc d) (e-true {p = p}) h = evaluate-opens S d aTrue p (apart λ z. omega arith)
 evaluate-complete {S} (suc d) (e-integer {w = w} {p = p}) h = evaluate-opens S d anInteger (w ∷ p) (apart λ z. omega arith) ∙ rw (any-fits (w ∷ p) (omega arith))
 evaluate-complete {S} (suc d) (e-path {p = p} k) h = evaluate-opens S d aPath p (apart λ z. omega arith) ∙ holds-complete S k
-evaluate-complete {S} (suc d) (e-operation {o = o} {p = p} a b l r e) h =
+evaluate-complete {S} (suc d) (e-operation {o = o} {p = p} l r m) h =
     evaluate-opens S d anOperation (pos o ∷ p) (apart λ z. omega arith)
-    ∙ rw (number-of 1 operators o p a b, evaluate-complete d l (omega arith), evaluate-complete d r (omega arith), e)
+    ∙ rw (number-of 1 operators o p (makes-operator m .0) (makes-operator m .1), evaluate-complete d l (omega arith), evaluate-complete d r (omega arith), makes-complete m)
 evaluate-complete {S} (suc d) (e-same {a = a} {b = b} {p = p} k l e) h =
     evaluate-opens S d anIdentity p (apart λ z. omega arith) ∙ rw (holds-complete S k, holds-complete S l, cell-same a b e)
 evaluate-complete {S} (suc d) (e-differ {a = a} {b = b} {p = p} k l e) h =

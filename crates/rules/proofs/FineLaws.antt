@@ -44,24 +44,24 @@ module _ (P : ℕ → Type 0) where
   unfolding ranged
   ranged-fine nine z = ends-want 9 (fits z) _ nine λ c. ends-got tt
 
-  made-fine : P 8 → P 9 → (o : Op) (a b : Value) → Ends Any P (made o a b)
+  pub made-fine : (o : Op) → (o ≡ noOp → P 8) → P 9 → (a b : Value) → Ends Any P (made o a b)
   unfolding made
-  made-fine eight nine add a b = ranged-fine nine _
-  made-fine eight nine sub a b = ranged-fine nine _
-  made-fine eight nine mul a b = ranged-fine nine _
-  made-fine eight nine lt a b = ends-got tt
-  made-fine eight nine le a b = ends-got tt
-  made-fine eight nine eq a b = ends-got tt
-  made-fine eight nine ne a b = ends-got tt
-  made-fine eight nine ge a b = ends-got tt
-  made-fine eight nine gt a b = ends-got tt
-  made-fine eight nine and a b = ends-got tt
-  made-fine eight nine or a b = ends-got tt
-  made-fine eight nine noOp a b = ends-stop eight
+  made-fine add eight nine a b = ranged-fine nine _
+  made-fine sub eight nine a b = ranged-fine nine _
+  made-fine mul eight nine a b = ranged-fine nine _
+  made-fine lt eight nine a b = ends-got tt
+  made-fine le eight nine a b = ends-got tt
+  made-fine eq eight nine a b = ends-got tt
+  made-fine ne eight nine a b = ends-got tt
+  made-fine ge eight nine a b = ends-got tt
+  made-fine gt eight nine a b = ends-got tt
+  made-fine and eight nine a b = ends-got tt
+  made-fine or eight nine a b = ends-got tt
+  made-fine noOp eight nine a b = ends-stop (eight refl)
 
   pub apply-fine : P 8 → P 9 → (o : Op) (a b : Value) → Ends Any P (apply o a b)
   unfolding apply
-  apply-fine eight nine o a b = ends-want 8 (takes o (kindOf a) (kindOf b)) _ eight λ c. made-fine eight nine o a b
+  apply-fine eight nine o a b = ends-want 8 (takes o (kindOf a) (kindOf b)) _ eight λ c. made-fine o (λ q. eight) nine a b
 
   -- ---- identities
 

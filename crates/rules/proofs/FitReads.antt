@@ -26,6 +26,7 @@ use Rattle.rules.specs.EvaluationRules.{Evaluates, e-nil, e-false, e-tru
 use Rattle.rules.specs.EvaluationRules.{HasKind, t-nil, t-false, t-true, t-integer, t-path, t-operation, kindDepth, KindWithin}
 use Rattle.rules.specs.ConstraintRules.{PartReads, PartsRead, ConstraintReads}
 use Rattle.rules.proofs.NameLaws.{names-iff}
+use Rattle.rules.proofs.OperatorLaws.{makes-operator, gives-operator}
 use Rattle.rules.proofs.EvaluationLaws.{deep-pos, evaluate-sound}
 use Rattle.rules.proofs.TypingLaws.{kind-deep-pos, kind-sound}
 
@@ -56,8 +57,8 @@ module _ (S : Cells) (fit : Fit S) where
   value-take (suc d) e-true h = takes-word refl (takes-none refl Expression.yes)
   value-take (suc d) e-integer h = takes-word refl (takes-word refl (takes-none refl Expression.integer))
   value-take (suc d) (e-path k) h = takes-word refl (takes-as (holds-take k) λ a x. Expression.at x)
-  value-take (suc d) (e-operation a b l r e) h =
-      takes-word refl (takes-word refl (takes-two (value-take d l (omega arith)) (value-take d r (omega arith)) λ x y f g. Expression.operation a b f g))
+  value-take (suc d) (e-operation l r m) h =
+      takes-word refl (takes-word refl (takes-two (value-take d l (omega arith)) (value-take d r (omega arith)) λ x y f g. Expression.operation (makes-operator m .0) (makes-operator m .1) f g))
   value-take (suc d) (e-same k l e) h = takes-word refl (takes-two (holds-take k) (holds-take l) λ a b x y. Expression.identity refl x y)
   value-take (suc d) (e-differ k l e) h = takes-word refl (takes-two (holds-take k) (holds-take l) λ a b x y. Expression.identity refl x y)
 
@@ -68,8 +69,8 @@ module _ (S : Cells) (fit : Fit S) where
   kind-take (suc d) t-true h = takes-word refl (takes-none refl Expression.yes)
   kind-take (suc d) t-integer h = takes-word refl (takes-word refl (takes-none refl Expression.integer))
   kind-take (suc d) (t-path k) h = takes-word refl (takes-as (holds-take k) λ a x. Expression.at x)
-  kind-take (suc d) (t-operation a b l r e) h =
-      takes-word refl (takes-word refl (takes-two (kind-take d l (omega arith)) (kind-take d r (omega arith)) λ x y f g. Expression.operation a b f g))
+  kind-take (suc d) (t-operation l r t) h =
+      takes-word refl (takes-word refl (takes-two (kind-take d l (omega arith)) (kind-take d r (omega arith)) λ x y f g. Expression.operation (gives-operator t .0) (gives-operator t .1) f g))
 
   parts-take : {m : ℕ} {p q : List ℤ} → PartsRead S m p q → Takes (Parts m) p q
   parts-take PartsRead.none = takes-none refl Parts.none

@@ -27,20 +27,25 @@ use Rattle.rules.specs.Identities.{isNode, sameNow}
 use Rattle.rules.specs.Proposals.{Asked, settle}
 use Rattle.rules.specs.Statements.{Left, positionOf, hasRoom, doConstraint, doIdentity}
 use Rattle.rules.specs.Conditions.{Each, none as no-each, more, Met}
+use Rattle.rules.specs.Structure.{nils, truths, ints, refs}
 use Rattle.rules.specs.Holds.{ValueHolds, IdentityHolds, Holds}
 use Rattle.rules.proofs.WordSteps.{or-got}
-use Rattle.rules.proofs.EffectLaws.{Near, settled, settle-near}
-use Rattle.rules.proofs.NearLaws.{Shifted, stays, truth, int, slot-shifted, way-same, fifteen-got}
+use Rattle.rules.proofs.EffectLaws.{Near, settled, settle-near, effect-same}
+use Rattle.rules.proofs.Structure.{AlikeSlot, absents, held}
+use Rattle.rules.proofs.SamePaths.{slot-same, way-same}
+use Rattle.rules.proofs.NearLaws.{fifteen-got}
 use Rattle.rules.proofs.AcceptanceLaws.{met-iff}
 use Rattle.rules.proofs.KeepLaws.{each-head, each-tail, kept-length, kept-other, kept-each, kept-stand}
 
 -- ---- an identity after a proposal
 
-node-stays : {s z : Slot} {v : Value} → Shifted s z → present s ≡ got v → isNode v ≡ true → present z ≡ got v
+node-stays : {s z : Slot} {v : Value} → AlikeSlot s z → present s ≡ got v → isNode v ≡ true → present z ≡ got v
 unfolding isNode
-node-stays stays e n = e
-node-stays (truth {a}) e n = let q : Truth a ≡ _ = got-inj e in let f : false ≡ true = rw (← q) at n in cc
-node-stays (int {a}) e n = let q : Int a ≡ _ = got-inj e in let f : false ≡ true = rw (← q) at n in cc
+node-stays absents e n = e
+node-stays (held nils) e n = e
+node-stays (held refs) e n = e
+node-stays (held (truths {a = a})) e n = let q : Truth a ≡ _ = got-inj e in let f : false ≡ true = rw (← q) at n in cc
+node-stays (held (ints {a = a})) e n = let q : Int a ≡ _ = got-inj e in let f : false ≡ true = rw (← q) at n in cc
 
 module _ (asked : Asked) (S Z : Cells) (near : Near asked S Z) where
   node-again : (p : List ℤ) (x : Value × List ℤ) → valueAt S p ≡ got x → isNode (x .0) ≡ true → valueAt Z p ≡ got x
@@ -49,7 +54,7 @@ module _ (asked : Asked) (S Z : Cells) (near : Near asked S Z) where
       step (wayAt S p) _ e λ w e1 k1.
       step (orRefuse 7 p (present (slotAt S (w .cell)))) _ k1 λ v e2 k2.
       let q : v ≡ x .0 = ap (λ (y : Value × List ℤ). y .0) (got-inj k2) in
-      rw (way-same asked S Z near p, e1, node-stays (slot-shifted asked S Z near (w .cell)) (or-got 7 p (present (slotAt S (w .cell))) e2) (rw q n)) k2
+      rw (sym (way-same S Z (effect-same (near .effect)) p), e1, node-stays (slot-same S Z (effect-same (near .effect)) (w .cell)) (or-got 7 p (present (slotAt S (w .cell))) e2) (rw q n)) k2
 
   -- an identity that holds before a proposal holds after it
   pub same-again : (word p : List ℤ) → sameNow S word p ≡ got tt → sameNow Z word p ≡ got tt

@@ -22,7 +22,8 @@ use Rattle.rules.specs.Evaluation.{same, evaluateForm, evaluate}
 use Rattle.rules.specs.EvaluationRules.{Holds, holds, OneValue, TwoValues, e-same, e-differ}
 use Rattle.rules.proofs.WordSteps.{apart}
 use Rattle.rules.proofs.NameLaws.{holds-sound}
-use Rattle.rules.proofs.EvaluationLaws.{same-true, same-false, same-value, evaluate-opens, evaluate-complete}
+use Rattle.rules.proofs.OperatorLaws.{same-true, same-false, same-value}
+use Rattle.rules.proofs.EvaluationLaws.{evaluate-opens, evaluate-complete}
 
 module _ (S : Cells) (fit : Fit S) where
   -- what a cell of fit tables holds is a value that a cell can hold

@@ -57,6 +57,12 @@ positions-iff P c s = (
 
 -- ---- a position more
 
+pub same-sort : (t s : Sort) → Dec (t ≡ s)
+same-sort Values Values = yes refl
+same-sort Values Identities = no (λ q. let z : _≡_ {A = ℕ} 0 1 = cc in omega arith)
+same-sort Identities Values = no (λ q. let z : _≡_ {A = ℕ} 0 1 = cc in omega arith)
+same-sort Identities Identities = yes refl
+
 module _ (c : List ℤ) (s : Sort) (p : ℕ) where
   pub kept-length : length (keep c s p) ≡ length c
   unfolding keep
@@ -100,12 +106,6 @@ module _ (c : List ℤ) (s : Sort) (p : ℕ) where
           λ t i h. all t (same-sort t s) k i h,
         )))
       where
-        same-sort : (t s : Sort) → Dec (t ≡ s)
-        same-sort Values Values = yes refl
-        same-sort Values Identities = no (λ q. let z : _≡_ {A = ℕ} 0 1 = cc in omega arith)
-        same-sort Identities Values = no (λ q. let z : _≡_ {A = ℕ} 0 1 = cc in omega arith)
-        same-sort Identities Identities = yes refl
-
         old : (t : Sort) → Each (λ n. isAlways program t n ≡ true) (positions c t)
         old t = positions-iff (λ n. isAlways program t n ≡ true) c t .1 (stand-iff program c .0 e .1 t)
 

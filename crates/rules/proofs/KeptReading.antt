@@ -31,7 +31,7 @@ use Rattle.rules.specs.Reaching.{refusals}
 use Rattle.rules.specs.Statements.{Left, positionOf, hasRoom, keep, doSimple}
 use Rattle.rules.specs.Running.{Tally, test}
 use Rattle.rules.specs.StatementRules.{Steps, s-skip, s-assign, s-new, s-once, s-always, s-once-identity, s-always-identity}
-use Rattle.rules.proofs.SimpleLaws.{once-same, steps-iff}
+use Rattle.rules.proofs.SimpleLaws.{keeps-room, keeps-is, once-same, steps-iff}
 use Rattle.rules.proofs.EndLaws.{ends-got, ends-any, Fine, Any}
 use Rattle.rules.proofs.FineLaws.{Judged, assign-fine, new-fine, constraint-fine, identity-fine}
 use Rattle.rules.proofs.PlaceLaws.{verbIn}
@@ -49,11 +49,11 @@ pub data Keeping (program p : List ℤ) (S : State) (c : List ℤ) : Type 0 wher
 pub steps-keep : {program p ws : List ℤ} {S : State} {verb : Verb} {l : Left} → Steps program p S ws verb l → Keeping program p S (l .state .kept)
 steps-keep s-skip = unchanged refl
 steps-keep (s-assign v w i s) = unchanged refl
-steps-keep (s-new a b c d i s) = unchanged refl
+steps-keep (s-new e a b c d i s) = unchanged refl
 steps-keep (s-once s) = unchanged refl
-steps-keep (s-always s r) = value refl
+steps-keep (s-always s k) = value (sym (keeps-is k))
 steps-keep (s-once-identity a b c d e) = unchanged refl
-steps-keep {program = program} {p = p} {ws = ws} {S = S} (s-always-identity s r) = identity (once-same program p S ws _ s) r refl
+steps-keep {program = program} {p = p} {ws = ws} {S = S} (s-always-identity s k) = identity (once-same program p S ws _ s) (keeps-room k) (sym (keeps-is k))
 
 -- ---- the outcomes of a verb
 

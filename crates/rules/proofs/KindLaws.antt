@@ -24,9 +24,9 @@ use Rattle.rules.specs.Evaluation.{takes, gives, at, ranged, made, apply
 use Rattle.rules.specs.Constraints.{satisfies}
 use Rattle.rules.specs.EvaluationRules.{ComesTo, value, range}
 use Rattle.rules.proofs.WordSteps.{at-got}
-use Rattle.rules.proofs.Outcomes.{Ends, ends-got, ends-then, ends-at}
+use Rattle.rules.proofs.EndLaws.{ends-got, ends-then, Fine, fine-at}
 use Rattle.rules.proofs.TypingLaws.{wanted}
-use Rattle.rules.proofs.RestLaws.{made-stops}
+use Rattle.rules.proofs.FineLaws.{made-fine}
 
 -- ---- operators
 
@@ -64,13 +64,13 @@ module _ (o : Op) (a b : Value) (t : takes o (kindOf a) (kindOf b) ≡ true) whe
 
   apply-nine : (n : ℕ) → apply o a b ≡ stop n → n ≡ 9
   unfolding apply
-  apply-nine n e = made-stops (λ m. m ≡ 9) o a b (some-op o (kindOf a) (kindOf b) t) refl (rw t at e)
+  apply-nine n e = made-fine (λ m. m ≡ 9) o (some-op o (kindOf a) (kindOf b) t) refl a b .bad n (rw t at e)
 
 -- ---- expressions
 
 -- a value of the kind k with q after it, or refusal 9
 abbrev pub OfKind : Kind → List ℤ → Res (Value × List ℤ) → Type 0
-OfKind k q m = Ends (λ (y : Value × List ℤ). (kindOf (y .0) ≡ k) × (y .1 ≡ q)) (λ n. n ≡ 9) m
+OfKind k q m = Fine (λ n. n ≡ 9) (λ (y : Value × List ℤ). (kindOf (y .0) ≡ k) × (y .1 ≡ q)) m
 
 module _ (S : Cells) (go : List ℤ → Res (Value × List ℤ)) (ko : List ℤ → Res (Kind × List ℤ))
     (ih : (q : List ℤ) (x : Kind × List ℤ) → ko q ≡ got x → OfKind (x .0) (x .1) (go q)) where
@@ -91,7 +91,7 @@ module _ (S : Cells) (go : List ℤ → Res (Value × List ℤ)) (ko : List ℤ 
       rw (i .1)
       (ends-then (go (a .1)) _ (ih (a .1) b e3) λ z j.
       let t : takes (opOf (o .0)) (kindOf (y .0)) (kindOf (z .0)) ≡ true = rw (i .0, j .0) (wanted (takes (opOf (o .0)) (a .0) (b .0)) (at-got p (want 8 (takes (opOf (o .0)) (a .0) (b .0))) e4)) in
-      ends-then (at p (apply (opOf (o .0)) (y .0) (z .0))) _ (ends-at p (apply (opOf (o .0)) (y .0) (z .0)) (apply-nine (opOf (o .0)) (y .0) (z .0) t)) λ v l.
+      ends-then (at p (apply (opOf (o .0)) (y .0) (z .0))) _ (fine-at (λ n. n ≡ 9) p (apply (opOf (o .0)) (y .0) (z .0)) (record { good = λ a e. e; bad = apply-nine (opOf (o .0)) (y .0) (z .0) t })) λ v l.
       ends-got (apply-kind (opOf (o .0)) (y .0) (z .0) t l, j .1)))
   form-kinds anIdentity p x e = stop≢got e
   form-kinds noForm p x e = stop≢got e

@@ -1,10 +1,11 @@
 pub mod Sheets
 pub mod WordSteps
 pub mod NameLaws
+pub mod OperatorLaws
 pub mod EvaluationLaws
-pub mod Outcomes
+pub mod EndLaws
 pub mod TypingLaws
-pub mod RestLaws
+pub mod FineLaws
 pub mod KindLaws
 pub mod PartLaws
 pub mod IdentityValues
@@ -29,10 +30,10 @@ pub mod SamePhases
 pub mod SameRecords
 pub mod SameStatements
 pub mod SameRuns
-pub mod Refusals
 pub mod OneStructure
 pub mod EffectLaws
 pub mod NearLaws
+pub mod CountedLaws
 pub mod AcceptanceLaws
 pub mod KeepLaws
 pub mod HoldLaws
@@ -42,6 +43,7 @@ pub mod NewHolds
 pub mod SpotLaws
 pub mod WalkLaws
 pub mod Holding
+pub mod RoomLaws
 pub mod PathClauses
 pub mod OperatorClauses
 pub mod EvaluateClauses
@@ -49,8 +51,6 @@ pub mod ProposalLaws
 pub mod SimpleLaws
 pub mod OutLaws
 pub mod StatementLaws
-pub mod EndLaws
-pub mod FineLaws
 pub mod RefusalLaws
 pub mod PlaceLaws
 pub mod CarryLaws

@@ -3,7 +3,7 @@
 use mathlib.Core.Path.{_≡_, refl, sym, ap, subst, _∙_}
 use mathlib.Core.Bool.{Bool, true, false}
 use mathlib.Core.List.{List, [], _∷_, _++_, append-assoc}
-use Prim.Native.Nat.{ℕ, zero, suc, _+_, _*_, _≤_, _<_}
+use Prim.Native.Nat.{ℕ, zero, suc, _+_, _≤_, _<_}
 use native.Mathlib.Omega.{arith}
 use borrow.Author.Tests.{ltb-true}
 use lib.Dec.{ltb}
@@ -39,7 +39,8 @@ use Rattle.rules.specs.Identities.{identityPhase}
 use Rattle.rules.specs.IdentityRules.{by-variable, with-record}
 use Rattle.rules.specs.Statements.{Left, fieldWords, doNew}
 use Rattle.rules.specs.Holds.{Holds}
-use Rattle.rules.proofs.RestLaws.{evaluate-rest}
+use Rattle.rules.proofs.EndLaws.{Any}
+use Rattle.rules.proofs.ReadingLaws.{evaluate-reads}
 use Rattle.rules.proofs.HoldLaws.{half-of}
 use Rattle.rules.proofs.PhaseHolds.{phase-half}
 use Rattle.rules.proofs.SpotLaws.{append-part}
@@ -136,7 +137,7 @@ module _ (S : Cells) (fit : Fit S) (N : ℕ) (p q : List ℤ) (reads : readField
       let here : number 0 31 (pos l ∷ (x ++ (ys ++ q))) ≡ got (l, x ++ (ys ++ q)) = number-of 0 31 l (x ++ (ys ++ q)) (omega arith) (omega arith) in
       step (evaluate expressionDepth S (x ++ (ys ++ q))) _ (rw here at k) λ v e1 k1.
       step (fieldWords n S (v .1)) _ k1 λ more e2 k2.
-      let t : v .1 ≡ ys ++ q = evaluate-rest S (x ++ (ys ++ q)) (ys ++ q) expressionDepth false r e1 in
+      let t : v .1 ≡ ys ++ q = evaluate-reads Any tt tt S tt c (ys ++ q) .good v e1 in
       rw (← got-inj k2) (more-rows (wordAt (S .heap) 0) marks (inv .long) l (v .0) more n a (rw w at fresh)
       (there-fits S fit (v .0) (evaluate-there S fit expressionDepth (x ++ (ys ++ q)) v e1))
       (field-rows d (i + 1) (set marks l true) more (omega arith) (part-trans part' (part-trans (part-drop 1 (pos l ∷ (x ++ (ys ++ q)))) (append-part x (ys ++ q)))) (rw w at next) (rw t at e2)))

@@ -8,8 +8,8 @@ use mathlib.Core.List.{List, _∷_, _++_, append-assoc}
 use lib.IntN.{ℤ, pos}
 use lib.ListN.{drop, getD}
 use Rattle.words.specs.Words.{numberAt}
-use Rattle.words.specs.Answer.{Answer, got, stop, want}
-use Rattle.words.proofs.AnswerLaws.{got-inj, stop≢got, step}
+use Rattle.words.specs.Answer.{got, want}
+use Rattle.words.proofs.AnswerLaws.{got-inj, step}
 use Rattle.words.proofs.Laws.{number-first}
 use Rattle.tables.specs.declared.Value.{Value}
 use Rattle.tables.specs.Sizes.{variables, labels}
@@ -30,6 +30,7 @@ use Rattle.rules.specs.Constraints.{partAt, partsAt, constraintAt}
 use Rattle.rules.specs.Identities.{isNode, sameNow, tieAt, tiesOf}
 use Rattle.rules.specs.Statements.{fieldWords}
 use Rattle.rules.specs.Running.{test}
+use Rattle.rules.proofs.WordSteps.{reads-got}
 use Rattle.rules.proofs.EndLaws.{ends-got, ends-then, ends-on, ends-want, ends-test, ends-any, Fine, Any, fine-refused, fine-at}
 use Rattle.rules.proofs.FineLaws.{apply-fine}
 use Rattle.rules.proofs.PlaceLaws.{told-apart}
@@ -75,10 +76,6 @@ module _ (P : ℕ → Type 0) (seven : P 7) (S : Cells) where
       ends-then (orRefuse 7 p (present (slotAt S (w .cell)))) _ (fine-refused P 7 p (present (slotAt S (w .cell))) seven) λ v u. ends-got e
 
 module _ (S : Cells) where
-  reads-was : {A : Type 0} (m : Answer (List ℤ) A) {a : A} → reads m ≡ got a → m ≡ got a
-  reads-was (got b) e = ap got (got-inj e)
-  reads-was (stop q) e = stop≢got e
-
   -- a path whose value was found reads
   value-was : (p : List ℤ) {v : Value × List ℤ} → valueAt S p ≡ got v → PathAt p (v .1)
   unfolding valueAt wayAt
@@ -93,8 +90,8 @@ module _ (S : Cells) where
         steps = n .0;
         middle = x .1;
         labels = n .1;
-        first = reads-was (number 0 (variables - 1) p) a;
-        second = reads-was (number 0 mostSteps (x .1)) b;
+        first = reads-got (number 0 (variables - 1) p) a;
+        second = reads-got (number 0 mostSteps (x .1)) b;
         rest = ap (λ (u : Way). u .rest) (got-inj k5) ∙ ap (λ (u : Value × List ℤ). u .1) (got-inj k2);
       }
 

@@ -200,8 +200,8 @@ simple-refuses program p S ws skip = ends-got tt
 simple-refuses program p S ws assign =
     assign-fine Refusal judged program p S ws (told (omega arith) (omega arith)) (told (omega arith) (omega arith)) (evaluate-refuses (S .cells) expressionDepth _) (way-refuses (S .cells) (drop 1 p)) (ties-refuse (S .cells) program _)
 simple-refuses program p S ws new =
-    new-fine Refusal judged program p S ws (told (omega arith) (omega arith)) (told (omega arith) (omega arith)) (fine-reads Refusal (number 0 (variables - 1) (drop 1 p)) two)
-    (λ x e. fine-reads Refusal (number 0 mostFields (x .1)) two) (λ x e n f. fields-refuse (S .cells) (n .0) (n .1)) (ties-refuse (S .cells) program _)
+    new-fine Refusal judged program p S ws (told (omega arith) (omega arith)) (told (omega arith) (omega arith)) (ends-any (fine-reads Refusal (number 0 (variables - 1) (drop 1 p)) two))
+    (λ x e. ends-any (fine-reads Refusal (number 0 mostFields (x .1)) two)) (λ x e n f. fields-refuse (S .cells) (n .0) (n .1)) (ties-refuse (S .cells) program _)
 simple-refuses program p S ws always = constraint-fine Refusal judged program p S ws (λ Z. constraint-refuses Z (drop 1 p)) true (λ e. told (omega arith) (omega arith))
 simple-refuses program p S ws once = constraint-fine Refusal judged program p S ws (λ Z. constraint-refuses Z (drop 1 p)) false (λ e. told (omega arith) (omega arith))
 simple-refuses program p S ws alwaysSame = identity-fine Refusal program p S ws (same-refuses (S .cells) p (drop 1 p)) true (λ e. told (omega arith) (omega arith))

@@ -6,7 +6,7 @@ use Prim.Native.Nat.{ℕ, zero, suc, _+_, _-_}
 use lib.IntN.{ℤ}
 use lib.ListN.{drop}
 use Rattle.words.specs.Words.{numberAt}
-use Rattle.words.specs.Answer.{got, stop, _>>=_, _>>_}
+use Rattle.words.specs.Answer.{got, stop, _>>=_}
 use Rattle.words.proofs.AnswerLaws.{either, bind-cong}
 use Rattle.tables.specs.declared.Value.{Value}
 use Rattle.tables.specs.declared.Slot.{Slot}
@@ -52,7 +52,8 @@ both-kind (answers a) = rw (alike-kind a)
 both-kind refuses = refl
 
 module _ (S Z : Cells) (s : Same S Z) where
-  slot-same : (l : ℕ) → AlikeSlot (slotAt S l) (slotAt Z l)
+  -- a cell holds alike values in both
+  pub slot-same : (l : ℕ) → AlikeSlot (slotAt S l) (slotAt Z l)
   unfolding slotAt
   slot-same l = slots-alike (cellAt S l) (cellAt Z l) (s .alike l)
 

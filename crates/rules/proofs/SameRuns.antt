@@ -3,7 +3,7 @@
 use mathlib.Core.Path.{_≡_, refl, sym, ap, _∙_}
 use mathlib.Core.Bool.{Bool, true, false}
 use mathlib.Core.List.{List, [], _∷_, _++_, append-assoc}
-use Prim.Native.Nat.{ℕ, zero, suc, _+_, _-_}
+use Prim.Native.Nat.{ℕ, zero, suc}
 use native.Mathlib.Omega.{arith}
 use lib.Dec.{ltb}
 use lib.IntN.{ℤ}
@@ -19,19 +19,8 @@ use Rattle.rules.specs.State.{State, Res}
 use Rattle.rules.specs.Statements.{Left, positionOf, doSimple}
 use Rattle.rules.specs.Running.{Tally, Out, on, end, thenOut, paid, taken, noted, test, tested, turns, pastTest, doVerb, doStatement, doStatements, doBlock}
 use Rattle.rules.specs.Structure.{SameState}
+use Rattle.rules.proofs.OutLaws.{end≢on, on-inj, then-on}
 use Rattle.rules.proofs.SameStatements.{Simple, simple}
-
--- ---- taking a run apart
-
-pub end≢on {ℓ} : {X : Type ℓ} {n place : ℕ} {t u : Tally} → end n place t ≡ on u → X
-end≢on e = absurd (let z : _≡_ {A = ℕ} 0 1 = cc in omega arith)
-
-pub on-inj : {t u : Tally} → on t ≡ on u → t ≡ u
-on-inj e = cc
-
-stepOut {ℓ} : {X : Type ℓ} {t : Tally} (o : Out) (f : Tally → Out) → thenOut o f ≡ on t → ((m : Tally) → o ≡ on m → f m ≡ on t → X) → X
-stepOut (on m) f e k = k m refl e
-stepOut (end n place m) f e k = end≢on e
 
 -- ---- two runs
 
@@ -75,15 +64,15 @@ compat-back {t} {u} a b c = record {
 }
 
 then-grows : (f g : Tally → Out) → Grows f → Grows g → Grows (λ t. thenOut (f t) g)
-then-grows f g a b t t' e = stepOut (f t) g e λ m e1 e2. grown-trans (a t m e1) (b m t' e2)
+then-grows f g a b t t' e = then-on (f t) g e λ m e1 e2. grown-trans (a t m e1) (b m t' e2)
 
 then-good : (f f' g g' : Tally → Out) → Good f f' → Good g g' → Good (λ t. thenOut (f t) g) (λ t. thenOut (f' t) g')
 then-good f f' g g' a b = record {
   grows = then-grows f g (a .grows) (b .grows);
   grows' = then-grows f' g' (a .grows') (b .grows');
   two = λ t u t' u' r e h c.
-      stepOut (f t) g e λ m e1 e2.
-      stepOut (f' u) g' h λ n h1 h2.
+      then-on (f t) g e λ m e1 e2.
+      then-on (f' u) g' h λ n h1 h2.
       b .two m n t' u' (a .two t u m n r e1 h1 (compat-back (b .grows m t' e2) (b .grows' n u' h2) c)) e2 h2 c;
 }
 

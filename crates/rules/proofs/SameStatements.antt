@@ -1,6 +1,6 @@
 -- Two accepted runs of a statement that holds no block, from states of one structure, leave states of one structure.
 -- Assumes nothing.
-use mathlib.Core.Path.{_≡_, refl, sym, ap, _∙_}
+use mathlib.Core.Path.{_≡_, refl, sym, _∙_}
 use mathlib.Core.Bool.{Bool, true, false, cond}
 use mathlib.Core.List.{List, []}
 use mathlib.Core.Option.{none, some}
@@ -9,7 +9,7 @@ use borrow.Author.Tests.{ltb-true}
 use lib.Dec.{ltb}
 use lib.IntN.{ℤ}
 use lib.ListN.{drop}
-use Rattle.words.specs.Answer.{got, stop}
+use Rattle.words.specs.Answer.{got}
 use Rattle.words.proofs.AnswerLaws.{stop≢got, got-inj, step, step-on, tested}
 use Rattle.tables.specs.declared.Value.the-variants.{Ref}
 use Rattle.tables.specs.declared.Sort.the-variants.{Values, Identities}
@@ -17,7 +17,7 @@ use Rattle.tables.specs.Sizes.{variables, mostFields, mostRecords}
 use Rattle.tables.specs.Cells.{Cells, cells, Sized}
 use Rattle.tables.specs.Records.{recordCount, withRecord}
 use Rattle.program.specs.Forms.{expressionDepth, Verb, skip, assign, new, always, once, alwaysSame, onceSame, branch, loop, noVerb}
-use Rattle.program.specs.Reading.{Reading, number, readPath, after}
+use Rattle.program.specs.Reading.{number, readPath, after}
 use Rattle.program.proofs.NumberLaws.{number-read}
 use Rattle.rules.specs.State.{State, Res, refused, reads}
 use Rattle.rules.specs.Paths.{wayAt}
@@ -27,6 +27,7 @@ use Rattle.rules.specs.Proposals.{Asked, settle}
 use Rattle.rules.specs.Statements.{Left, positionOf, hasRoom, keep, valuePhase, doAssign, fieldWords, doNew, doConstraint, doIdentity, doSimple}
 use Rattle.rules.specs.Structure.{Same, SameState, Alike, refs}
 use Rattle.rules.proofs.Structure.{same-sym, same-trans}
+use Rattle.rules.proofs.WordSteps.{reads-got}
 use Rattle.rules.proofs.SamePaths.{way-same}
 use Rattle.rules.proofs.SameValues.{Near, evaluate-near}
 use Rattle.rules.proofs.SamePhases.{phase-sized, phase-same, Settled, settle-same}
@@ -102,10 +103,6 @@ constraint-simple keeps program p = record {
 -- the tables with one record more
 abbrev grown : State → List ℤ → ℕ → Cells
 grown S fs n = cells (S .cells .environment) (withRecord (S .cells .heap) fs n)
-
-reads-got : {A : Type 0} {a : A} (m : Reading A) → reads m ≡ got a → m ≡ got a
-reads-got (got b) e = ap got (got-inj e)
-reads-got (stop q) e = stop≢got e
 
 few-fields : (q : List ℤ) (n : ℕ × List ℤ) → reads (number 0 mostFields q) ≡ got n → n .0 ≤ 8
 few-fields q n e = number-read 0 mostFields q (reads-got (number 0 mostFields q) e) .most

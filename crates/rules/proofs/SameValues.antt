@@ -1,6 +1,6 @@
 -- Expressions have alike values in two states of one structure, where both answer.
 -- Assumes nothing.
-use mathlib.Core.Path.{_≡_, refl, sym, ap, _∙_}
+use mathlib.Core.Path.{_≡_, refl, sym, _∙_}
 use mathlib.Core.Bool.{Bool}
 use mathlib.Core.List.{List}
 use Prim.Native.Nat.{ℕ, zero, suc}
@@ -8,7 +8,7 @@ use lib.IntN.{ℤ}
 use lib.ListN.{drop}
 use Rattle.words.specs.Words.{numberAt}
 use Rattle.words.specs.Range.{fits}
-use Rattle.words.specs.Answer.{Answer, got, stop}
+use Rattle.words.specs.Answer.{Answer, got}
 use Rattle.words.proofs.AnswerLaws.{stop≢got, got-inj, step, tested}
 use Rattle.tables.specs.declared.Value.{Value}
 use Rattle.tables.specs.declared.Value.the-variants.{Bool as Truth}
@@ -19,6 +19,7 @@ use Rattle.rules.specs.State.{Res, reads}
 use Rattle.rules.specs.Paths.{valueAt}
 use Rattle.rules.specs.Evaluation.{Op, add, sub, mul, lt, le, eq, ne, ge, gt, and, or, noOp, opOf, takes, kindOf, ranged, made, apply, at, evaluateForm, evaluate}
 use Rattle.rules.specs.Structure.{Same, Alike, nils, truths, ints}
+use Rattle.rules.proofs.WordSteps.{at-got}
 use Rattle.rules.proofs.SamePaths.{Both, answers, refuses, value-both}
 
 -- two answers: alike values, with the same part after them
@@ -30,10 +31,6 @@ both-near (answers a) e g = rw (← got-inj e, ← got-inj g) (a, refl)
 both-near refuses e g = stop≢got e
 
 -- ---- operators
-
-at-got : {A : Type 0} {a : A} (p : List ℤ) (m : Answer ℕ A) → at p m ≡ got a → m ≡ got a
-at-got p (got b) e = ap got (got-inj e)
-at-got p (stop n) e = stop≢got e
 
 ranged-both : (y z : ℤ) {v w : Value} → ranged y ≡ got v → ranged z ≡ got w → Alike v w
 unfolding ranged

@@ -20,14 +20,16 @@ use Rattle.rules.specs.State.{refused}
 use Rattle.rules.specs.Evaluation.{aBool, kindOf, boolOf, evaluate}
 use Rattle.rules.specs.Statements.{Left, positionOf, doSimple}
 use Rattle.rules.specs.Running.{Tally, Out, on, oneMore, paid, leaves, taken, noted, test, tested as testedOut, turns, pastTest, doVerb, doStatement, doStatements, doBlock}
+use Rattle.rules.specs.EvaluationRules.{Within}
 use Rattle.rules.specs.StatementRules.{Code, block, statements, statement, turning}
 use Rattle.rules.specs.StatementRules.{Runs, r-block, r-none, r-some, r-simple, r-then, r-else, r-while, r-stop, r-go}
 use Rattle.rules.proofs.OutLaws.{end≢on, on-inj, then-on, paid-on, pays, taken-on, tested-on}
+use Rattle.rules.proofs.EvaluationLaws.{evaluate-iff}
 use Rattle.rules.proofs.SimpleLaws.{steps-iff}
 
 -- ---- "If, while test a boolean": a test is an expression whose value is true or false
 
-test-was {ℓ} : {X : Type ℓ} (S : Cells) (p : List ℤ) (b : Bool) → test S p ≡ got b → ((r : List ℤ) → evaluate expressionDepth S p ≡ got (Truth b, r) → X) → X
+test-was {ℓ} : {X : Type ℓ} (S : Cells) (p : List ℤ) (b : Bool) → test S p ≡ got b → ((r : List ℤ) → Within S expressionDepth p (Truth b) r → X) → X
 unfolding test
 test-was {X = X} S p b e k =
     step (evaluate expressionDepth S p) _ e λ v a k1.
@@ -36,13 +38,13 @@ test-was {X = X} S p b e k =
   where
     go : (v : Value) (r : List ℤ) → evaluate expressionDepth S p ≡ got (v, r) → aBool (kindOf v) ≡ true → boolOf v ≡ b → X
     go Nil r a c q = absurd (true≢false (sym c))
-    go (Truth x) r a c q = k r (rw q at a)
+    go (Truth x) r a c q = k r (evaluate-iff expressionDepth S p (Truth b) r .0 (rw q at a))
     go (Int n) r a c q = absurd (true≢false (sym c))
     go (Ref n) r a c q = absurd (true≢false (sym c))
 
-test-is : (S : Cells) (p : List ℤ) (b : Bool) (r : List ℤ) → evaluate expressionDepth S p ≡ got (Truth b, r) → test S p ≡ got b
+test-is : (S : Cells) (p : List ℤ) (b : Bool) (r : List ℤ) → Within S expressionDepth p (Truth b) r → test S p ≡ got b
 unfolding test
-test-is S p b r e = rw e
+test-is S p b r e = rw (evaluate-iff expressionDepth S p (Truth b) r .1 e)
 
 module _ (program : List ℤ) (budget : ℕ) where
   -- ---- what came through followed the rules

@@ -1,31 +1,25 @@
 -- One structure: an equivalence; what cells hold, and which field has a label, depend on it only.
 -- Assumes nothing.
 use mathlib.Core.Path.{_≡_, refl, sym, _∙_}
-use mathlib.Core.Bool.{Bool, true, false, cond}
-use mathlib.Core.List.{List}
 use Prim.Native.Nat.{ℕ, zero, suc, _+_, _<_}
 use native.Mathlib.Omega.{arith}
 use native.Mathlib.Decide.{decLt, ℕ-discrete}
 use borrow.Author.Tests.{eqb-true}
 use lib.Dec.{eqb}
-use lib.IntN.{ℤ, pos}
-use lib.ListN.{length}
-use Rattle.words.specs.Words.{numberOf, eqZ}
+use lib.IntN.{pos}
+use Rattle.words.specs.Words.{numberOf}
 use Rattle.tables.specs.declared.Cell.{Cell}
 use Rattle.tables.specs.declared.Value.{Value}
 use Rattle.tables.specs.declared.Value.the-variants.{Nil, Bool as Truth, Int, Ref}
 use Rattle.tables.specs.declared.Slot.{Slot}
 use Rattle.tables.specs.declared.Slot.the-variants.{Absent, Has}
-use Rattle.tables.specs.Sizes.{environmentWords, heapWords}
 use Rattle.tables.specs.Values.{cell, cellOf, slotOf}
 use Rattle.tables.specs.Cells.{Cells, cellAt, putCell, Sized}
 use Rattle.tables.specs.Records.{fieldCount, labelAt, fieldWith}
-use Rattle.fit.specs.Fit.{sized}
 use Rattle.tables.proofs.SearchLaws.{cases, Seeking, seeking-starts, seeking-goes-on}
 use Rattle.tables.proofs.FindLaws.{field-in, find-hits, find-ends}
 use Rattle.tables.proofs.WordLaws.{word-number}
-use Rattle.fit.proofs.CellFits.{a-truth, an-integer, shape-fits, cell-of-slot}
-use Rattle.tables.proofs.ValueLaws.{slot-boolean, slot-integer}
+use Rattle.tables.proofs.ValueLaws.{slot-boolean, slot-integer, cell-truth, cell-integer}
 use Rattle.tables.proofs.CellLaws.{no-cell, read-same, read-other, put-records, put-fields, put-label}
 use Rattle.rules.specs.State.{State}
 use Rattle.rules.specs.Structure.{AlikeCell, Same, SameState, Alike, nils, truths, ints, refs}
@@ -107,20 +101,10 @@ slots-alike a b s = go (ℕ-discrete (numberOf (a .kind)) 2) (ℕ-discrete (numb
         rw (of-kind a 3 (omega arith) e, of-kind b 3 (omega arith) (rw (s .kind) at e), slot-integer (a .payload), slot-integer (b .payload)) (held ints)
     go (no m) (no n) = rw (same-cell a b (s .kind) (s .payload m n)) (slot-refl (slotOf b))
 
-cell-boolean : (b : Bool) → cellOf (Truth b) ≡ cell (pos 2) (cond b (pos 1) (pos 0))
-cell-boolean b = cell-of-slot (pos 0) (cell (pos 2) (cond b (pos 1) (pos 0))) (Truth b) (omega arith) (shape-fits (pos 0) (a-truth b)) (slot-boolean (cond b (pos 1) (pos 0)) ∙ go b)
-  where
-    go : (b : Bool) → Has (Truth (eqZ (cond b (pos 1) (pos 0)) (pos 1))) ≡ Has (Truth b)
-    go true = refl
-    go false = refl
-
-cell-integer : (n : ℤ) → cellOf (Int n) ≡ cell (pos 3) n
-cell-integer n = cell-of-slot (pos 0) (cell (pos 3) n) (Int n) (omega arith) (shape-fits (pos 0) (an-integer n)) (slot-integer n)
-
 -- alike values make alike cells
 pub cells-alike : {v w : Value} → Alike v w → AlikeCell (cellOf v) (cellOf w)
 cells-alike nils = alike-refl (cellOf Nil)
-cells-alike (truths {a = a} {b = b}) = rw (cell-boolean a, cell-boolean b) (record { kind = refl; payload = λ m n. absurd (m refl) })
+cells-alike (truths {a = a} {b = b}) = rw (cell-truth a, cell-truth b) (record { kind = refl; payload = λ m n. absurd (m refl) })
 cells-alike (ints {a = a} {b = b}) = rw (cell-integer a, cell-integer b) (record { kind = refl; payload = λ m n. absurd (n refl) })
 cells-alike (refs {r = r}) = alike-refl (cellOf (Ref r))
 

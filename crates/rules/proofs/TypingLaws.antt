@@ -20,9 +20,11 @@ use Rattle.program.proofs.FormLaws.{numberOfForm}
 use Rattle.rules.specs.State.{Res, reads}
 use Rattle.rules.specs.Paths.{valueAt}
 use Rattle.rules.specs.Evaluation.{Kind, opOf, takes, gives, at, kindForm, kind}
+use Rattle.rules.specs.OperatorRules.{Gives}
 use Rattle.rules.specs.EvaluationRules.{HasKind, t-nil, t-false, t-true, t-integer, t-path, t-operation, kindDepth, KindWithin}
 use Rattle.rules.proofs.WordSteps.{at-got, by-number, by-word, form-words, form-is, apart}
 use Rattle.rules.proofs.NameLaws.{holds-sound, holds-complete}
+use Rattle.rules.proofs.OperatorLaws.{gives-sound, gives-operator, gives-complete}
 
 -- ---- what the definition answers, the rules derive
 
@@ -49,12 +51,13 @@ module _ (S : Cells) (d : ℕ) (go : List ℤ → Res (Kind × List ℤ)) (ih : 
       step (go q) _ k λ y e2 k2.
       step (go (y .1)) _ k2 λ z e3 k3.
       step-on (at (pos 25 ∷ p) (want 8 (takes (opOf o) (y .0) (z .0)))) _ k3 λ v e4 k4.
-      operation o q a b s y z (ih q y e2) (ih (y .1) z e3) (wanted (takes (opOf o) (y .0) (z .0)) (at-got (pos 25 ∷ p) (want 8 (takes (opOf o) (y .0) (z .0))) e4)) (got-inj k4)
+      operation o q s y z (ih q y e2) (ih (y .1) z e3)
+      (gives-sound (y .0) (z .0) o a b (wanted (takes (opOf o) (y .0) (z .0)) (at-got (pos 25 ∷ p) (want 8 (takes (opOf o) (y .0) (z .0))) e4))) (got-inj k4)
     where
-      operation : (o : ℕ) (q : List ℤ) → 1 ≤ o → o ≤ operators → p ≡ pos o ∷ q → (y z : Kind × List ℤ)
-          → KindWithin S d q (y .0) (y .1) → KindWithin S d (y .1) (z .0) (z .1) → takes (opOf o) (y .0) (z .0) ≡ true → (gives (opOf o), z .1) ≡ x
+      operation : (o : ℕ) (q : List ℤ) → p ≡ pos o ∷ q → (y z : Kind × List ℤ)
+          → KindWithin S d q (y .0) (y .1) → KindWithin S d (y .1) (z .0) (z .1) → Gives o (y .0) (z .0) (gives (opOf o)) → (gives (opOf o), z .1) ≡ x
           → KindWithin S (suc d) (pos 25 ∷ p) (x .0) (x .1)
-      operation o q a b s y z l r t i = rw (s, ← i) (record { rule = t-operation a b (l .rule) (r .rule) t; deep = omega (arith, l .deep, r .deep) })
+      operation o q s y z l r g i = rw (s, ← i) (record { rule = t-operation (l .rule) (r .rule) g; deep = omega (arith, l .deep, r .deep) })
   form-sound anIdentity p x e = stop≢got e
   form-sound noForm p x e = stop≢got e
 
@@ -76,7 +79,7 @@ kind-deep-pos t-false = omega arith
 kind-deep-pos t-true = omega arith
 kind-deep-pos t-integer = omega arith
 kind-deep-pos (t-path h) = omega arith
-kind-deep-pos (t-operation a b l r e) = omega arith
+kind-deep-pos (t-operation l r g) = omega arith
 
 -- an expression that begins with the word of a form has its kind by that form
 pub kind-opens : (S : Cells) (d : ℕ) (f : Form) (p : List ℤ) → (f ≡ noForm → ⊥)
@@ -92,9 +95,9 @@ kind-complete {S} (suc d) (t-false {p = p}) h = kind-opens S d aFalse p (apart �
 kind-complete {S} (suc d) (t-true {p = p}) h = kind-opens S d aTrue p (apart λ z. omega arith)
 kind-complete {S} (suc d) (t-integer {w = w} {p = p}) h = kind-opens S d anInteger (w ∷ p) (apart λ z. omega arith) ∙ rw (any-fits (w ∷ p) (omega arith))
 kind-complete {S} (suc d) (t-path {p = p} k) h = kind-opens S d aPath p (apart λ z. omega arith) ∙ rw (holds-complete S k)
-kind-complete {S} (suc d) (t-operation {o = o} {p = p} a b l r e) h =
+kind-complete {S} (suc d) (t-operation {o = o} {p = p} l r g) h =
     kind-opens S d anOperation (pos o ∷ p) (apart λ z. omega arith)
-    ∙ rw (number-of 1 operators o p a b, kind-complete d l (omega arith), kind-complete d r (omega arith), e)
+    ∙ rw (number-of 1 operators o p (gives-operator g .0) (gives-operator g .1), kind-complete d l (omega arith), kind-complete d r (omega arith), gives-complete g .0, gives-complete g .1)
 
 -- an expression has the kind k, with q after it, exactly where the rules derive it within the nesting
 pub kind-iff : (d : ℕ) (S : Cells) (p : List ℤ) (k : Kind) (q : List ℤ) → (kind d S p ≡ got (k, q)) ↔ KindWithin S d p k q

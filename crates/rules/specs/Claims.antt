@@ -7,3 +7,4 @@ pub mod Acceptance
 pub mod Holding
 pub mod OneStructure
 pub mod LeastChange
+pub mod Room

@@ -7,12 +7,13 @@ use mathlib.Core.List.{List, [], _∷_, _++_}
 use mathlib.Core.Option.{Option, some}
 use lib.IntN.{ℤ, pos}
 use lib.ListN.{length}
-use Rattle.words.specs.Answer.{got}
 use Rattle.tables.specs.Sizes.{locations}
-use Rattle.tables.specs.Cells.{Cells, cellAt}
+use Rattle.tables.specs.Values.{cell}
+use Rattle.tables.specs.Cells.{Cells, cellAt, putCell}
 use Rattle.program.specs.Forms.{required}
-use Rattle.rules.specs.Constraints.{Part, counted}
-use Rattle.rules.specs.Proposals.{Entry, Asked, applied}
+use Rattle.rules.specs.Constraints.{Part}
+use Rattle.rules.specs.Proposals.{Entry, Asked}
+use Rattle.rules.specs.ConstraintRules.{CountedAre}
 use Rattle.rules.specs.Effects.{OfKind}
 
 pub data Each {A : Type 0} (P : A → Type 0) : List A → Type 0 where
@@ -33,6 +34,12 @@ pub data Rising : ℕ → List Entry → Type 0 where
 pub record Formed (ws : List ℤ) (es : List Entry) (rest : List ℤ) : Type 0 where
   pub words : ws ≡ pos (length es) ∷ (wordsOf es ++ rest)
   pub rising : Rising 0 es
+
+-- the entries' payloads put in S, one after the other, leave Z
+pub data Puts : Cells → List Entry → Cells → Type 0 where
+  no-entry : {S : Cells} → Puts S [] S
+  entry : {S Z : Cells} {e : Entry} {es : List Entry}
+      → Puts (putCell S (e .location) (cell (cellAt S (e .location) .kind) (e .payload))) es Z → Puts S (e ∷ es) Z
 
 -- ---- an entry, a part
 
@@ -59,9 +66,9 @@ pub record Acceptable (program kept : List ℤ) (asked : Asked) (S : Cells) (bef
   pub formed : Formed ws es rest
   pub allowed : Each (Allowed S (asked .target)) es
   pub needed : Needed before es
-  pub is : Z ≡ applied S es
+  pub puts : Puts S es Z
   pub after : List Part
-  pub reads : counted program kept (asked .own) Z ≡ got after
+  pub reads : CountedAre program kept Z (asked .own) after
   pub met : Each Met after
 
 -- ---- refused: the number of the first condition that fails
@@ -73,9 +80,9 @@ pub data Fails (program kept : List ℤ) (asked : Asked) (S : Cells) (before : L
       → Formed ws es rest → (Each (Allowed S (asked .target)) es → ⊥) → Fails program kept asked S before ws 17
   not-needed : {es : List Entry} {rest : List ℤ}
       → Formed ws es rest → Each (Allowed S (asked .target)) es → (Needed before es → ⊥) → Fails program kept asked S before ws 18
-  not-met : {es : List Entry} {rest : List ℤ} {after : List Part}
+  not-met : {es : List Entry} {rest : List ℤ} {Z : Cells} {after : List Part}
       → Formed ws es rest → Each (Allowed S (asked .target)) es → Needed before es
-      → counted program kept (asked .own) (applied S es) ≡ got after → (Each Met after → ⊥) → Fails program kept asked S before ws 19
+      → Puts S es Z → CountedAre program kept Z (asked .own) after → (Each Met after → ⊥) → Fails program kept asked S before ws 19
 
 -- every proposal is one or the other
 pub data Judged (program kept : List ℤ) (asked : Asked) (S : Cells) (before : List Part) (ws : List ℤ) : Type 0 where
@@ -86,6 +93,6 @@ pub data Judged (program kept : List ℤ) (asked : Asked) (S : Cells) (before : 
 
 pub record Settles (program kept : List ℤ) (asked : Asked) (S : Cells) (ws : List ℤ) (Z : Cells) (rest : List ℤ) : Type 0 where
   pub before : List Part
-  pub counts : counted program kept (asked .own) S ≡ got before
+  pub counts : CountedAre program kept S (asked .own) before
   pub room : asked .room ≡ true
   pub acceptable : Acceptable program kept asked S before ws Z rest

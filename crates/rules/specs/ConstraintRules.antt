@@ -1,12 +1,16 @@
--- When a constraint reads (000, T-PRIORITY and T-CONJUNCTION, as document 01 narrows them), and what its parts then are.
+-- When a constraint reads (000, T-PRIORITY and T-CONJUNCTION, as document 01 narrows them), what its parts then are, and which parts count.
 -- Assumes nothing: these are definitions.
-use Prim.Native.Nat.{ℕ, suc, _≤_}
+use Prim.Native.Nat.{ℕ, suc, _+_, _≤_}
 use mathlib.Core.Bool.{true, false}
-use mathlib.Core.List.{List, [], _∷_}
+use mathlib.Core.List.{List, [], _∷_, _++_}
+use mathlib.Core.Option.{Option, none as nothing, some}
 use lib.IntN.{ℤ, pos}
+use lib.ListN.{drop}
 use Rattle.tables.specs.declared.Value.the-variants.{Bool as Truth}
+use Rattle.tables.specs.declared.Sort.the-variants.{Values}
 use Rattle.tables.specs.Cells.{Cells}
 use Rattle.program.specs.Forms.{expressionDepth, mostParts, required}
+use Rattle.rules.specs.State.{positions}
 use Rattle.rules.specs.Evaluation.{isBool}
 use Rattle.rules.specs.Constraints.{Part}
 use Rattle.rules.specs.EvaluationRules.{Within, KindWithin}
@@ -42,3 +46,15 @@ pub data PartsAre (S : Cells) : ℕ → List ℤ → List Part → List ℤ → 
 
 pub data ConstraintIs (S : Cells) : List ℤ → List Part → Type 0 where
   constraint : {m : ℕ} {xs : List Part} {p q : List ℤ} → 1 ≤ m → m ≤ mostParts → PartsAre S m p xs q → ConstraintIs S (pos m ∷ p) xs
+
+-- ---- the parts that count for a statement: those of the kept value constraints, and of its own C, if it has one
+
+pub data KeptAre (program : List ℤ) (S : Cells) : List ℕ → List Part → Type 0 where
+  none : KeptAre program S [] []
+  one : {position : ℕ} {more : List ℕ} {xs ys : List Part}
+      → ConstraintIs S (drop (position + 1) program) xs → KeptAre program S more ys → KeptAre program S (position ∷ more) (xs ++ ys)
+
+pub data CountedAre (program kept : List ℤ) (S : Cells) : Option (List ℤ) → List Part → Type 0 where
+  kept-only : {xs : List Part} → KeptAre program S (positions kept Values) xs → CountedAre program kept S nothing xs
+  with-own : {p : List ℤ} {xs ys : List Part}
+      → KeptAre program S (positions kept Values) xs → ConstraintIs S p ys → CountedAre program kept S (some p) (xs ++ ys)

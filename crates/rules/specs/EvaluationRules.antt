@@ -16,10 +16,11 @@ use Rattle.tables.specs.Sizes.{variables, fieldLocation}
 use Rattle.tables.specs.Values.{cellOf}
 use Rattle.tables.specs.Cells.{Cells}
 use Rattle.tables.specs.Records.{fieldCount, labelAt}
-use Rattle.program.specs.Forms.{mostSteps, operators}
+use Rattle.program.specs.Forms.{mostSteps}
 use Rattle.rules.specs.State.{Fault, Res, slotAt}
 use Rattle.rules.specs.Paths.{Way}
-use Rattle.rules.specs.Evaluation.{Kind, isNil, isBool, isInt, kindOf, opOf, takes, gives, apply}
+use Rattle.rules.specs.Evaluation.{Kind, isNil, isBool, isInt, kindOf}
+use Rattle.rules.specs.OperatorRules.{Gives, Makes}
 
 -- ---- paths
 
@@ -60,8 +61,7 @@ pub data Evaluates (S : Cells) : List ℤ → Value → List ℤ → Type 0 wher
   e-path : {v : Value} {p q : List ℤ} → Holds S p v q → Evaluates S (pos 24 ∷ p) v q
   -- E-OP
   e-operation : {o : ℕ} {a b v : Value} {p q r : List ℤ}
-      → 1 ≤ o → o ≤ operators → Evaluates S p a q → Evaluates S q b r → apply (opOf o) a b ≡ got v
-      → Evaluates S (pos 25 ∷ pos o ∷ p) v r
+      → Evaluates S p a q → Evaluates S q b r → Makes o a b v → Evaluates S (pos 25 ∷ pos o ∷ p) v r
   -- E-IDENTITYTRUE, E-IDENTITYFALSE: "L == L compares kind and payload of any two values"
   e-same : {a b : Value} {p q r : List ℤ} → Holds S p a q → Holds S q b r → cellOf a ≡ cellOf b → Evaluates S (pos 26 ∷ p) (Truth true) r
   e-differ : {a b : Value} {p q r : List ℤ} → Holds S p a q → Holds S q b r → cellOf a ≢ cellOf b → Evaluates S (pos 26 ∷ p) (Truth false) r
@@ -73,7 +73,7 @@ depth e-false = 1
 depth e-true = 1
 depth e-integer = 1
 depth (e-path h) = 1
-depth (e-operation a b l r e) = suc (max (depth l) (depth r))
+depth (e-operation l r m) = suc (max (depth l) (depth r))
 depth (e-same h k e) = 1
 depth (e-differ h k e) = 1
 
@@ -108,9 +108,8 @@ pub data HasKind (S : Cells) : List ℤ → Kind → List ℤ → Type 0 where
   -- T-VAR, T-FIELD
   t-path : {v : Value} {p q : List ℤ} → Holds S p v q → HasKind S (pos 24 ∷ p) (kindOf v) q
   -- T-OP
-  t-operation : {o : ℕ} {a b : Kind} {p q r : List ℤ}
-      → 1 ≤ o → o ≤ operators → HasKind S p a q → HasKind S q b r → takes (opOf o) a b ≡ true
-      → HasKind S (pos 25 ∷ pos o ∷ p) (gives (opOf o)) r
+  t-operation : {o : ℕ} {a b k : Kind} {p q r : List ℤ}
+      → HasKind S p a q → HasKind S q b r → Gives o a b k → HasKind S (pos 25 ∷ pos o ∷ p) k r
 
 abbrev pub kindDepth : {S : Cells} {p : List ℤ} {k : Kind} {q : List ℤ} → HasKind S p k q → ℕ
 kindDepth t-nil = 1
@@ -118,7 +117,7 @@ kindDepth t-false = 1
 kindDepth t-true = 1
 kindDepth t-integer = 1
 kindDepth (t-path h) = 1
-kindDepth (t-operation a b l r e) = suc (max (kindDepth l) (kindDepth r))
+kindDepth (t-operation l r g) = suc (max (kindDepth l) (kindDepth r))
 
 pub record KindWithin (S : Cells) (d : ℕ) (p : List ℤ) (k : Kind) (q : List ℤ) : Type 0 where
   pub rule : HasKind S p k q

@@ -8,6 +8,7 @@ pub mod Statements
 pub mod Running
 pub mod Start
 pub mod Sheets
+pub mod OperatorRules
 pub mod EvaluationRules
 pub mod ConstraintRules
 pub mod IdentityRules

@@ -74,12 +74,13 @@ K5 = record {
   answer = record { outcome = 6; place = 27; steps = 3; accepted = 2; state = two 64 16 (1 ∷ 0 ∷ 10 ∷ []); unread = []; tests = [] };
 }
 
+-- K1's proposals, of which the last is not read
 abbrev pub K6 : Sheet
 K6 = record {
   program = P;
-  proposals = words (0 ∷ 0 ∷ []);
+  proposals = words (0 ∷ 0 ∷ 1 ∷ 64 ∷ 128 ∷ []);
   budget = pos 2;
-  answer = record { outcome = 5; place = 27; steps = 2; accepted = 2; state = two 64 16 (1 ∷ 0 ∷ 10 ∷ []); unread = []; tests = [] };
+  answer = record { outcome = 5; place = 27; steps = 2; accepted = 2; state = two 64 16 (1 ∷ 0 ∷ 10 ∷ []); unread = words (1 ∷ 64 ∷ 128 ∷ []); tests = [] };
 }
 
 abbrev pub K7 : Sheet

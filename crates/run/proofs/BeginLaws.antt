@@ -1,8 +1,8 @@
 -- What the code of the start comes to: the loops over kept positions, and outcomes 1 to 4 in their order. Assumes nothing.
-use mathlib.Core.Path.{_≡_, refl, sym, ap, _∙_}
+use mathlib.Core.Path.{_≡_, sym, _∙_}
 use mathlib.Core.Bool.{Bool, true, false, _&&_}
 use mathlib.Core.List.{List, [], _∷_}
-use Prim.Native.Nat.{ℕ, zero, suc, _+_, _-_, _≤_, _<_}
+use Prim.Native.Nat.{ℕ, suc, _+_, _-_, _≤_, _<_}
 use native.Mathlib.Omega.{arith}
 use lib.IntN.{ℤ}
 use lib.ListN.{drop}
@@ -10,33 +10,29 @@ use lib.Seq.{drop-drop}
 use Rattle.words.specs.Answer.{Answer, got, stop, _>>_, want}
 use Rattle.words.proofs.AnswerLaws.{either}
 use Rattle.tables.specs.declared.Sort.{Sort}
-use Rattle.tables.specs.declared.Sort.the-variants.{Values, Identities}
 use Rattle.tables.specs.Cells.{Cells}
 use Rattle.tables.specs.Kept.{keptCount, positionAt}
 use Rattle.program.specs.declared.Verdict.{Verdict}
 use Rattle.program.specs.declared.Verdict.the-variants.{Reads as Well, Unfit}
 use Rattle.program.specs.Told.{verdictOf}
-use Rattle.rules.specs.State.{Fault, Res, listed, positions}
-use Rattle.rules.specs.Constraints.{Part, constraintAt, keptAt, requiredHold}
+use Rattle.rules.specs.State.{listed, positions}
+use Rattle.rules.specs.Constraints.{constraintAt, keptAt, requiredHold}
 use Rattle.rules.specs.Identities.{sameNow}
 use Rattle.rules.specs.Start.{Early, valuesHold, identitiesHold, early}
 use Rattle.rules.proofs.ConstraintClauses.{positions-are, listed-none, listed-more, kept-is}
-use Rattle.rules.proofs.StartClauses.{values-none, values-read, values-stop, identities-none, identities-hold, identities-stop, early-got, early-stop}
+use Rattle.rules.proofs.StartClauses.{values-read, values-stop, identities-hold, identities-stop, early-got, early-stop}
 use Rattle.expressions.specs.declared.Weighed.{Weighed}
 use Rattle.expressions.specs.declared.Weighed.the-variants.{Reads, Fails}
 use Rattle.expressions.specs.Judging.{weighedOf}
 use Rattle.statements.specs.declared.Sameness.{Sameness}
 use Rattle.statements.specs.declared.Sameness.the-variants.{Holds, Fails as Differs}
+use Rattle.proposals.proofs.FormLaws.{unlike}
 use Rattle.statements.specs.Told.{samenessOf}
 use Rattle.run.specs.declared.Held.{Held}
 use Rattle.run.specs.declared.Held.the-variants.{All, Not}
-use Rattle.run.specs.declared.Started.{Started}
 use Rattle.run.specs.declared.Started.the-variants.{Begins}
 use Rattle.run.specs.declared.Started.the-variants.{Early as Refused}
 use Rattle.run.specs.Told.{heldOf, startedOf}
-
-never : {A : Type 0} → _≡_ {A = ℕ} 0 1 → A
-never e = absurd (omega arith)
 
 -- ---- the loop over kept positions of a sort, for either test: i are looked at, and the rest gives the whole's answer
 
@@ -70,7 +66,7 @@ module _ (program : List ℤ) (S : Cells) (position : ℕ) (more : List ℕ) {w 
   pub value-unread : {n k : ℕ} → w ≡ Fails n k → valuesHold program S (position ∷ more) ≡ stop position
   value-unread h =
       either (keptAt program S position)
-      (λ parts g. never (let y = sym (rw (← kept-here, g) at e) ∙ h in cc))
+      (λ parts g. unlike (let y = sym (rw (← kept-here, g) at e) ∙ h in cc))
       (λ f g. values-stop program S position more f g)
 
   pub value-broken : {a r : Bool} → w ≡ Reads a r → r ≡ false → valuesHold program S (position ∷ more) ≡ stop position
@@ -80,7 +76,7 @@ module _ (program : List ℤ) (S : Cells) (position : ℕ) (more : List ℕ) {w 
       let y = sym (rw (← kept-here, g) at e) ∙ h in
       let b : requiredHold parts ≡ false = cc in
       rw (values-read program S position more parts g, b))
-      (λ f g. never (let y = sym (rw (← kept-here, g) at e) ∙ h in cc))
+      (λ f g. unlike (let y = sym (rw (← kept-here, g) at e) ∙ h in cc))
 
   pub value-holds : {a r : Bool} → w ≡ Reads a r → r ≡ true → valuesHold program S more ≡ valuesHold program S (position ∷ more)
   value-holds {a = a} {r = r} h z =
@@ -89,7 +85,7 @@ module _ (program : List ℤ) (S : Cells) (position : ℕ) (more : List ℕ) {w 
       let y = sym (rw (← kept-here, g) at e) ∙ h in
       let b : requiredHold parts ≡ true = cc in
       rw (values-read program S position more parts g, b))
-      (λ f g. never (let y = sym (rw (← kept-here, g) at e) ∙ h in cc))
+      (λ f g. unlike (let y = sym (rw (← kept-here, g) at e) ∙ h in cc))
 
 -- ---- one kept identity
 
@@ -100,14 +96,14 @@ module _ (program : List ℤ) (S : Cells) (position : ℕ) (more : List ℕ) {w 
   pub identity-fails : {n k : ℕ} → w ≡ Differs n k → identitiesHold program S (position ∷ more) ≡ stop position
   identity-fails h =
       either (sameNow S (drop position program) (drop (position + 1) program))
-      (λ u g. never (let y = sym (rw (← same-here, g) at e) ∙ h in cc))
+      (λ u g. unlike (let y = sym (rw (← same-here, g) at e) ∙ h in cc))
       (λ f g. identities-stop program S position more f g)
 
   pub identity-holds : w ≡ Holds → identitiesHold program S more ≡ identitiesHold program S (position ∷ more)
   identity-holds h =
       either (sameNow S (drop position program) (drop (position + 1) program))
       (λ u g. sym (identities-hold program S position more u g))
-      (λ f g. never (let y = sym (rw (← same-here, g) at e) ∙ h in cc))
+      (λ f g. unlike (let y = sym (rw (← same-here, g) at e) ∙ h in cc))
 
 -- ---- outcomes in their order
 
@@ -116,7 +112,7 @@ module _ (n : ℕ) (m : Answer ℕ (Unit {0})) {h : Held} (e : h ≡ heldOf m) w
   held-stop {place = place} k x = by m (sym e ∙ x)
     where
       by : (m : Answer ℕ (Unit {0})) → heldOf m ≡ Not place → Refused n place ≡ startedOf (early n m >> k)
-      by (got u) y = never (cc)
+      by (got u) y = unlike (cc)
       by (stop p) y = rw (early-stop n p) (cc)
 
   pub held-on : (k : Answer Early (Unit {0})) → h ≡ All → startedOf k ≡ startedOf (early n m >> k)
@@ -124,13 +120,13 @@ module _ (n : ℕ) (m : Answer ℕ (Unit {0})) {h : Held} (e : h ≡ heldOf m) w
     where
       by : (m : Answer ℕ (Unit {0})) → heldOf m ≡ All → startedOf k ≡ startedOf (early n m >> k)
       by (got u) y = rw (early-got n u)
-      by (stop p) y = never (cc)
+      by (stop p) y = unlike (cc)
 
   pub held-last-stop : {place : ℕ} → h ≡ Not place → Refused n place ≡ startedOf (early n m)
   held-last-stop {place = place} x = by m (sym e ∙ x)
     where
       by : (m : Answer ℕ (Unit {0})) → heldOf m ≡ Not place → Refused n place ≡ startedOf (early n m)
-      by (got u) y = never (cc)
+      by (got u) y = unlike (cc)
       by (stop p) y = rw (early-stop n p) (cc)
 
   pub held-last-on : h ≡ All → Begins ≡ startedOf (early n m)
@@ -138,7 +134,7 @@ module _ (n : ℕ) (m : Answer ℕ (Unit {0})) {h : Held} (e : h ≡ heldOf m) w
     where
       by : (m : Answer ℕ (Unit {0})) → heldOf m ≡ All → Begins ≡ startedOf (early n m)
       by (got u) y = rw (early-got n u)
-      by (stop p) y = never (cc)
+      by (stop p) y = unlike (cc)
 
 module _ (n place : ℕ) (k : Answer Early (Unit {0})) where
   pub test-stop : {b : Bool} → b ≡ false → Refused n place ≡ startedOf (early n (want place b) >> k)
@@ -152,7 +148,7 @@ module _ (m : Answer ℕ (Unit {0})) (k : Answer Early (Unit {0})) {v : Verdict}
   read-stop {place = place} x = by m (sym e ∙ x)
     where
       by : (m : Answer ℕ (Unit {0})) → verdictOf m ≡ Unfit place → Refused 2 place ≡ startedOf (early 2 m >> k)
-      by (got u) y = never (cc)
+      by (got u) y = unlike (cc)
       by (stop p) y = rw (early-stop 2 p) (cc)
 
   pub read-on : v ≡ Well → startedOf k ≡ startedOf (early 2 m >> k)
@@ -160,16 +156,9 @@ module _ (m : Answer ℕ (Unit {0})) (k : Answer Early (Unit {0})) {v : Verdict}
     where
       by : (m : Answer ℕ (Unit {0})) → verdictOf m ≡ Well → startedOf k ≡ startedOf (early 2 m >> k)
       by (got u) y = rw (early-got 2 u)
-      by (stop p) y = never (cc)
+      by (stop p) y = unlike (cc)
 
 -- ---- two tests in one
 
 pub and-false : (a b : Bool) → a ≡ false → a && b ≡ false
 and-false a b e = rw e
-
-pub and-second : (a b : Bool) → b ≡ false → a && b ≡ false
-and-second true b e = e
-and-second false b e = refl
-
-pub both : (a b : Bool) → a ≡ true → b ≡ true → a && b ≡ true
-both a b e h = rw (e, h)

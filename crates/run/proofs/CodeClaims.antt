@@ -10,13 +10,13 @@ use Rattle.words.specs.Words.{numberAt}
 use Rattle.words.proofs.Laws.{number-first, number-drop}
 use Rattle.rules.specs.State.{State}
 use Rattle.rules.specs.Start.{Ended, run}
-use Rattle.rules.specs.Derivations.{Derived}
+use Rattle.rules.specs.Derivations.{Derived, finished as ended}
 use Rattle.rules.proofs.RunFacts.{answers}
 use Rattle.rules.proofs.RulesClaim.{rules}
 use Rattle.rules.proofs.Holding.{runs-hold}
 use Rattle.rules.proofs.OneStructure.{one-structure}
 use Rattle.run.specs.Told.{answerOf, Meets}
-use Rattle.run.specs.Claims.{OneAnswer, Keeps, EveryAnswer, FinishesExactly, HoldsAfter, OneStructure}
+use Rattle.run.specs.Claims.{OneAnswer, Keeps, EveryAnswer, Finishes, FinishesExactly, HoldsAfter, OneStructure}
 
 -- the words of an answer are its numbers
 module _ (e : Ended) where
@@ -53,15 +53,29 @@ every-answer program ws budget S Z a u m =
 
 pub finishes-exactly : FinishesExactly
 finishes-exactly program ws budget S Z a u m = (
-  λ h. (run program ws budget S, (rules program ws budget S (run program ws budget S) .0 (refl, finished h), (m .leaves, m .hands-back))),
-  λ x. derived (x .0) (x .1 .0),
+  (λ h. (given, rules program ws budget S given .0 (refl, finished h)), λ x. tells (x .0) (x .1) .outcome),
+  tells,
 )
   where
-    finished : numberAt a 0 ≡ 0 → run program ws budget S .outcome ≡ 0
-    finished h = sym (outcome-is (run program ws budget S)) ∙ rw (m .answers) at h
+    given : Ended
+    given = run program ws budget S
 
-    derived : (e : Ended) → Derived program ws budget S e → numberAt a 0 ≡ 0
-    derived e d = let y = rules program ws budget S e .1 d in rw (m .answers, outcome-is (run program ws budget S), y .0) (y .1)
+    finished : numberAt a 0 ≡ 0 → given .outcome ≡ 0
+    finished h = sym (outcome-is given) ∙ rw (m .answers) at h
+
+    -- the run's answer is what the derivation gives
+    tells : (e : Ended) (d : Derived program ws budget S e) → Finishes program Z a u (d .last)
+    tells e d =
+        let q : given ≡ ended program (d .last) = rules program ws budget S e .1 d .0 ∙ d .gives in
+        rw (m .answers, m .leaves, m .hands-back)
+        (record {
+          outcome = outcome-is given ∙ ap (λ x. x .outcome) q;
+          place = place-is given ∙ ap (λ x. x .place) q;
+          steps = steps-are given ∙ ap (λ x. x .steps) q;
+          accepted = accepted-are given ∙ ap (λ x. x .accepted) q;
+          tables = ap (λ x. x .state) q;
+          rest = ap (λ x. x .unread) q;
+        })
 
 pub holds-after : HoldsAfter
 holds-after program ws budget S Z a u m h = rw (m .leaves) (runs-hold program ws budget S (rw (m .answers, outcome-is (run program ws budget S)) at h))

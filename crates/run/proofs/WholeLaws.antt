@@ -1,20 +1,20 @@
 -- What a run hands back is the rules' answer, whole. Assumes nothing.
 use mathlib.Core.Path.{_≡_, refl, sym, ap, _∙_}
 use mathlib.Core.List.{List, [], _∷_}
-use Prim.Native.Nat.{ℕ, _+_, _-_, _≤_, _<_}
-use native.Mathlib.Omega.{arith}
-use lib.IntN.{ℤ, pos}
+use Prim.Native.Nat.{ℕ}
+use lib.IntN.{ℤ}
 use lib.ListN.{length}
-use Rattle.words.specs.Words.{numberOf, wordOf, lastOf}
-use Rattle.words.specs.Answer.{Answer, got, stop}
+use Rattle.words.specs.Words.{wordOf, lastOf}
+use Rattle.words.specs.Answer.{got}
 use Rattle.words.proofs.Laws.{word-is}
 use Rattle.words.proofs.AnswerLaws.{either}
 use Rattle.rules.specs.State.{State}
-use Rattle.rules.specs.Running.{Out, on, end, doBlock}
+use Rattle.rules.specs.Running.{Out, on, end}
 use Rattle.rules.specs.Running.{Tally as Carries}
-use Rattle.rules.specs.Start.{Early, Ended, starts, run}
+use Rattle.rules.specs.Start.{Ended, starts, run}
 use Rattle.rules.specs.Derivations.{firstTally, finished}
 use Rattle.rules.proofs.RunLaws.{refusedWith, whole, run-early, run-on, run-end}
+use Rattle.proposals.proofs.FormLaws.{unlike}
 use Rattle.lent.specs.declared.Tally.{Tally}
 use Rattle.lent.specs.Tallied.{carries, untold, untoldOut, Runs}
 use Rattle.lent.proofs.TallyLaws.{ends-by}
@@ -23,9 +23,6 @@ use Rattle.run.specs.declared.Started.the-variants.{Begins}
 use Rattle.run.specs.declared.Started.the-variants.{Early as Refused}
 use Rattle.run.specs.Told.{startedOf, answerOf, Meets}
 use Rattle.run.proofs.ExactLaws.{Exact, exact}
-
-never : {A : Type 0} → _≡_ {A = ℕ} 0 1 → A
-never e = absurd (omega arith)
 
 -- the four words of an answer tell its numbers
 words-are : (e : Ended) → Exact e → wordOf (e .outcome) ∷ wordOf (e .place) ∷ wordOf (e .steps) ∷ wordOf (e .accepted) ∷ [] ≡ answerOf e
@@ -42,7 +39,7 @@ module _ (program ws : List ℤ) (budget : ℤ) (S : State) where
       → answer ≡ wordOf outcome ∷ wordOf place ∷ wordOf 0 ∷ wordOf 0 ∷ [] → Meets S answer ws (run program ws budget S)
   meets-early {outcome = n} {place = k} e h a =
       either (starts program budget S)
-      (λ u x. never (let y = sym (rw x at e) ∙ h in cc))
+      (λ u x. unlike (let y = sym (rw x at e) ∙ h in cc))
       (λ f x.
       let y = sym (rw x at e) ∙ h in
       let y1 : f .number ≡ n = cc in
@@ -50,7 +47,7 @@ module _ (program ws : List ℤ) (budget : ℤ) (S : State) where
       meets (refusedWith (f .number) (f .place) (firstTally S ws)) (run-early program ws budget S x) (rw (y1, y2) a) refl refl)
 
   pub begins : {h : Started} → h ≡ startedOf (starts program budget S) → h ≡ Begins → starts program budget S ≡ got tt
-  begins e h = either {X = starts program budget S ≡ got tt} (starts program budget S) (λ u x. x) (λ f x. never (let y = sym (rw x at e) ∙ h in cc))
+  begins e h = either {X = starts program budget S ≡ got tt} (starts program budget S) (λ u x. x) (λ f x. unlike (let y = sym (rw x at e) ∙ h in cc))
 
   -- a run that began
   module _ (x : starts program budget S ≡ got tt) {Z : State} {t : Tally} (ran : Runs ws Z t (whole program ws budget S)) where
@@ -66,14 +63,14 @@ module _ (program ws : List ℤ) (budget : ℤ) (S : State) where
             let y3 : t .accepted ≡ u .accepted = ap (λ (c : Carries). c .accepted) k in
             let y4 : lastOf (t .unread) ws ≡ u .unread = ap (λ (c : Carries). c .unread) k in
             meets (finished program u) (run-on program ws budget S x w) (rw (← y2, ← y3) a) y1 y4
-        by (end n place u) w e = never (cc)
+        by (end n place u) w e = unlike (cc)
 
     pub meets-end : {answer : List ℤ} → (t .outcome ≡ 0 → ⊥) → answer ≡ wordOf (t .outcome) ∷ wordOf (t .place) ∷ wordOf (t .steps) ∷ wordOf (t .accepted) ∷ []
         → Meets Z answer (lastOf (t .unread) ws) (run program ws budget S)
     meets-end {answer = answer} h a = by (whole program ws budget S) refl (sym (ends-by (t .outcome) (t .place) (carries ws Z t) h) ∙ ran .is)
       where
         by : (o : Out) → whole program ws budget S ≡ o → end (t .outcome) (t .place) (carries ws Z t) ≡ untoldOut o → Meets Z answer (lastOf (t .unread) ws) (run program ws budget S)
-        by (on u) w e = never (cc)
+        by (on u) w e = unlike (cc)
         by (end m place u) w e =
             let w6 : carries ws Z t ≡ untold u = cc in
             let y1 : Z ≡ u .state = ap (λ (c : Carries). c .state) w6 in

@@ -9,6 +9,7 @@ use Rattle.words.specs.Words.{numberOf, numberAt, lastOf}
 use Rattle.program.specs.declared.Spot.the-variants.{Nowhere}
 use Rattle.program.specs.Where.{statementAt}
 use Rattle.rules.specs.State.{State}
+use Rattle.rules.specs.Running.{Tally}
 use Rattle.rules.specs.Start.{Ended, run}
 use Rattle.rules.specs.Holds.{Holds}
 use Rattle.rules.specs.Reaching.{Reached}
@@ -36,10 +37,19 @@ pub record Keeps (program ws : List ℤ) (budget : ℤ) (S Z : State) (answer un
 abbrev pub EveryAnswer : Type 0
 EveryAnswer = (program ws : List ℤ) (budget : ℤ) (S Z : State) (a u : List ℤ) → Meets Z a u (run program ws budget S) → Keeps program ws budget S Z a u
 
--- demand 2: it finishes exactly where the rules of statements have a derivation, with the tables and unread words of that derivation
+-- the four words, the tables and the unread words are those of a derivation that ends with the tally t
+pub record Finishes (program : List ℤ) (Z : State) (answer unread : List ℤ) (t : Tally) : Type 0 where
+  pub outcome : numberAt answer 0 ≡ 0
+  pub place : numberAt answer 1 ≡ length program
+  pub steps : numberAt answer 2 ≡ t .steps
+  pub accepted : numberAt answer 3 ≡ t .accepted
+  pub tables : Z ≡ t .state
+  pub rest : unread ≡ t .unread
+
+-- demand 2: it finishes exactly where the rules of statements have a derivation, and every derivation gives this answer
 abbrev pub FinishesExactly : Type 0
 FinishesExactly = (program ws : List ℤ) (budget : ℤ) (S Z : State) (a u : List ℤ) → Meets Z a u (run program ws budget S)
-    → (numberAt a 0 ≡ 0) ↔ ((e : Ended) × (Derived program ws budget S e × ((Z ≡ e .state) × (u ≡ e .unread))))
+    → ((numberAt a 0 ≡ 0) ↔ ((e : Ended) × Derived program ws budget S e)) × ((e : Ended) (d : Derived program ws budget S e) → Finishes program Z a u (d .last))
 
 -- demand 3: wherever a run that started stops, the tables are fit and what is kept holds, whatever the proposals said
 abbrev pub HoldsAfter : Type 0

@@ -10,7 +10,8 @@ use Rattle.rules.specs.Start.{early}
 use Rattle.rules.proofs.StartClauses.{starts-is}
 use Rattle.phases.specs.Told.{tables}
 use Rattle.run.specs.Told.{tablesAtStart}
-use Rattle.run.proofs.BeginLaws.{test-stop, test-on, read-stop, read-on, and-false, and-second, both}
+use Rattle.run.proofs.BeginLaws.{test-stop, test-on, read-stop, read-on, and-false}
+use Rattle.tables.proofs.SearchLaws.{and-true, and-false as and-second}
 use borrow.Author.Needs.{needs}
 use Rattle.run.proofs.start.starts.Statement.{statement}
 use Rattle.run.proofs.start.starts.Tie as tie
@@ -63,7 +64,7 @@ returns-3 c =
     let k = tablesAtStart (c .before .before .before .before .before .before .before .before .args .program .now) (tables (c .before .before .before .before .before .before .before .before .args .environment .now) (c .before .before .before .before .before .before .before .before .args .heap .now) (c .before .before .before .before .before .before .before .before .args .constraints .now)) in
     rw (starts-is (c .before .before .before .before .before .before .before .before .args .program .now) (c .before .before .before .before .before .before .before .before .args .budget) (tables (c .before .before .before .before .before .before .before .before .args .environment .now) (c .before .before .before .before .before .before .before .before .args .heap .now) (c .before .before .before .before .before .before .before .before .args .constraints .now)))
     (read-stop (readProgram (c .before .before .before .before .before .before .before .before .args .program .now)) k (c .before .before .before .read-program .ensures) (c .before .place .given .1)
-    ∙ test-on 1 0 (early 2 (readProgram (c .before .before .before .before .before .before .before .before .args .program .now)) >> k) (both _ _ (sym (c .before .before .before .before .before .before .before .are-sized .ensures) ∙ not-false _ (c .before .before .before .before .before .before .if1 .left)) (rw (back32 (c .before .before .before .before .before .before .before .before .args .budget) (c .before .before .before .before .before .before .before .before .fits .budget)) at (sym (c .before .before .before .before .before .budget-fits .ensures)) ∙ not-false _ (c .before .before .before .before .if2 .left))))
+    ∙ test-on 1 0 (early 2 (readProgram (c .before .before .before .before .before .before .before .before .args .program .now)) >> k) (and-true _ _ (sym (c .before .before .before .before .before .before .before .are-sized .ensures) ∙ not-false _ (c .before .before .before .before .before .before .if1 .left)) (rw (back32 (c .before .before .before .before .before .before .before .before .args .budget) (c .before .before .before .before .before .before .before .before .fits .budget)) at (sym (c .before .before .before .before .before .budget-fits .ensures)) ∙ not-false _ (c .before .before .before .before .if2 .left))))
 
 -- src/start.rt:117:1
 returns-4 : tie.Need-returns-4
@@ -72,7 +73,7 @@ returns-4 c =
     rw (starts-is (c .before .before .before .before .before .before .before .before .args .program .now) (c .before .before .before .before .before .before .before .before .args .budget) (tables (c .before .before .before .before .before .before .before .before .args .environment .now) (c .before .before .before .before .before .before .before .before .args .heap .now) (c .before .before .before .before .before .before .before .before .args .constraints .now)))
     (c .fits-at-start .ensures
     ∙ read-on (readProgram (c .before .before .before .before .before .before .before .before .args .program .now)) k (c .before .before .before .read-program .ensures) (c .before .enum-told .given .1)
-    ∙ test-on 1 0 (early 2 (readProgram (c .before .before .before .before .before .before .before .before .args .program .now)) >> k) (both _ _ (sym (c .before .before .before .before .before .before .before .are-sized .ensures) ∙ not-false _ (c .before .before .before .before .before .before .if1 .left)) (rw (back32 (c .before .before .before .before .before .before .before .before .args .budget) (c .before .before .before .before .before .before .before .before .fits .budget)) at (sym (c .before .before .before .before .before .budget-fits .ensures)) ∙ not-false _ (c .before .before .before .before .if2 .left))))
+    ∙ test-on 1 0 (early 2 (readProgram (c .before .before .before .before .before .before .before .before .args .program .now)) >> k) (and-true _ _ (sym (c .before .before .before .before .before .before .before .are-sized .ensures) ∙ not-false _ (c .before .before .before .before .before .before .if1 .left)) (rw (back32 (c .before .before .before .before .before .before .before .before .args .budget) (c .before .before .before .before .before .before .before .before .fits .budget)) at (sym (c .before .before .before .before .before .budget-fits .ensures)) ∙ not-false _ (c .before .before .before .before .if2 .left))))
 
 pub starts-spec : {M : Type 1} → statement M
 starts-spec =

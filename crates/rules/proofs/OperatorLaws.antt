@@ -1,0 +1,239 @@
+-- The definitions of the operators and the operators' table say the same (T-OP, E-OP). Assumes nothing.
+use mathlib.Core.Path.{_≡_, refl, sym, ap, _∙_}
+use mathlib.Core.Logic.{_≢_}
+use mathlib.Core.Bool.{Bool, true, false, not, _&&_, _||_, true≢false}
+use Prim.Native.Nat.{ℕ, zero, suc, _≤_}
+use native.Mathlib.Omega.{arith}
+use lib.IntN.{ℤ, _+ℤ_, _-ℤ_, _*ℤ_}
+use lib.Signed.{ltZ, leZ}
+use Rattle.words.specs.Words.{eqZ}
+use Rattle.words.specs.Range.{fits}
+use Rattle.words.specs.Answer.{Answer, got, stop, _>>_, want}
+use Rattle.words.proofs.AnswerLaws.{got-inj, stop≢got, tested}
+use Rattle.words.proofs.Laws.{eqZ-refl, eqZ-true}
+use Rattle.tables.specs.declared.Value.{Value}
+use Rattle.tables.specs.declared.Value.the-variants.{Nil, Bool as Truth, Int, Ref}
+use Rattle.tables.specs.declared.Slot.the-variants.{Has}
+use Rattle.tables.specs.Values.{cell, cellOf, slotOf, Sound}
+use Rattle.tables.proofs.SearchLaws.{cases, and-left, and-right, and-true}
+use Rattle.tables.proofs.ValueLaws.{slot-of-cell}
+use Rattle.program.specs.Forms.{operators}
+use Rattle.rules.specs.Evaluation.{Kind, isNil, isBool, isInt, isRef, kindOf, opOf, anInt, aBool, aRef, comparable, two, takes, gives, same, intOf, boolOf, ranged, made, apply}
+use Rattle.rules.specs.OperatorRules.{Gives, Makes}
+
+-- ---- kind and payload
+
+module _ (a b : Value) where
+  pub same-true : same a b ≡ true → cellOf a ≡ cellOf b
+  unfolding same
+  same-true e =
+      let k : cellOf a .kind ≡ cellOf b .kind = eqZ-true _ _ (and-left (eqZ (cellOf a .kind) (cellOf b .kind)) _ e) in
+      let v : cellOf a .payload ≡ cellOf b .payload = eqZ-true _ _ (and-right (eqZ (cellOf a .kind) (cellOf b .kind)) _ e) in
+      let c : cell (cellOf a .kind) (cellOf a .payload) ≡ cell (cellOf b .kind) (cellOf b .payload) = cc in
+      c
+
+  pub cell-same : cellOf a ≡ cellOf b → same a b ≡ true
+  unfolding same
+  cell-same e =
+      rw e (and-true (eqZ (cellOf b .kind) (cellOf b .kind)) (eqZ (cellOf b .payload) (cellOf b .payload)) (eqZ-refl (cellOf b .kind)) (eqZ-refl (cellOf b .payload)))
+
+  pub same-false : same a b ≡ false → cellOf a ≢ cellOf b
+  same-false e q =
+      let c : true ≡ false = sym (cell-same q) ∙ e in
+      let z : _≡_ {A = ℕ} 0 1 = cc in
+      omega arith
+
+  pub cell-differs : cellOf a ≢ cellOf b → same a b ≡ false
+  cell-differs h = cases (same a b) (λ e. absurd (h (same-true e))) (λ e. e)
+
+  -- of values that a cell can hold: kind and payload are the same exactly where the value is
+  pub same-value : Sound a → Sound b → cellOf a ≡ cellOf b → a ≡ b
+  same-value x y e =
+      let q : Has a ≡ Has b = sym (slot-of-cell a x) ∙ ap slotOf e ∙ slot-of-cell b y in
+      cc
+
+-- a value that is no reference
+plain-sound : (a : Value) → kindOf a ≢ isRef → Sound a
+plain-sound Nil h = tt
+plain-sound (Truth b) h = tt
+plain-sound (Int n) h = tt
+plain-sound (Ref r) h = absurd (h refl)
+
+plain : (k : Kind) → k ≢ isRef → not (aRef k) ≡ true
+plain isNil h = refl
+plain isBool h = refl
+plain isInt h = refl
+plain isRef h = absurd (h refl)
+
+not-ref : (k : Kind) → not (aRef k) ≡ true → k ≢ isRef
+not-ref k e q = let c : false ≡ true = rw q at e in true≢false (sym c)
+
+-- ---- which kinds an operator takes
+
+-- what is asked of two kinds holds of these
+ints : (P : Kind → Kind → Type 0) (a b : Kind) → (anInt a && anInt b) ≡ true → P isInt isInt → P a b
+ints P isInt isInt e k = k
+ints P isInt isNil e k = absurd (true≢false (sym e))
+ints P isInt isBool e k = absurd (true≢false (sym e))
+ints P isInt isRef e k = absurd (true≢false (sym e))
+ints P isNil b e k = absurd (true≢false (sym e))
+ints P isBool b e k = absurd (true≢false (sym e))
+ints P isRef b e k = absurd (true≢false (sym e))
+
+bools : (P : Kind → Kind → Type 0) (a b : Kind) → (aBool a && aBool b) ≡ true → P isBool isBool → P a b
+bools P isBool isBool e k = k
+bools P isBool isNil e k = absurd (true≢false (sym e))
+bools P isBool isInt e k = absurd (true≢false (sym e))
+bools P isBool isRef e k = absurd (true≢false (sym e))
+bools P isNil b e k = absurd (true≢false (sym e))
+bools P isInt b e k = absurd (true≢false (sym e))
+bools P isRef b e k = absurd (true≢false (sym e))
+
+module _ (a b : Kind) where
+  plains {ℓ} : {X : Type ℓ} → comparable a b ≡ true → (a ≢ isRef → b ≢ isRef → X) → X
+  unfolding comparable
+  plains e k = k (not-ref a (and-left (not (aRef a)) (not (aRef b)) e)) (not-ref b (and-right (not (aRef a)) (not (aRef b)) e))
+
+  compared : a ≢ isRef → b ≢ isRef → comparable a b ≡ true
+  unfolding comparable
+  compared x y = and-true (not (aRef a)) (not (aRef b)) (plain a x) (plain b y)
+
+  pub gives-sound : (o : ℕ) → 1 ≤ o → o ≤ operators → takes (opOf o) a b ≡ true → Gives o a b (gives (opOf o))
+  unfolding takes gives opOf
+  gives-sound zero h l e = absurd (omega arith)
+  gives-sound (suc zero) h l e = ints (λ x y. Gives 1 x y isInt) a b e Gives.plus
+  gives-sound (suc (suc zero)) h l e = ints (λ x y. Gives 2 x y isInt) a b e Gives.minus
+  gives-sound (suc (suc (suc zero))) h l e = ints (λ x y. Gives 3 x y isInt) a b e Gives.times
+  gives-sound (suc (suc (suc (suc zero)))) h l e = ints (λ x y. Gives 4 x y isBool) a b e Gives.less
+  gives-sound (suc (suc (suc (suc (suc zero))))) h l e = ints (λ x y. Gives 5 x y isBool) a b e Gives.at-most
+  gives-sound (suc (suc (suc (suc (suc (suc zero)))))) h l e = plains e λ x y. Gives.equal x y
+  gives-sound (suc (suc (suc (suc (suc (suc (suc zero))))))) h l e = plains e λ x y. Gives.unequal x y
+  gives-sound (suc (suc (suc (suc (suc (suc (suc (suc zero)))))))) h l e = ints (λ x y. Gives 8 x y isBool) a b e Gives.at-least
+  gives-sound (suc (suc (suc (suc (suc (suc (suc (suc (suc zero))))))))) h l e = ints (λ x y. Gives 9 x y isBool) a b e Gives.more
+  gives-sound (suc (suc (suc (suc (suc (suc (suc (suc (suc (suc zero)))))))))) h l e = bools (λ x y. Gives 10 x y isBool) a b e Gives.both
+  gives-sound (suc (suc (suc (suc (suc (suc (suc (suc (suc (suc (suc zero))))))))))) h l e = bools (λ x y. Gives 11 x y isBool) a b e Gives.either
+  gives-sound (suc (suc (suc (suc (suc (suc (suc (suc (suc (suc (suc (suc o)))))))))))) h l e = absurd (omega arith)
+
+pub gives-operator : {o : ℕ} {a b k : Kind} → Gives o a b k → (1 ≤ o) × (o ≤ operators)
+gives-operator Gives.plus = (omega arith, omega arith)
+gives-operator Gives.minus = (omega arith, omega arith)
+gives-operator Gives.times = (omega arith, omega arith)
+gives-operator Gives.less = (omega arith, omega arith)
+gives-operator Gives.at-most = (omega arith, omega arith)
+gives-operator (Gives.equal x y) = (omega arith, omega arith)
+gives-operator (Gives.unequal x y) = (omega arith, omega arith)
+gives-operator Gives.at-least = (omega arith, omega arith)
+gives-operator Gives.more = (omega arith, omega arith)
+gives-operator Gives.both = (omega arith, omega arith)
+gives-operator Gives.either = (omega arith, omega arith)
+
+pub gives-complete : {o : ℕ} {a b k : Kind} → Gives o a b k → (takes (opOf o) a b ≡ true) × (gives (opOf o) ≡ k)
+unfolding takes gives opOf
+gives-complete Gives.plus = (refl, refl)
+gives-complete Gives.minus = (refl, refl)
+gives-complete Gives.times = (refl, refl)
+gives-complete Gives.less = (refl, refl)
+gives-complete Gives.at-most = (refl, refl)
+gives-complete (Gives.equal {a = a} {b = b} x y) = (compared a b x y, refl)
+gives-complete (Gives.unequal {a = a} {b = b} x y) = (compared a b x y, refl)
+gives-complete Gives.at-least = (refl, refl)
+gives-complete Gives.more = (refl, refl)
+gives-complete Gives.both = (refl, refl)
+gives-complete Gives.either = (refl, refl)
+
+-- ---- what an operator makes
+
+range {ℓ} : {X : Type ℓ} {v : Value} (z : ℤ) → ranged z ≡ got v → (fits z ≡ true → Int z ≡ v → X) → X
+unfolding ranged
+range z e k = tested 9 (fits z) _ e λ c h. k c (got-inj h)
+
+-- the operands are integers, or booleans, where those are asked for
+int-made : (P : Value → Value → Type 0) (f : ℤ → ℤ → Answer ℕ Value) (v a b : Value) → (want 8 (anInt (kindOf a) && anInt (kindOf b)) >> f (intOf a) (intOf b)) ≡ got v
+    → ((m n : ℤ) → f m n ≡ got v → P (Int m) (Int n)) → P a b
+int-made P f v (Int m) (Int n) e k = k m n e
+int-made P f v (Int m) Nil e k = stop≢got e
+int-made P f v (Int m) (Truth y) e k = stop≢got e
+int-made P f v (Int m) (Ref s) e k = stop≢got e
+int-made P f v Nil b e k = stop≢got e
+int-made P f v (Truth x) b e k = stop≢got e
+int-made P f v (Ref r) b e k = stop≢got e
+
+bool-made : (P : Value → Value → Type 0) (f : Bool → Bool → Bool) (v a b : Value)
+    → (want {E = ℕ} 8 (aBool (kindOf a) && aBool (kindOf b)) >> got (Truth (f (boolOf a) (boolOf b)))) ≡ got v
+    → ((m n : Bool) → Truth (f m n) ≡ v → P (Truth m) (Truth n)) → P a b
+bool-made P f v (Truth m) (Truth n) e k = k m n (got-inj e)
+bool-made P f v (Truth m) Nil e k = stop≢got e
+bool-made P f v (Truth m) (Int y) e k = stop≢got e
+bool-made P f v (Truth m) (Ref s) e k = stop≢got e
+bool-made P f v Nil b e k = stop≢got e
+bool-made P f v (Int x) b e k = stop≢got e
+bool-made P f v (Ref r) b e k = stop≢got e
+
+module _ (v a b : Value) where
+  -- = and ≠: two plain values are one, or are apart
+  like-made : (P : Bool → Type 0) (f : Bool → Bool) → (want {E = ℕ} 8 (comparable (kindOf a) (kindOf b)) >> got (Truth (f (same a b)))) ≡ got v
+      → (kindOf a ≢ isRef → kindOf b ≢ isRef → a ≡ b → P true) → (kindOf a ≢ isRef → kindOf b ≢ isRef → a ≢ b → P false) → (t : Bool) × (P t × (Truth (f t) ≡ v))
+  like-made P f e one two =
+      tested 8 (comparable (kindOf a) (kindOf b)) _ e λ c k.
+      plains (kindOf a) (kindOf b) c λ x y.
+      cases (same a b)
+      (λ s. (true, (one x y (same-value a b (plain-sound a x) (plain-sound b y) (same-true a b s)), rw s at (got-inj k))))
+      (λ s. (false, (two x y (λ q. same-false a b s (ap cellOf q)), rw s at (got-inj k))))
+
+  pub makes-sound : (o : ℕ) → 1 ≤ o → o ≤ operators → apply (opOf o) a b ≡ got v → Makes o a b v
+  unfolding apply made takes opOf
+  makes-sound zero h l e = absurd (omega arith)
+  makes-sound (suc zero) h l e = int-made (λ x y. Makes 1 x y v) (λ m n. ranged (m +ℤ n)) v a b e λ m n k. range (m +ℤ n) k λ c q. rw (← q) (Makes.plus c)
+  makes-sound (suc (suc zero)) h l e = int-made (λ x y. Makes 2 x y v) (λ m n. ranged (m -ℤ n)) v a b e λ m n k. range (m -ℤ n) k λ c q. rw (← q) (Makes.minus c)
+  makes-sound (suc (suc (suc zero))) h l e = int-made (λ x y. Makes 3 x y v) (λ m n. ranged (m *ℤ n)) v a b e λ m n k. range (m *ℤ n) k λ c q. rw (← q) (Makes.times c)
+  makes-sound (suc (suc (suc (suc zero)))) h l e = int-made (λ x y. Makes 4 x y v) (λ m n. got (Truth (ltZ m n))) v a b e λ m n k. rw (← got-inj k) Makes.less
+  makes-sound (suc (suc (suc (suc (suc zero))))) h l e = int-made (λ x y. Makes 5 x y v) (λ m n. got (Truth (leZ m n))) v a b e λ m n k. rw (← got-inj k) Makes.at-most
+  makes-sound (suc (suc (suc (suc (suc (suc zero)))))) h l e =
+      let t = like-made (λ t. Makes 6 a b (Truth t)) (λ t. t) e (λ x y q. Makes.equal x y q) (λ x y q. Makes.not-equal x y q) in
+      rw (← t .1 .1) (t .1 .0)
+  makes-sound (suc (suc (suc (suc (suc (suc (suc zero))))))) h l e =
+      let t = like-made (λ t. Makes 7 a b (Truth (not t))) (λ t. not t) e (λ x y q. Makes.not-unequal x y q) (λ x y q. Makes.unequal x y q) in
+      rw (← t .1 .1) (t .1 .0)
+  makes-sound (suc (suc (suc (suc (suc (suc (suc (suc zero)))))))) h l e = int-made (λ x y. Makes 8 x y v) (λ m n. got (Truth (leZ n m))) v a b e λ m n k. rw (← got-inj k) Makes.at-least
+  makes-sound (suc (suc (suc (suc (suc (suc (suc (suc (suc zero))))))))) h l e = int-made (λ x y. Makes 9 x y v) (λ m n. got (Truth (ltZ n m))) v a b e λ m n k. rw (← got-inj k) Makes.more
+  makes-sound (suc (suc (suc (suc (suc (suc (suc (suc (suc (suc zero)))))))))) h l e = bool-made (λ x y. Makes 10 x y v) (λ m n. m && n) v a b e λ m n q. rw (← q) Makes.both
+  makes-sound (suc (suc (suc (suc (suc (suc (suc (suc (suc (suc (suc zero))))))))))) h l e = bool-made (λ x y. Makes 11 x y v) (λ m n. m || n) v a b e λ m n q. rw (← q) Makes.either
+  makes-sound (suc (suc (suc (suc (suc (suc (suc (suc (suc (suc (suc (suc o)))))))))))) h l e = absurd (omega arith)
+
+pub makes-operator : {o : ℕ} {a b v : Value} → Makes o a b v → (1 ≤ o) × (o ≤ operators)
+makes-operator (Makes.plus c) = (omega arith, omega arith)
+makes-operator (Makes.minus c) = (omega arith, omega arith)
+makes-operator (Makes.times c) = (omega arith, omega arith)
+makes-operator Makes.less = (omega arith, omega arith)
+makes-operator Makes.at-most = (omega arith, omega arith)
+makes-operator (Makes.equal x y q) = (omega arith, omega arith)
+makes-operator (Makes.not-equal x y q) = (omega arith, omega arith)
+makes-operator (Makes.unequal x y q) = (omega arith, omega arith)
+makes-operator (Makes.not-unequal x y q) = (omega arith, omega arith)
+makes-operator Makes.at-least = (omega arith, omega arith)
+makes-operator Makes.more = (omega arith, omega arith)
+makes-operator Makes.both = (omega arith, omega arith)
+makes-operator Makes.either = (omega arith, omega arith)
+
+-- kind and payload of plain values
+like : (a b : Value) → a ≡ b → same a b ≡ true
+like a b q = cell-same a b (ap cellOf q)
+
+unlike : (a b : Value) → kindOf a ≢ isRef → kindOf b ≢ isRef → a ≢ b → same a b ≡ false
+unlike a b x y n = cell-differs a b (λ q. n (same-value a b (plain-sound a x) (plain-sound b y) q))
+
+pub makes-complete : {o : ℕ} {a b v : Value} → Makes o a b v → apply (opOf o) a b ≡ got v
+unfolding apply made takes opOf ranged
+makes-complete (Makes.plus c) = rw c
+makes-complete (Makes.minus c) = rw c
+makes-complete (Makes.times c) = rw c
+makes-complete Makes.less = refl
+makes-complete Makes.at-most = refl
+makes-complete (Makes.equal {a = a} {b = b} x y q) = rw (compared (kindOf a) (kindOf b) x y, like a b q)
+makes-complete (Makes.not-equal {a = a} {b = b} x y n) = rw (compared (kindOf a) (kindOf b) x y, unlike a b x y n)
+makes-complete (Makes.unequal {a = a} {b = b} x y n) = rw (compared (kindOf a) (kindOf b) x y, unlike a b x y n)
+makes-complete (Makes.not-unequal {a = a} {b = b} x y q) = rw (compared (kindOf a) (kindOf b) x y, like a b q)
+makes-complete Makes.at-least = refl
+makes-complete Makes.more = refl
+makes-complete Makes.both = refl
+makes-complete Makes.either = refl

@@ -1,0 +1,43 @@
+-- The operators' table (01, "Operators: 1 +, 2 -, 3 ×, 4 <, 5 ≤, 6 =, 7 ≠, 8 ≥, 9 >, 10 and, 11 or"; 000, T-OP and E-OP), a line for each.
+-- Assumes nothing: these are definitions.
+use mathlib.Core.Path.{_≡_}
+use mathlib.Core.Logic.{_≢_}
+use Prim.Native.Nat.{ℕ}
+use mathlib.Core.Bool.{Bool, true, false, _&&_, _||_}
+use lib.IntN.{ℤ, _+ℤ_, _-ℤ_, _*ℤ_}
+use lib.Signed.{ltZ, leZ}
+use Rattle.words.specs.Range.{fits}
+use Rattle.tables.specs.declared.Value.{Value}
+use Rattle.tables.specs.declared.Value.the-variants.{Bool as Truth, Int}
+use Rattle.rules.specs.Evaluation.{Kind, isBool, isInt, isRef, kindOf}
+
+-- T-OP: the operator takes operands of the first two kinds, and gives the third
+pub data Gives : ℕ → Kind → Kind → Kind → Type 0 where
+  plus : Gives 1 isInt isInt isInt
+  minus : Gives 2 isInt isInt isInt
+  times : Gives 3 isInt isInt isInt
+  less : Gives 4 isInt isInt isBool
+  at-most : Gives 5 isInt isInt isBool
+  equal : {a b : Kind} → a ≢ isRef → b ≢ isRef → Gives 6 a b isBool
+  unequal : {a b : Kind} → a ≢ isRef → b ≢ isRef → Gives 7 a b isBool
+  at-least : Gives 8 isInt isInt isBool
+  more : Gives 9 isInt isInt isBool
+  both : Gives 10 isBool isBool isBool
+  either : Gives 11 isBool isBool isBool
+
+-- E-OP: the operator makes the third value of the first two; "each result of 1 to 3 must fit 32 bits signed"
+pub data Makes : ℕ → Value → Value → Value → Type 0 where
+  plus : {m n : ℤ} → fits (m +ℤ n) ≡ true → Makes 1 (Int m) (Int n) (Int (m +ℤ n))
+  minus : {m n : ℤ} → fits (m -ℤ n) ≡ true → Makes 2 (Int m) (Int n) (Int (m -ℤ n))
+  times : {m n : ℤ} → fits (m *ℤ n) ≡ true → Makes 3 (Int m) (Int n) (Int (m *ℤ n))
+  less : {m n : ℤ} → Makes 4 (Int m) (Int n) (Truth (ltZ m n))
+  at-most : {m n : ℤ} → Makes 5 (Int m) (Int n) (Truth (leZ m n))
+  -- "6 and 7 any two values but references"; "unlike kinds are unequal"
+  equal : {a b : Value} → kindOf a ≢ isRef → kindOf b ≢ isRef → a ≡ b → Makes 6 a b (Truth true)
+  not-equal : {a b : Value} → kindOf a ≢ isRef → kindOf b ≢ isRef → a ≢ b → Makes 6 a b (Truth false)
+  unequal : {a b : Value} → kindOf a ≢ isRef → kindOf b ≢ isRef → a ≢ b → Makes 7 a b (Truth true)
+  not-unequal : {a b : Value} → kindOf a ≢ isRef → kindOf b ≢ isRef → a ≡ b → Makes 7 a b (Truth false)
+  at-least : {m n : ℤ} → Makes 8 (Int m) (Int n) (Truth (leZ n m))
+  more : {m n : ℤ} → Makes 9 (Int m) (Int n) (Truth (ltZ n m))
+  both : {a b : Bool} → Makes 10 (Truth a) (Truth b) (Truth (a && b))
+  either : {a b : Bool} → Makes 11 (Truth a) (Truth b) (Truth (a || b))
