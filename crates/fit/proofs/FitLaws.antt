@@ -38,11 +38,11 @@ pub record FitFacts (S : Cells) : Type 0 where
   pub blank : (r f : ℕ) → r < 64 → f < 8 → fieldCount (S .heap) r ≤ f → blankPlace (S .heap) r f ≡ true
 
 module _ (S : Cells) (fit : Fit S) where
-  environment-fits : environmentFits (wordAt (S .heap) 0) (S .environment) ≡ true
+  pub environment-fits : environmentFits (wordAt (S .heap) 0) (S .environment) ≡ true
   unfolding cellsFit
   environment-fits = and-left (environmentFits (wordAt (S .heap) 0) (S .environment)) (heapFits (S .heap)) (fit .fits)
 
-  heap-fits : heapFits (S .heap) ≡ true
+  pub heap-fits : heapFits (S .heap) ≡ true
   unfolding cellsFit
   heap-fits = and-right (environmentFits (wordAt (S .heap) 0) (S .environment)) (heapFits (S .heap)) (fit .fits)
 
@@ -191,7 +191,7 @@ module _ (S : Cells) (fit : Fit S) where
   fit-add-drop fs n a b = add-drop (S .heap) fs n (fit .sized .heap) a b (fit-record (recordCount (S .heap)) a (omega arith))
 
   -- counts and labels are numbers
-  fit-numbered : Numbered (S .heap)
+  pub fit-numbered : Numbered (S .heap)
   fit-numbered = record { records = omega (arith, fit-count); counts = λ r a. omega (arith, number-small r a); labels = λ r f a b. go r f a b (decLt f (fieldCount (S .heap) r)) }
     where
       go : (r f : ℕ) → r < 64 → f < 8 → Dec (f < fieldCount (S .heap) r) → labelAt (S .heap) r f < 2147483648

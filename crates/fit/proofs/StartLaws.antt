@@ -2,7 +2,7 @@
 use mathlib.Core.Path.{_≡_}
 use mathlib.Core.Bool.{true, _&&_}
 use mathlib.Core.List.{List}
-use borrow.Author.Tests.{eqb-true}
+use borrow.Author.Tests.{eq-eqb, eqb-true}
 use lib.Dec.{eqb}
 use lib.IntN.{ℤ}
 use lib.ListN.{length}
@@ -23,6 +23,11 @@ sized-lengths e h c k =
         eqb-true (length c) constraintsWords (and-right (eqb (length e) environmentWords && eqb (length h) heapWords) (eqb (length c) constraintsWords) k),
       ),
     )
+
+-- and tables that have them are sized
+pub lengths-sized : (e h c : List ℤ) → length e ≡ environmentWords → length h ≡ heapWords → length c ≡ constraintsWords → sized e h c ≡ true
+unfolding sized
+lengths-sized e h c a b d = rw (eq-eqb (length e) environmentWords a, eq-eqb (length h) heapWords b, eq-eqb (length c) constraintsWords d)
 
 -- a fit environment and a fit heap are fit together
 pub tables-fit : (S : Cells) → environmentFits (wordAt (S .heap) 0) (S .environment) ≡ true → heapFits (S .heap) ≡ true → cellsFit S ≡ true

@@ -19,8 +19,7 @@ use Rattle.rules.specs.State.{State, Res}
 use Rattle.rules.specs.Statements.{Left, positionOf, doSimple}
 use Rattle.rules.specs.Running.{Out, thenOut, taken, doVerb, doBlock}
 use Rattle.rules.specs.Running.{Tally as Carries}
-use Rattle.rules.proofs.SimpleLaws.{steps-iff}
-use Rattle.rules.proofs.CountLaws.{Takes, steps-take}
+use Rattle.rules.proofs.LeavesLaws.{Takes, leaves-take, simple-leaves}
 use Rattle.rules.proofs.RefusalLaws.{refusal-least, simple-refuses}
 use Rattle.rules.proofs.RunningClauses.{is-skip, is-assign, is-new, is-always, is-once, is-always-same, is-once-same}
 use Rattle.rules.proofs.RunningClauses.{taken-got, taken-stop, verb-simple, verb-none, statement-is}
@@ -87,7 +86,7 @@ verb-flat block past program budget p u noVerb h = verb-none block past program 
 
 module _ (program p ws : List ℤ) (S : State) (v : Verb) where
   takes : {l : Left} → doSimple program p S ws v ≡ got l → Takes ws l
-  takes {l} e = steps-take (steps-iff program p S ws v l .0 e)
+  takes {l} e = leaves-take (simple-leaves program p S ws v l e)
 
   few-in : (m : Res Left) → doSimple program p S ws v ≡ m → acceptedIn (doneOf m) ≤ 1
   few-in (got l) e = takes e .few

@@ -1,7 +1,7 @@
 -- The target's class: its cells listed, what the code asks of them, and what it answers. Assumes nothing.
 use mathlib.Core.Path.{_≡_, refl, sym, ap, _∙_}
 use mathlib.Core.Bool.{Bool, true, false, not, cond, _&&_, _||_}
-use mathlib.Core.List.{List, [], _∷_, _++_, append-assoc, List·Memᴰ·head, List·Memᴰ·tail}
+use mathlib.Core.List.{List, [], _∷_, _++_, append-assoc, List·Memᴰ·head, List·Memᴰ·tail, List·Memᴰ as OneOf}
 use Prim.Native.Nat.{ℕ, zero, suc, _+_, _-_, _*_, _≤_, _<_}
 use native.Mathlib.Omega.{arith}
 use native.Mathlib.Numerals.{add-one}
@@ -16,7 +16,7 @@ use Rattle.tables.specs.Cells.{Cells}
 use Rattle.tables.proofs.SearchLaws.{cases}
 use Rattle.rules.specs.State.{listed, slotAt}
 use Rattle.rules.specs.Identities.{Tie, member, grown, grownBy, classOf, names, is, clashFree}
-use Rattle.rules.specs.IdentityRules.{OneOf, by-tie, backwards, onwards}
+use Rattle.rules.specs.Rules.Identities.{by-tie, backwards, onwards}
 use Rattle.rules.proofs.ConstraintClauses.{listed-none, listed-more}
 use Rattle.rules.proofs.IdentityClauses.{not-member, member-more, grown-more, grown-by-none, grown-by-more, names-none, names-more, clash-none, clash-more}
 use Rattle.rules.proofs.ClassLaws.{member-head, member-tail, member-cons, member-none, class-all, class-target, class-iff}

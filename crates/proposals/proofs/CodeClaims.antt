@@ -10,8 +10,8 @@ use Rattle.words.proofs.AnswerLaws.{either}
 use Rattle.tables.specs.Cells.{Cells}
 use Rattle.rules.specs.State.{Res}
 use Rattle.rules.specs.Proposals.{settle}
-use Rattle.rules.proofs.EffectLaws.{proposals-move}
-use Rattle.rules.proofs.AcceptanceLaws.{accepted-iff}
+use Rattle.rules.proofs.EffectLaws.{settles-near}
+use Rattle.rules.proofs.ProposalLaws.{settle-iff}
 use Rattle.proposals.specs.declared.Settled.{Settled}
 use Rattle.proposals.specs.declared.Settled.the-variants.{Takes, Refuses}
 use Rattle.proposals.specs.Told.{settledOf, settledCells, Settles}
@@ -35,13 +35,13 @@ module _ {S Z : Cells} {r : Settled} (m : Res (Cells × List ℤ)) (s : Settles 
 
 pub taken-moves : TakenMoves
 taken-moves program kept asked word S Z ws r left sized s h =
-    taken-is (settle program kept asked word S ws) s h λ rest e l. proposals-move program kept asked word S ws Z rest sized e
+    taken-is (settle program kept asked word S ws) s h λ rest e l. settles-near sized (settle-iff program kept asked word S ws Z rest .0 e) .effect
 
 pub refused-stays : RefusedStays
 refused-stays program kept asked word S Z ws r n at s h = stays (settle program kept asked word S ws) s h
 
 pub taken-exactly : TakenExactly
-taken-exactly program kept asked word S Z before ws r left c room s = (
-  λ h. taken-is (settle program kept asked word S ws) s h λ rest e l. (rest, (accepted-iff program kept asked word S before ws Z rest c room .0 e, l)),
-  λ x. let e = accepted-iff program kept asked word S before ws Z (x .0) c room .1 (x .1 .0) in rw e at (s .is) ∙ rw (x .1 .1),
+taken-exactly program kept asked word S Z ws r left s = (
+  λ h. taken-is (settle program kept asked word S ws) s h λ rest e l. (rest, (settle-iff program kept asked word S ws Z rest .0 e, l)),
+  λ x. let e = settle-iff program kept asked word S ws Z (x .0) .1 (x .1 .0) in rw e at (s .is) ∙ rw (x .1 .1),
 )

@@ -1,11 +1,11 @@
 -- The form of a proposal, and its entries as the words tell them. Assumes nothing.
 use mathlib.Core.Path.{_≡_, refl, sym, ap, _∙_}
 use mathlib.Core.Bool.{Bool, true, false, _&&_}
-use mathlib.Core.List.{List, [], _∷_, _++_}
+use mathlib.Core.List.{List, [], _∷_}
 use Prim.Native.Nat.{ℕ, zero, suc, _+_, _-_, _*_, _≤_, _<_}
 use native.Mathlib.Omega.{arith}
 use native.Mathlib.Numerals.{add-one}
-use borrow.Author.Tests.{lt-ltb, le-ltb, le-leb, lt-leb, leb-true}
+use borrow.Author.Tests.{lt-ltb, le-ltb, le-leb, lt-leb}
 use lib.Dec.{ltb, leb}
 use lib.IntN.{ℤ, pos}
 use lib.ListN.{length, drop}
@@ -13,15 +13,14 @@ use lib.Seq.{drop-drop}
 use Rattle.words.specs.Words.{numberOf, numberAt}
 use Rattle.words.specs.Answer.{Answer, got, stop, _>>=_, _>>_, want}
 use Rattle.words.proofs.Laws.{number-first, number-drop}
-use Rattle.words.proofs.AnswerLaws.{stop≢got, stop-inj, tested, either}
+use Rattle.words.proofs.AnswerLaws.{either}
 use Rattle.tables.specs.Sizes.{locations}
-use Rattle.tables.proofs.SearchLaws.{cases}
 use Rattle.rules.specs.State.{listed}
 use Rattle.rules.specs.Proposals.{Entry, entries, proposal}
-use Rattle.rules.specs.Conditions.{wordsOf}
+use Rattle.rules.specs.Rules.Proposals.{EntriesAre, no-more, next, Formed, formed as by-count}
 use Rattle.rules.proofs.ConstraintClauses.{listed-none, listed-more}
 use Rattle.rules.proofs.ProposalClauses.{entries-none, entries-no-words, entries-one-word, entries-more, proposal-none, proposal-more}
-use Rattle.rules.proofs.AcceptanceLaws.{formed-iff}
+use Rattle.rules.proofs.EntryLaws.{entries-few, formed-iff, entries-stop}
 use Rattle.proposals.specs.declared.Formed.the-variants.{Pairs, Not}
 use Rattle.proposals.specs.Told.{answers, entryAt, entriesIn, formedOf}
 
@@ -86,15 +85,12 @@ module _ {pairs : List ℤ} {n i low : ℕ} (inv : PairsLeft pairs n i low) wher
 
 -- ---- the form of a proposal
 
-entries-stop : (n low : ℕ) (ws : List ℤ) (k : ℕ) → entries n low ws ≡ stop k → k ≡ 16
-entries-stop zero low ws k e = stop≢got (sym e ∙ entries-none low ws)
-entries-stop (suc n) low [] k e = stop-inj (sym e ∙ entries-no-words n low)
-entries-stop (suc n) low (l ∷ []) k e = stop-inj (sym e ∙ entries-one-word n low l)
-entries-stop (suc n) low (l ∷ v ∷ ws) k e = cases (leb low (numberOf l) && ltb (numberOf l) locations)
-    (λ c. either (entries n (suc (numberOf l)) ws)
-    (λ y e1. stop≢got (sym (rw (entries-more n low l v ws, c, e1) at e)))
-    (λ j e1. entries-stop n (suc (numberOf l)) ws k (e1 ∙ ap stop (stop-inj (rw (entries-more n low l v ws, c, e1) at e)))))
-    (λ c. sym (stop-inj (rw (entries-more n low l v ws, c) at e)))
+entries-count : {low n : ℕ} {ws rest : List ℤ} {es : List Entry} → EntriesAre low n ws es rest → n ≡ length es
+entries-count no-more = refl
+entries-count (next a b others) = ap suc (entries-count others)
+
+formed-count : {w : ℤ} {ws rest : List ℤ} {es : List Entry} → Formed (w ∷ ws) es rest → numberOf w ≡ length es
+formed-count (by-count is) = entries-count is
 
 pub form-none : (ws : List ℤ) → length ws ≡ 0 → Not 6 ≡ formedOf (proposal ws)
 form-none [] h = rw proposal-none
@@ -111,9 +107,7 @@ module _ (n : ℤ) (ws : List ℤ) (few : numberOf n ≤ locations) where
 
   formed : true ≡ answers (entries (numberOf n) 0 ws) → Pairs (numberOf n) ≡ formedOf (proposal (n ∷ ws))
   formed h = either (entries (numberOf n) 0 ws)
-      (λ x e. let f = formed-iff (n ∷ ws) (x .0) (x .1) .0 (proposal-entries ∙ e) in
-      let l : numberOf n ≡ length (x .0) = sym (number-first n ws) ∙ ap (λ us. numberAt us 0) (f .words) ∙ number-first (pos (length (x .0))) (wordsOf (x .0) ++ x .1) in
-      rw (proposal-entries, e) (ap Pairs l))
+      (λ x e. rw (proposal-entries, e) (ap Pairs (formed-count (formed-iff (n ∷ ws) (x .0) (x .1) .0 (proposal-entries ∙ e)))))
       (λ k e. unlike (let y : true ≡ false = rw e at h in cc))
 
 module _ (ws : List ℤ) (begun : length ws ≡ 0 → ⊥) {n : ℕ} (is : n ≡ numberAt ws 0) where
@@ -148,20 +142,20 @@ entry-next a b ws i =
     let y : 2 + 2 * i + 1 ≡ suc (suc (2 * i + 1)) = omega arith in
     rw (x, y, ← number-drop (a ∷ b ∷ ws) 2 (2 * i))
 
-entry-first : (e : Entry) (ws : List ℤ) → entryAt (pos (e .location) ∷ e .payload ∷ ws) 0 ≡ e
+entry-first : (l : ℕ) (v : ℤ) (ws : List ℤ) → entryAt (pos l ∷ v ∷ ws) 0 ≡ record { location = l; payload = v }
 unfolding entryAt
-entry-first e ws = rw (number-first (pos (e .location)) (e .payload ∷ ws))
+entry-first l v ws = rw (number-first (pos l) (v ∷ ws))
 
-entries-words : (es : List Entry) (rest : List ℤ) → entriesIn (wordsOf es ++ rest) (length es) ≡ es
-entries-words [] rest = listed-none (entryAt rest) 0
-entries-words (e ∷ es) rest =
-    let ws = wordsOf es ++ rest in
-    listed-more (entryAt (pos (e .location) ∷ e .payload ∷ ws)) 0 (length es)
-    ∙ rw (entry-first e ws, listed-shift (entryAt (pos (e .location) ∷ e .payload ∷ ws)) (entryAt ws) (entry-next (pos (e .location)) (e .payload) ws) 0 (length es), entries-words es rest)
+module _ {rest : List ℤ} where
+  entries-words : {low n : ℕ} {ws : List ℤ} {es : List Entry} → EntriesAre low n ws es rest → entriesIn ws n ≡ es
+  entries-words no-more = listed-none (entryAt rest) 0
+  entries-words (next {n = n} {l = l} {payload = v} {ws = ws} a b others) =
+      listed-more (entryAt (pos l ∷ v ∷ ws)) 0 n
+      ∙ rw (entry-first l v ws, listed-shift (entryAt (pos l ∷ v ∷ ws)) (entryAt ws) (entry-next (pos l) v ws) 0 n, entries-words others)
 
-drop-words : (es : List Entry) (rest : List ℤ) → drop (2 * length es) (wordsOf es ++ rest) ≡ rest
-drop-words [] rest = refl
-drop-words (e ∷ es) rest = let z : 2 * suc (length es) ≡ suc (suc (2 * length es)) = omega arith in rw z (drop-words es rest)
+  drop-words : {low n : ℕ} {ws : List ℤ} {es : List Entry} → EntriesAre low n ws es rest → drop (2 * n) ws ≡ rest
+  drop-words no-more = refl
+  drop-words (next {n = n} a b others) = let z : 2 * suc n ≡ suc (suc (2 * n)) = omega arith in rw z (drop-words others)
 
 -- a proposal of n pairs: its entries and the unread words, as the code has them
 pub record Proposed (ws : List ℤ) (n : ℕ) : Type 0 where
@@ -171,12 +165,14 @@ pub record Proposed (ws : List ℤ) (n : ℕ) : Type 0 where
 pub proposed : {ws : List ℤ} {n : ℕ} → Pairs n ≡ formedOf (proposal ws) → Proposed ws n
 proposed {ws = ws} {n = n} h = either (proposal ws) there (λ k e. unlike (let y : Pairs n ≡ Not k = rw e at h in cc))
   where
-    there : (x : List Entry × List ℤ) → proposal ws ≡ got x → Proposed ws n
-    there x e =
-        let f = formed-iff ws (x .0) (x .1) .0 e in
-        let l : n ≡ length (x .0) = let y : Pairs n ≡ Pairs (length (x .0)) = rw e at h in cc in
-        let z : 1 + 2 * length (x .0) ≡ suc (2 * length (x .0)) = omega arith in
+    as-told : {ws rest : List ℤ} {es : List Entry} → Formed ws es rest → n ≡ length es → Proposed ws n
+    as-told {rest = rest} {es = es} (by-count {n = m} {ws = ws} is) e =
+        let l : n ≡ m = e ∙ sym (entries-count is) in
+        let z : 1 + 2 * m ≡ suc (2 * m) = omega arith in
         record {
-          few = tested 16 (leb (length (x .0)) locations) _ (sym (proposal-more (pos (length (x .0))) (wordsOf (x .0) ++ x .1)) ∙ (rw (f .words) at e)) λ c k. rw l (leb-true (length (x .0)) locations c);
-          is = e ∙ rw (l, f .words, z, entries-words (x .0) (x .1), drop-words (x .0) (x .1));
+          few = omega (arith, entries-few is (omega arith));
+          is = formed-iff (pos m ∷ ws) es rest .1 (by-count is) ∙ rw (l, z, entries-words is, drop-words is);
         }
+
+    there : (x : List Entry × List ℤ) → proposal ws ≡ got x → Proposed ws n
+    there x e = as-told (formed-iff ws (x .0) (x .1) .0 e) (let y : Pairs n ≡ Pairs (length (x .0)) = rw e at h in cc)

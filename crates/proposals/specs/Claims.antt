@@ -1,17 +1,14 @@
 -- The claims of the rules about proposals, said of what the code answers and leaves. Assumes nothing: these are statements.
 use mathlib.Core.Path.{_≡_}
 use mathlib.Core.Logic.{_↔_}
-use mathlib.Core.Bool.{true}
 use mathlib.Core.List.{List}
 use Prim.Native.Nat.{ℕ}
 use lib.IntN.{ℤ}
 use lib.ListN.{length}
-use Rattle.words.specs.Answer.{got}
 use Rattle.tables.specs.Cells.{Cells, Sized}
-use Rattle.rules.specs.Constraints.{Part, counted}
 use Rattle.rules.specs.Proposals.{Asked, settle}
 use Rattle.rules.specs.Effects.{Effect}
-use Rattle.rules.specs.Conditions.{Acceptable}
+use Rattle.rules.specs.Rules.Proposals.{Settles as Accepts}
 use Rattle.proposals.specs.declared.Settled.{Settled}
 use Rattle.proposals.specs.declared.Settled.the-variants.{Takes, Refuses}
 use Rattle.proposals.specs.Told.{Settles}
@@ -26,8 +23,8 @@ abbrev pub RefusedStays : Type 0
 RefusedStays = (program kept : List ℤ) (asked : Asked) (word : List ℤ) (S Z : Cells) (ws : List ℤ) (r : Settled) (n at : ℕ)
     → Settles S Z r (settle program kept asked word S ws) → r ≡ Refuses n at → Z ≡ S
 
--- where the parts that count read and there is room, it is taken exactly when 01's conditions, written apart from the code's order, all hold
+-- it is taken exactly when 01's conditions, written apart from the code's order, all hold
 abbrev pub TakenExactly : Type 0
-TakenExactly = (program kept : List ℤ) (asked : Asked) (word : List ℤ) (S Z : Cells) (before : List Part) (ws : List ℤ) (r : Settled) (left : ℕ)
-    → counted program kept (asked .own) S ≡ got before → asked .room ≡ true → Settles S Z r (settle program kept asked word S ws)
-    → (r ≡ Takes left) ↔ ((rest : List ℤ) × (Acceptable program kept asked S before ws Z rest × (length rest ≡ left)))
+TakenExactly = (program kept : List ℤ) (asked : Asked) (word : List ℤ) (S Z : Cells) (ws : List ℤ) (r : Settled) (left : ℕ)
+    → Settles S Z r (settle program kept asked word S ws)
+    → (r ≡ Takes left) ↔ ((rest : List ℤ) × (Accepts program kept asked S ws Z rest × (length rest ≡ left)))

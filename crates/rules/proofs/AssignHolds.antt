@@ -28,10 +28,10 @@ use Rattle.rules.specs.State.{State, Res, reads, slotAt}
 use Rattle.rules.specs.Paths.{wayAt, valueAt}
 use Rattle.rules.specs.Evaluation.{Op, add, sub, mul, lt, le, eq, ne, ge, gt, and, or, noOp, opOf, takes, kindOf, intOf, boolOf, same, ranged, made, apply, at, evaluateForm, evaluate}
 use Rattle.rules.specs.Identities.{identityPhase}
-use Rattle.rules.specs.IdentityRules.{by-path, as-before}
+use Rattle.rules.specs.Steps.Phases.{by-path, as-before}
 use Rattle.rules.specs.Proposals.{settle}
 use Rattle.rules.specs.Statements.{Left, valuePhase, doAssign}
-use Rattle.rules.specs.Holds.{Holds}
+use Rattle.rules.specs.Steps.Holds.{Holds}
 use Rattle.rules.proofs.WordSteps.{at-got}
 use Rattle.rules.proofs.HoldLaws.{Half, half-of, settle-half, settle-values}
 use Rattle.rules.proofs.IdentitiesAfter.{value-of}

@@ -13,14 +13,14 @@ use Rattle.words.specs.Answer.{got, stop}
 use Rattle.words.proofs.Laws.{number-first, number-drop}
 use Rattle.tables.proofs.SearchLaws.{cases}
 use Rattle.program.specs.Forms.{blockDepth, expressionDepth, mostStatements, Verb, branch, loop, verbOf}
-use Rattle.program.specs.Grammar.{Piece, blockOf, statementsOf, statementOf, Yields, Expression}
-use Rattle.program.specs.Reading.{number, readBlock, readStatement, readProgram, after}
+use Rattle.program.specs.Grammar.{Piece, blockOf, statementsOf, statementOf, Yields, Expression, Program}
+use Rattle.program.specs.Reading.{number, readBlock, readStatement, after}
 use Rattle.program.specs.declared.Spot.{Spot}
 use Rattle.program.specs.Where.{spotStatement, spotBlock, statementAt}
 use Rattle.program.proofs.FormLaws.{numberOfVerb}
 use Rattle.program.proofs.NumberLaws.{number-of}
 use Rattle.program.proofs.LengthLaws.{Part, part-refl, part-trans, part-drop, after-part, after-got, uses-keeps, statement-uses, expression-uses, block-uses}
-use Rattle.program.proofs.GrammarLaws.{yields-complete, expression-complete, program-sound}
+use Rattle.program.proofs.GrammarLaws.{yields-complete, expression-complete}
 use Rattle.program.proofs.WhereLaws.{spot-here, spot-loop, spot-branch, statement-in}
 use Rattle.rules.specs.State.{Res}
 use Rattle.rules.specs.Statements.{Left, positionOf, doSimple}
@@ -219,9 +219,9 @@ module _ {program : List ℤ} {budget : ℕ} {P : Verb → ℕ → Type 0} {Inv 
     pub inside : place < length program
     pub stands : IsAt (statementAt program place)
 
-  pub program-carried : readProgram program ≡ got tt → (t : Tally) → Inv t → Outs Inv Ending (doBlock blockDepth program budget program t)
-  program-carried e t i =
-      outs-map (carried (program-sound program e .yields) program [] (sym (append-nil program)) (part-refl program) t i)
+  pub program-carried : Program program → (t : Tally) → Inv t → Outs Inv Ending (doBlock blockDepth program budget program t)
+  program-carried reads t i =
+      outs-map (carried (reads .yields) program [] (sym (append-nil program)) (part-refl program) t i)
       (λ n place u b. record {
         number = b .number;
         held = b .held;

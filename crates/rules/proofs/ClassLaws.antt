@@ -2,7 +2,7 @@
 use mathlib.Core.Path.{_≡_, refl, sym, ap, _∙_}
 use mathlib.Core.Logic.{_↔_}
 use mathlib.Core.Bool.{Bool, true, false, cond, _&&_, _||_}
-use mathlib.Core.List.{List, [], _∷_, List·Memᴰ·head, List·Memᴰ·tail}
+use mathlib.Core.List.{List, [], _∷_, List·Memᴰ·head, List·Memᴰ·tail, List·Memᴰ as OneOf}
 use Prim.Native.Nat.{ℕ, _+_, _≤_, _<_}
 use native.Mathlib.Omega.{arith}
 use native.Mathlib.Decide.{decLt}
@@ -11,7 +11,7 @@ use lib.Dec.{eqb}
 use lib.ListN.{length}
 use Rattle.tables.proofs.SearchLaws.{cases, and-left, and-right, and-true}
 use Rattle.rules.specs.Identities.{Tie, member, grown, grownBy, classOf}
-use Rattle.rules.specs.IdentityRules.{OneOf, Tied, itself, by-tie, backwards, onwards}
+use Rattle.rules.specs.Rules.Identities.{Tied, itself, by-tie, backwards, onwards}
 
 -- ---- tests
 

@@ -12,7 +12,7 @@ use Rattle.tables.specs.declared.Sort.the-variants.{Values}
 use Rattle.tables.specs.Cells.{Cells}
 use Rattle.rules.specs.State.{positions}
 use Rattle.rules.specs.Constraints.{Part, constraintAt, fifteen, keptAt, keptParts, ownParts, counted}
-use Rattle.rules.specs.ConstraintRules.{KeptAre, CountedAre, kept-only, with-own}
+use Rattle.rules.specs.Rules.Constraints.{KeptAre, CountedAre, kept-only, with-own}
 use Rattle.rules.proofs.PartLaws.{constraint-iff}
 use Rattle.rules.proofs.NearLaws.{fifteen-got}
 
@@ -29,6 +29,9 @@ module _ (program : List ℤ) (S : Cells) where
   unfolding keptParts keptAt
   kept-complete KeptAre.none = refl
   kept-complete (KeptAre.one {position = n} {xs = xs} c k) = rw (constraint-iff S (drop (n + 1) program) xs .1 c, kept-complete k)
+
+  pub kept-iff : (ps : List ℕ) (xs : List Part) → (keptParts program S ps ≡ got xs) ↔ KeptAre program S ps xs
+  kept-iff ps xs = (kept-sound ps xs, kept-complete)
 
   counted-sound : (kept : List ℤ) (own : Option (List ℤ)) (xs : List Part) → counted program kept own S ≡ got xs → CountedAre program kept S own xs
   unfolding counted ownParts

@@ -1,5 +1,5 @@
 -- What is claimed of expressions and constraints holds. Assumes nothing.
-use Rattle.rules.specs.Claims.Evaluation.{EvaluationClaim}
+use Rattle.rules.specs.Steps.Evaluation.{EvaluationClaim}
 use Rattle.rules.proofs.NameLaws.{names-iff}
 use Rattle.rules.proofs.EvaluationLaws.{evaluate-iff}
 use Rattle.rules.proofs.IdentityValues.{identity-true, identity-false}

@@ -2,7 +2,7 @@
 use mathlib.Core.Path.{_≡_, _∙_}
 use mathlib.Core.Logic.{_≢_, _↔_}
 use mathlib.Core.List.{List, _∷_}
-use Prim.Native.Nat.{ℕ, zero, suc, _<_, _≤_}
+use Prim.Native.Nat.{ℕ, zero, suc}
 use native.Mathlib.Omega.{arith}
 use lib.IntN.{ℤ, pos}
 use lib.ListN.{drop}
@@ -20,8 +20,8 @@ use Rattle.program.proofs.FormLaws.{numberOfForm}
 use Rattle.rules.specs.State.{Res, reads}
 use Rattle.rules.specs.Paths.{valueAt}
 use Rattle.rules.specs.Evaluation.{opOf, apply, at, same, evaluateForm, evaluate}
-use Rattle.rules.specs.OperatorRules.{Makes}
-use Rattle.rules.specs.EvaluationRules.{Evaluates, e-nil, e-false, e-true, e-integer, e-path, e-operation, e-same, e-differ, depth, Within}
+use Rattle.rules.specs.Rules.Operators.{Makes}
+use Rattle.rules.specs.Rules.Expressions.{e-nil, e-false, e-true, e-integer, e-path, e-operation, e-same, e-differ, Within}
 use Rattle.rules.proofs.WordSteps.{at-got, by-number, by-word, form-words, form-is, apart}
 use Rattle.rules.proofs.NameLaws.{holds-sound, holds-complete}
 use Rattle.rules.proofs.OperatorLaws.{same-true, cell-same, same-false, cell-differs, makes-sound, makes-operator, makes-complete}
@@ -32,14 +32,14 @@ module _ (S : Cells) (d : ℕ) (go : List ℤ → Res (Value × List ℤ)) (ih :
   form-sound : (f : Form) (p : List ℤ) (x : Value × List ℤ) → evaluateForm go S (pos (numberOfForm f) ∷ p) f ≡ got x
       → Within S (suc d) (pos (numberOfForm f) ∷ p) (x .0) (x .1)
   unfolding evaluateForm
-  form-sound aNil p x e = rw (← got-inj e) (record { rule = e-nil; deep = omega arith })
-  form-sound aFalse p x e = rw (← got-inj e) (record { rule = e-false; deep = omega arith })
-  form-sound aTrue p x e = rw (← got-inj e) (record { rule = e-true; deep = omega arith })
+  form-sound aNil p x e = rw (← got-inj e) e-nil
+  form-sound aFalse p x e = rw (← got-inj e) e-false
+  form-sound aTrue p x e = rw (← got-inj e) e-true
   form-sound anInteger p x e =
       step (reads (anyWord p)) _ e λ q e1 k1.
       by-word p q e1 λ w s.
-      rw (← got-inj k1, s) (record { rule = e-integer; deep = omega arith })
-  form-sound aPath p x e = record { rule = e-path (holds-sound S p x e); deep = omega arith }
+      rw (← got-inj k1, s) e-integer
+  form-sound aPath p x e = e-path (holds-sound S p x e)
   form-sound anOperation p x e =
       by-number 1 operators p _ (omega arith) e λ o q a b s k.
       step (go q) _ k λ y e2 k2.
@@ -50,14 +50,14 @@ module _ (S : Cells) (d : ℕ) (go : List ℤ → Res (Value × List ℤ)) (ih :
       operation : (o : ℕ) (q : List ℤ) → p ≡ pos o ∷ q → (y z : Value × List ℤ) (v : Value)
           → Within S d q (y .0) (y .1) → Within S d (y .1) (z .0) (z .1) → Makes o (y .0) (z .0) v → (v, z .1) ≡ x
           → Within S (suc d) (pos 25 ∷ p) (x .0) (x .1)
-      operation o q s y z v l r m i = rw (s, ← i) (record { rule = e-operation (l .rule) (r .rule) m; deep = omega (arith, l .deep, r .deep) })
+      operation o q s y z v l r m i = rw (s, ← i) (e-operation l r m)
   form-sound anIdentity p x e =
       step (valueAt S p) _ e λ y e1 k1.
       step (valueAt S (y .1)) _ k1 λ z e2 k2.
       rw (← got-inj k2)
       (cases (same (y .0) (z .0))
-      (λ c. rw c (record { rule = e-same (holds-sound S p y e1) (holds-sound S (y .1) z e2) (same-true (y .0) (z .0) c); deep = omega arith }))
-      (λ c. rw c (record { rule = e-differ (holds-sound S p y e1) (holds-sound S (y .1) z e2) (same-false (y .0) (z .0) c); deep = omega arith })))
+      (λ c. rw c (e-same (holds-sound S p y e1) (holds-sound S (y .1) z e2) (same-true (y .0) (z .0) c)))
+      (λ c. rw c (e-differ (holds-sound S p y e1) (holds-sound S (y .1) z e2) (same-false (y .0) (z .0) c))))
   form-sound noForm p x e = stop≢got e
 
   words-sound : (p p' : List ℤ) (f : Form) (x : Value × List ℤ) → p ≡ pos (numberOfForm f) ∷ p' → evaluateForm go S p f ≡ got x → Within S (suc d) p (x .0) (x .1)
@@ -72,38 +72,27 @@ evaluate-sound S (suc d) p x e =
 
 -- ---- what the rules derive, the definition answers
 
-pub deep-pos : {S : Cells} {p : List ℤ} {v : Value} {q : List ℤ} (e : Evaluates S p v q) → 0 < depth e
-deep-pos e-nil = omega arith
-deep-pos e-false = omega arith
-deep-pos e-true = omega arith
-deep-pos e-integer = omega arith
-deep-pos (e-path h) = omega arith
-deep-pos (e-operation l r m) = omega arith
-deep-pos (e-same h k e) = omega arith
-deep-pos (e-differ h k e) = omega arith
-
 -- an expression that begins with the word of a form is evaluated by that form
 pub evaluate-opens : (S : Cells) (d : ℕ) (f : Form) (p : List ℤ) → (f ≡ noForm → ⊥)
     → evaluate (suc d) S (pos (numberOfForm f) ∷ p) ≡ evaluateForm (λ q. evaluate d S q) S (pos (numberOfForm f) ∷ p) f
 unfolding evaluate
 evaluate-opens S d f p h = rw (number-first (pos (numberOfForm f)) p, form-is f h)
 
-pub evaluate-complete : {S : Cells} (d : ℕ) {p : List ℤ} {v : Value} {q : List ℤ} (e : Evaluates S p v q) → depth e ≤ d → evaluate d S p ≡ got (v, q)
+pub evaluate-complete : {S : Cells} {d : ℕ} {p : List ℤ} {v : Value} {q : List ℤ} → Within S d p v q → evaluate d S p ≡ got (v, q)
 unfolding evaluateForm
-evaluate-complete zero e h = absurd (omega (arith, deep-pos e))
-evaluate-complete {S} (suc d) (e-nil {p = p}) h = evaluate-opens S d aNil p (apart λ z. omega arith)
-evaluate-complete {S} (suc d) (e-false {p = p}) h = evaluate-opens S d aFalse p (apart λ z. omega arith)
-evaluate-complete {S} (suc d) (e-true {p = p}) h = evaluate-opens S d aTrue p (apart λ z. omega arith)
-evaluate-complete {S} (suc d) (e-integer {w = w} {p = p}) h = evaluate-opens S d anInteger (w ∷ p) (apart λ z. omega arith) ∙ rw (any-fits (w ∷ p) (omega arith))
-evaluate-complete {S} (suc d) (e-path {p = p} k) h = evaluate-opens S d aPath p (apart λ z. omega arith) ∙ holds-complete S k
-evaluate-complete {S} (suc d) (e-operation {o = o} {p = p} l r m) h =
+evaluate-complete {S} (e-nil {d = d} {p = p}) = evaluate-opens S d aNil p (apart λ z. omega arith)
+evaluate-complete {S} (e-false {d = d} {p = p}) = evaluate-opens S d aFalse p (apart λ z. omega arith)
+evaluate-complete {S} (e-true {d = d} {p = p}) = evaluate-opens S d aTrue p (apart λ z. omega arith)
+evaluate-complete {S} (e-integer {d = d} {w = w} {p = p}) = evaluate-opens S d anInteger (w ∷ p) (apart λ z. omega arith) ∙ rw (any-fits (w ∷ p) (omega arith))
+evaluate-complete {S} (e-path {d = d} {p = p} k) = evaluate-opens S d aPath p (apart λ z. omega arith) ∙ holds-complete S k
+evaluate-complete {S} (e-operation {d = d} {o = o} {p = p} l r m) =
     evaluate-opens S d anOperation (pos o ∷ p) (apart λ z. omega arith)
-    ∙ rw (number-of 1 operators o p (makes-operator m .0) (makes-operator m .1), evaluate-complete d l (omega arith), evaluate-complete d r (omega arith), makes-complete m)
-evaluate-complete {S} (suc d) (e-same {a = a} {b = b} {p = p} k l e) h =
+    ∙ rw (number-of 1 operators o p (makes-operator m .0) (makes-operator m .1), evaluate-complete l, evaluate-complete r, makes-complete m)
+evaluate-complete {S} (e-same {d = d} {a = a} {b = b} {p = p} k l e) =
     evaluate-opens S d anIdentity p (apart λ z. omega arith) ∙ rw (holds-complete S k, holds-complete S l, cell-same a b e)
-evaluate-complete {S} (suc d) (e-differ {a = a} {b = b} {p = p} k l e) h =
+evaluate-complete {S} (e-differ {d = d} {a = a} {b = b} {p = p} k l e) =
     evaluate-opens S d anIdentity p (apart λ z. omega arith) ∙ rw (holds-complete S k, holds-complete S l, cell-differs a b e)
 
 -- an expression evaluates to v, with q after it, exactly where the rules derive it within the nesting
 pub evaluate-iff : (d : ℕ) (S : Cells) (p : List ℤ) (v : Value) (q : List ℤ) → (evaluate d S p ≡ got (v, q)) ↔ Within S d p v q
-evaluate-iff d S p v q = (evaluate-sound S d p (v, q), λ w. evaluate-complete d (w .rule) (w .deep))
+evaluate-iff d S p v q = (evaluate-sound S d p (v, q), λ w. evaluate-complete w)

@@ -2,7 +2,7 @@
 use mathlib.Core.Path.{_≡_, refl}
 use mathlib.Core.Bool.{Bool, true, false}
 use mathlib.Core.List.{List}
-use Prim.Native.Nat.{ℕ, zero, suc, _+_, _<_, _≤_}
+use Prim.Native.Nat.{ℕ, suc, _+_, _<_}
 use native.Mathlib.Omega.{arith}
 use lib.IntN.{ℤ}
 use lib.ListN.{drop}
@@ -21,20 +21,20 @@ use Rattle.program.proofs.GrammarSound.{takes-none, takes-word, takes-as, takes
 use Rattle.program.proofs.GrammarLaws.{path-complete, expression-complete, constraint-complete}
 use Rattle.rules.specs.Paths.{Way, wayAt}
 use Rattle.rules.specs.Evaluation.{Kind, evaluate, kind}
-use Rattle.rules.specs.EvaluationRules.{HasField, Leads, here, by, Names, names, Holds, holds}
-use Rattle.rules.specs.EvaluationRules.{Evaluates, e-nil, e-false, e-true, e-integer, e-path, e-operation, e-same, e-differ, depth, Within}
-use Rattle.rules.specs.EvaluationRules.{HasKind, t-nil, t-false, t-true, t-integer, t-path, t-operation, kindDepth, KindWithin}
-use Rattle.rules.specs.ConstraintRules.{PartReads, PartsRead, ConstraintReads}
+use Rattle.rules.specs.Rules.Expressions.{HasField, Leads, here, by, Names, names, Holds, holds}
+use Rattle.rules.specs.Rules.Expressions.{e-nil, e-false, e-true, e-integer, e-path, e-operation, e-same, e-differ, Within}
+use Rattle.rules.specs.Rules.Expressions.{t-nil, t-false, t-true, t-integer, t-path, t-operation, KindWithin}
+use Rattle.rules.specs.Steps.Evaluation.{PartReads, PartsRead, ConstraintReads}
 use Rattle.rules.proofs.NameLaws.{names-iff}
 use Rattle.rules.proofs.OperatorLaws.{makes-operator, gives-operator}
-use Rattle.rules.proofs.EvaluationLaws.{deep-pos, evaluate-sound}
-use Rattle.rules.proofs.TypingLaws.{kind-deep-pos, kind-sound}
+use Rattle.rules.proofs.EvaluationLaws.{evaluate-sound}
+use Rattle.rules.proofs.TypingLaws.{kind-sound}
 
 module _ (S : Cells) (fit : Fit S) where
   -- ---- what the rules derive takes words of the grammar
 
   field-label : {r label l : ℕ} → HasField (S .heap) r label l → label < labels
-  field-label {r} h = rw (h .named) at (fit-labels S fit r (h .place) (h .used) .0)
+  field-label {r} (HasField.field f used is first) = rw is at (fit-labels S fit r f used .0)
 
   leads-take : {l n to : ℕ} {p : List ℤ} {prefix : List ℕ} → Leads S l n p to prefix → Takes (Labels n) p (drop n p)
   leads-take here = takes-none refl Labels.none
@@ -50,34 +50,32 @@ module _ (S : Cells) (fit : Fit S) where
   holds-take : {p q : List ℤ} {v : Value} → Holds S p v q → Takes Path p q
   holds-take (holds n e) = names-take n
 
-  value-take : {p q : List ℤ} {v : Value} (d : ℕ) (e : Evaluates S p v q) → depth e ≤ d → Takes (Expression false d) p q
-  value-take zero e h = absurd (omega (arith, deep-pos e))
-  value-take (suc d) e-nil h = takes-word refl (takes-none refl Expression.nil)
-  value-take (suc d) e-false h = takes-word refl (takes-none refl Expression.no)
-  value-take (suc d) e-true h = takes-word refl (takes-none refl Expression.yes)
-  value-take (suc d) e-integer h = takes-word refl (takes-word refl (takes-none refl Expression.integer))
-  value-take (suc d) (e-path k) h = takes-word refl (takes-as (holds-take k) λ a x. Expression.at x)
-  value-take (suc d) (e-operation l r m) h =
-      takes-word refl (takes-word refl (takes-two (value-take d l (omega arith)) (value-take d r (omega arith)) λ x y f g. Expression.operation (makes-operator m .0) (makes-operator m .1) f g))
-  value-take (suc d) (e-same k l e) h = takes-word refl (takes-two (holds-take k) (holds-take l) λ a b x y. Expression.identity refl x y)
-  value-take (suc d) (e-differ k l e) h = takes-word refl (takes-two (holds-take k) (holds-take l) λ a b x y. Expression.identity refl x y)
+  value-take : {d : ℕ} {p q : List ℤ} {v : Value} → Within S d p v q → Takes (Expression false d) p q
+  value-take e-nil = takes-word refl (takes-none refl Expression.nil)
+  value-take e-false = takes-word refl (takes-none refl Expression.no)
+  value-take e-true = takes-word refl (takes-none refl Expression.yes)
+  value-take e-integer = takes-word refl (takes-word refl (takes-none refl Expression.integer))
+  value-take (e-path k) = takes-word refl (takes-as (holds-take k) λ a x. Expression.at x)
+  value-take (e-operation l r m) =
+      takes-word refl (takes-word refl (takes-two (value-take l) (value-take r) λ x y f g. Expression.operation (makes-operator m .0) (makes-operator m .1) f g))
+  value-take (e-same k l e) = takes-word refl (takes-two (holds-take k) (holds-take l) λ a b x y. Expression.identity refl x y)
+  value-take (e-differ k l e) = takes-word refl (takes-two (holds-take k) (holds-take l) λ a b x y. Expression.identity refl x y)
 
-  kind-take : {p q : List ℤ} {k : Kind} (d : ℕ) (e : HasKind S p k q) → kindDepth e ≤ d → Takes (Expression true d) p q
-  kind-take zero e h = absurd (omega (arith, kind-deep-pos e))
-  kind-take (suc d) t-nil h = takes-word refl (takes-none refl Expression.nil)
-  kind-take (suc d) t-false h = takes-word refl (takes-none refl Expression.no)
-  kind-take (suc d) t-true h = takes-word refl (takes-none refl Expression.yes)
-  kind-take (suc d) t-integer h = takes-word refl (takes-word refl (takes-none refl Expression.integer))
-  kind-take (suc d) (t-path k) h = takes-word refl (takes-as (holds-take k) λ a x. Expression.at x)
-  kind-take (suc d) (t-operation l r t) h =
-      takes-word refl (takes-word refl (takes-two (kind-take d l (omega arith)) (kind-take d r (omega arith)) λ x y f g. Expression.operation (gives-operator t .0) (gives-operator t .1) f g))
+  kind-take : {d : ℕ} {p q : List ℤ} {k : Kind} → KindWithin S d p k q → Takes (Expression true d) p q
+  kind-take t-nil = takes-word refl (takes-none refl Expression.nil)
+  kind-take t-false = takes-word refl (takes-none refl Expression.no)
+  kind-take t-true = takes-word refl (takes-none refl Expression.yes)
+  kind-take t-integer = takes-word refl (takes-word refl (takes-none refl Expression.integer))
+  kind-take (t-path k) = takes-word refl (takes-as (holds-take k) λ a x. Expression.at x)
+  kind-take (t-operation l r t) =
+      takes-word refl (takes-word refl (takes-two (kind-take l) (kind-take r) λ x y f g. Expression.operation (gives-operator t .0) (gives-operator t .1) f g))
 
   parts-take : {m : ℕ} {p q : List ℤ} → PartsRead S m p q → Takes (Parts m) p q
   parts-take PartsRead.none = takes-none refl Parts.none
   parts-take (PartsRead.one x y) = first x (parts-take y)
     where
       first : {m : ℕ} {p q r : List ℤ} → PartReads S p q → Takes (Parts m) q r → Takes (Parts (suc m)) p r
-      first (PartReads.part a b k) t = takes-word refl (takes-two (kind-take _ (k .rule) (k .deep)) t λ x y f g. Parts.one a b f g)
+      first (PartReads.part a b k) t = takes-word refl (takes-two (kind-take k) t λ x y f g. Parts.one a b f g)
 
   -- ---- so it reads
 
@@ -93,11 +91,11 @@ module _ (S : Cells) (fit : Fit S) where
 
   -- an expression that has a value reads
   pub evaluate-reads : (d : ℕ) (p : List ℤ) (v : Value) (q : List ℤ) → evaluate d S p ≡ got (v, q) → readExpression d false p ≡ got q
-  evaluate-reads d p v q e = let w : Within S d p v q = evaluate-sound S d p (v, q) e in taken (value-take d (w .rule) (w .deep))
+  evaluate-reads d p v q e = let w : Within S d p v q = evaluate-sound S d p (v, q) e in taken (value-take w)
 
   -- one that has a kind reads inside C
   pub kind-reads : (d : ℕ) (p : List ℤ) (k : Kind) (q : List ℤ) → kind d S p ≡ got (k, q) → readExpression d true p ≡ got q
-  kind-reads d p k q e = let w : KindWithin S d p k q = kind-sound S d p (k, q) e in taken (kind-take d (w .rule) (w .deep))
+  kind-reads d p k q e = let w : KindWithin S d p k q = kind-sound S d p (k, q) e in taken (kind-take w)
 
   -- a C that reads by its kinds and paths reads by its words
   pub constraint-reads : {p : List ℤ} → ConstraintReads S p → (q : List ℤ) × (readConstraint p ≡ got q)

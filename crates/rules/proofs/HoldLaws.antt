@@ -26,15 +26,15 @@ use Rattle.rules.specs.Constraints.{Part, constraintAt, fifteen, keptAt,
 use Rattle.rules.specs.Identities.{isNode, sameNow}
 use Rattle.rules.specs.Proposals.{Asked, settle}
 use Rattle.rules.specs.Statements.{Left, positionOf, hasRoom, doConstraint, doIdentity}
-use Rattle.rules.specs.Conditions.{Each, none as no-each, more, Met}
-use Rattle.rules.specs.Structure.{nils, truths, ints, refs}
-use Rattle.rules.specs.Holds.{ValueHolds, IdentityHolds, Holds}
+use Rattle.rules.specs.Rules.Proposals.{Each, none as no-each, more, Met, Settles}
+use Rattle.rules.specs.Steps.Holds.{ValueHolds, IdentityHolds, Holds}
 use Rattle.rules.proofs.WordSteps.{or-got}
-use Rattle.rules.proofs.EffectLaws.{Near, settled, settle-near, effect-same}
-use Rattle.rules.proofs.Structure.{AlikeSlot, absents, held}
+use Rattle.rules.proofs.EffectLaws.{Near, settles-near, effect-same}
+use Rattle.rules.proofs.Structure.{nils, truths, ints, refs, AlikeSlot, absents, held}
 use Rattle.rules.proofs.SamePaths.{slot-same, way-same}
 use Rattle.rules.proofs.NearLaws.{fifteen-got}
-use Rattle.rules.proofs.AcceptanceLaws.{met-iff}
+use Rattle.rules.proofs.CountedLaws.{counted-iff}
+use Rattle.rules.proofs.ProposalLaws.{settle-iff}
 use Rattle.rules.proofs.KeepLaws.{each-head, each-tail, kept-length, kept-other, kept-each, kept-stand}
 
 -- ---- an identity after a proposal
@@ -103,8 +103,14 @@ pub record Half (program kept : List ℤ) (S : Cells) : Type 0 where
 
 module _ (program kept : List ℤ) (asked : Asked) (word : List ℤ) (S : Cells) (ws : List ℤ) (Z : Cells) (rest : List ℤ)
     (half : Half program kept S) (done : settle program kept asked word S ws ≡ got (Z, rest)) where
+  s : Settles program kept asked S ws Z rest
+  s = settle-iff program kept asked word S ws Z rest .0 done
+
+  still : counted program kept (asked .own) Z ≡ got (s .after)
+  still = counted-iff program Z kept (asked .own) (s .after) .1 (s .reads)
+
   near : Near asked S Z
-  near = settle-near program kept asked word S ws Z rest done (half .fit .sized)
+  near = settles-near (half .fit .sized) s
 
   pub settle-half : Half program kept Z
   settle-half = record {
@@ -116,18 +122,16 @@ module _ (program kept : List ℤ) (asked : Asked) (word : List ℤ) (S : Cells)
   pub settle-values : Each (ValueHolds program Z) (positions kept Values)
   unfolding counted
   settle-values =
-      let s = settled program kept asked word S ws Z rest done in
-      step (ownParts Z (asked .own)) _ (s .still) λ mine e1 k1.
+      step (ownParts Z (asked .own)) _ still λ mine e1 k1.
       step (keptParts program Z (positions kept Values)) _ k1 λ others e2 k2.
-      values-hold program Z (positions kept Values) others e2 (each-left others mine (rw (got-inj k2) (met-iff (s .after) .0 (s .met))))
+      values-hold program Z (positions kept Values) others e2 (each-left others mine (rw (got-inj k2) (s .met)))
 
   pub settle-own : (p : List ℤ) → asked .own ≡ some p → ConstraintHolds Z p
   unfolding counted ownParts
   settle-own p q =
-      let s = settled program kept asked word S ws Z rest done in
-      step (ownParts Z (asked .own)) _ (s .still) λ mine e1 k1.
+      step (ownParts Z (asked .own)) _ still λ mine e1 k1.
       step (keptParts program Z (positions kept Values)) _ k1 λ others e2 k2.
-      record { parts = mine; reads = rw q at e1; met = each-right others mine (rw (got-inj k2) (met-iff (s .after) .0 (s .met))) }
+      record { parts = mine; reads = rw q at e1; met = each-right others mine (rw (got-inj k2) (s .met)) }
 
 -- ---- always, once and identities
 
@@ -168,7 +172,7 @@ module _ (program p : List ℤ) (S : State) (ws : List ℤ) (l : Left) (holds : 
   always-holds st e =
       step (settle program (S .kept) _ p (S .cells) ws) _ e λ x e1 k1.
       let half = settle-half program (S .kept) _ p (S .cells) ws (x .0) (x .1) (half-of holds) e1 in
-      let room = settled program (S .kept) _ p (S .cells) ws (x .0) (x .1) e1 .room in
+      let room = settle-iff program (S .kept) _ p (S .cells) ws (x .0) (x .1) .0 e1 .room in
       let own = settle-own program (S .kept) _ p (S .cells) ws (x .0) (x .1) (half-of holds) e1 (drop 1 p) refl in
       rw (← got-inj k1) (record {
         fit = half .fit;

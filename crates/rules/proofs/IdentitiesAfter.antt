@@ -2,7 +2,7 @@
 use mathlib.Core.Path.{_≡_, refl, sym, ap, _∙_}
 use mathlib.Core.Logic.{_⊎_, inl, inr}
 use mathlib.Core.Bool.{Bool, true, false}
-use mathlib.Core.List.{List, [], _∷_, _++_, List·Memᴰ·head, List·Memᴰ·tail, List·Memᴰ·not-nil}
+use mathlib.Core.List.{List, [], _∷_, _++_, List·Memᴰ·head, List·Memᴰ·tail, List·Memᴰ·not-nil, List·Memᴰ as OneOf}
 use Prim.Native.Nat.{ℕ, _+_}
 use lib.IntN.{ℤ}
 use lib.ListN.{drop}
@@ -19,13 +19,14 @@ use Rattle.rules.specs.State.{refused, orRefuse, slotAt, present, positi
 use Rattle.rules.specs.Paths.{Way, wayAt, valueAt}
 use Rattle.rules.specs.Evaluation.{same}
 use Rattle.rules.specs.Identities.{isNode, sameNow, Tie, tiesOf, ties, identityPhase}
-use Rattle.rules.specs.IdentityRules.{OneOf, Tied, itself, by-tie, backwards, onwards, Relevant, Names, as-one, as-two, Satisfies, Phase, Target, Ready}
+use Rattle.rules.specs.Rules.Identities.{Tied, itself, by-tie, backwards, onwards, IsNamed, as-one, as-two}
+use Rattle.rules.specs.Steps.Phases.{Relevant, Computed, Target, Ready}
 use Rattle.rules.specs.Start.{identitiesHold}
 use Rattle.rules.specs.Steps.PathsAfter.{PathsAfter}
 use Rattle.rules.specs.Steps.IdentitiesAfter.{IdentitiesAfter}
 use Rattle.rules.proofs.WayLaws.{one-of-cons, or-refuse-is}
 use Rattle.rules.proofs.PhaseLaws.{same-self, same-is, slot-sound, phase-iff}
-use Rattle.rules.proofs.ReadyLaws.{tie-at, tie-from, tie-inside, ready-slot}
+use Rattle.rules.proofs.ReadyLaws.{tie-from, tie-inside, ready-slot}
 use Rattle.rules.proofs.LeastChange.{class-slot, other-slot, decided}
 use Rattle.rules.proofs.PathsAfter.{tie-at-position, same-paths}
 
@@ -115,38 +116,29 @@ pub ties-there : (program kept : List ℤ) (S : Cells) → Fit S → identitiesH
 unfolding ties
 ties-there program kept S fit e = held-ties program S (positions kept Identities) (all-hold program S (positions kept Identities) fit e)
 
-pub ties-satisfied : (program kept : List ℤ) (S : Cells) (ts : List Tie) → Fit S → identitiesHold program S (positions kept Identities) ≡ got tt → ties program kept S ≡ got ts → Satisfies S ts
-ties-satisfied program kept S ts fit e f t m =
-    let a = tie-at program kept S ts f t m in
-    let o = a .tie in
-    let h = all-hold program S (positions kept Identities) fit e (a .position) (a .kept) in
-    let l : h .left ≡ o .left = got-inj (sym (h .left-way) ∙ o .left-way) in
-    let r : h .right ≡ o .right = got-inj (sym (h .right-way) ∙ rw (sym l) at (o .right-way)) in
-    rw (o .is) (rw l at (h .left-has) ∙ sym (rw r at (h .right-has)))
-
 -- ---- after the phase
 
 -- a cell that is tied to another is named by an identity, and so is the other
-tied-named : {ts : List Tie} {a b : ℕ} → Tied ts a b → (a ≡ b) ⊎ (Names ts a × Names ts b)
+tied-named : {ts : List Tie} {a b : ℕ} → Tied ts a b → (a ≡ b) ⊎ (IsNamed ts a × IsNamed ts b)
 tied-named itself = inl refl
 tied-named (by-tie t m) = inr (as-one t m refl, as-two t m refl)
 tied-named (backwards r) = elim (tied-named r) [ inl e ↦ inl (sym e) | inr w ↦ inr (w .1, w .0) ]
 tied-named (onwards r s) = chain (tied-named r) (tied-named s)
   where
-    chain : {ts : List Tie} {a b c : ℕ} → (a ≡ b) ⊎ (Names ts a × Names ts b) → (b ≡ c) ⊎ (Names ts b × Names ts c) → (a ≡ c) ⊎ (Names ts a × Names ts c)
+    chain : {ts : List Tie} {a b c : ℕ} → (a ≡ b) ⊎ (IsNamed ts a × IsNamed ts b) → (b ≡ c) ⊎ (IsNamed ts b × IsNamed ts c) → (a ≡ c) ⊎ (IsNamed ts a × IsNamed ts c)
     chain (inl e) (inl f) = inl (e ∙ f)
     chain (inl e) (inr w) = inr (rw e (w .0), w .1)
     chain (inr w) (inl f) = inr (w .0, rw f at (w .1))
     chain (inr w) (inr x) = inr (w .0, x .1)
 
 -- an end of a tie is in the class, so an identity names the target
-end-named : {ts : List Tie} (target l : ℕ) → Relevant ts target l → Names ts l → Names ts target
+end-named : {ts : List Tie} (target l : ℕ) → Relevant ts target l → IsNamed ts l → IsNamed ts target
 end-named target l r n = elim (tied-named r) [ inl e ↦ rw e n | inr w ↦ w .0 ]
 
 module _ (program kept : List ℤ) (before now : Cells) (word : List ℤ) (target : ℕ) (prefix : List ℕ) (v : Value) (Z : Cells)
     (fit : Fit before) (ready : Ready before now) (reached : Target before target prefix) (sound : Sound v)
     (answered : identityPhase program kept before now word target prefix v ≡ got Z) where
-  abbrev facts : Phase program kept before now target prefix v Z
+  abbrev facts : Computed program kept before now target prefix v Z
   facts = phase-iff program kept before now word target prefix v fit sound Z .0 answered
 
   paths : PathsAfter program kept before prefix (facts .tied) Z

@@ -19,7 +19,8 @@ use Rattle.program.specs.Forms.{anIdentity}
 use Rattle.rules.specs.State.{slotAt}
 use Rattle.rules.specs.Paths.{valueAt}
 use Rattle.rules.specs.Evaluation.{same, evaluateForm, evaluate}
-use Rattle.rules.specs.EvaluationRules.{Holds, holds, OneValue, TwoValues, e-same, e-differ}
+use Rattle.rules.specs.Rules.Expressions.{Holds, holds, e-same, e-differ}
+use Rattle.rules.specs.Steps.Evaluation.{OneValue, TwoValues}
 use Rattle.rules.proofs.WordSteps.{apart}
 use Rattle.rules.proofs.NameLaws.{holds-sound}
 use Rattle.rules.proofs.OperatorLaws.{same-true, same-false, same-value}
@@ -59,7 +60,7 @@ module _ (S : Cells) (fit : Fit S) where
       (λ e. parted true e λ u v q h k s.
           let i : u ≡ v = same-value u v (held-sound h) (held-sound k) (same-true u v s) in
           record { value = v; between = q; left = rw i at h; right = k }),
-      (λ o. evaluate-complete (suc d) (e-same (o .left) (o .right) refl) (omega arith)),
+      (λ o. evaluate-complete (e-same (o .left) (o .right) refl)),
     )
 
     -- E-IDENTITYFALSE
@@ -67,6 +68,6 @@ module _ (S : Cells) (fit : Fit S) where
     identity-false = (
       (λ e. parted false e λ u v q h k s.
           record { one = u; other = v; between = q; left = h; right = k; apart = λ i. same-false u v s (ap cellOf i) }),
-      (λ o. evaluate-complete (suc d) (e-differ (o .left) (o .right)
-          (λ c. o .apart (same-value (o .one) (o .other) (held-sound (o .left)) (held-sound (o .right)) c))) (omega arith)),
+      (λ o. evaluate-complete (e-differ (o .left) (o .right)
+          (λ c. o .apart (same-value (o .one) (o .other) (held-sound (o .left)) (held-sound (o .right)) c)))),
     )

@@ -21,7 +21,7 @@ use Rattle.fit.proofs.FitChanges.{keep-fit}
 use Rattle.program.specs.Where.{isAlways, constraintsStand}
 use Rattle.rules.specs.State.{listed, positions}
 use Rattle.rules.specs.Statements.{hasRoom, keep}
-use Rattle.rules.specs.Conditions.{Each, none, more}
+use Rattle.rules.specs.Rules.Proposals.{Each, none, more}
 
 -- ---- what holds of each position
 

@@ -27,11 +27,12 @@ use Rattle.program.proofs.LengthLaws.{Part, after-got}
 use Rattle.program.proofs.GrammarLaws.{path-complete}
 use Rattle.rules.specs.State.{State, positions}
 use Rattle.rules.specs.Identities.{member, sameNow, ties}
-use Rattle.rules.specs.Reaching.{refusals}
+use Rattle.rules.specs.Steps.Holds.{IdentityHolds, Holds}
+use Rattle.rules.specs.Steps.ByVerb.{refusals}
 use Rattle.rules.specs.Statements.{Left, positionOf, hasRoom, keep, doSimple}
 use Rattle.rules.specs.Running.{Tally, test}
-use Rattle.rules.specs.StatementRules.{Steps, s-skip, s-assign, s-new, s-once, s-always, s-once-identity, s-always-identity}
-use Rattle.rules.proofs.SimpleLaws.{keeps-room, keeps-is, once-same, steps-iff}
+use Rattle.rules.proofs.KeepLaws.{positions-iff}
+use Rattle.rules.proofs.LeavesLaws.{Leaves, still, settled, value-kept, identity-kept, simple-leaves}
 use Rattle.rules.proofs.EndLaws.{ends-got, ends-any, Fine, Any}
 use Rattle.rules.proofs.FineLaws.{Judged, assign-fine, new-fine, constraint-fine, identity-fine}
 use Rattle.rules.proofs.PlaceLaws.{verbIn}
@@ -46,14 +47,11 @@ pub data Keeping (program p : List ℤ) (S : State) (c : List ℤ) : Type 0 wher
   identity : sameNow (S .cells) p (drop 1 p) ≡ got tt → hasRoom (S .kept) Identities (positionOf program p) ≡ true
       → c ≡ keep (S .kept) Identities (positionOf program p) → Keeping program p S c
 
-pub steps-keep : {program p ws : List ℤ} {S : State} {verb : Verb} {l : Left} → Steps program p S ws verb l → Keeping program p S (l .state .kept)
-steps-keep s-skip = unchanged refl
-steps-keep (s-assign v w i s) = unchanged refl
-steps-keep (s-new e a b c d i s) = unchanged refl
-steps-keep (s-once s) = unchanged refl
-steps-keep (s-always s k) = value (sym (keeps-is k))
-steps-keep (s-once-identity a b c d e) = unchanged refl
-steps-keep {program = program} {p = p} {ws = ws} {S = S} (s-always-identity s k) = identity (once-same program p S ws _ s) (keeps-room k) (sym (keeps-is k))
+leaves-keep : {program p ws : List ℤ} {S : State} {l : Left} → Leaves program p S ws l → Keeping program p S (l .state .kept)
+leaves-keep still = unchanged refl
+leaves-keep (settled s) = unchanged refl
+leaves-keep (value-kept s) = value refl
+leaves-keep (identity-kept s r) = identity s r refl
 
 -- ---- the outcomes of a verb
 
@@ -99,6 +97,12 @@ two-not-listed noVerb e = true≢false (sym e)
 pub record Kept (program c : List ℤ) : Type 0 where
   pub long : length c ≡ 98
   pub ties : (i : ℕ) → i < keptCount c Identities → TieAt (drop (positionAt c Identities i + 1) program)
+
+pub kept-reads : (program : List ℤ) (S : State) → Holds program S → Kept program (S .kept)
+kept-reads program S holds = record {
+  long = holds .long;
+  ties = λ i l. same-was (S .cells) _ _ (positions-iff (IdentityHolds program (S .cells)) (S .kept) Identities .0 (holds .identities) i l);
+}
 
 other : Identities ≡ Values → ⊥
 other e = let z : _≡_ {A = ℕ} 0 1 = cc in omega arith
@@ -148,7 +152,7 @@ module _ (program : List ℤ) (small : length program < 2147483648) where
   unfolding ties positions
   ties-fine P seven S h = ties-read P seven (S .cells) program (positionAt (S .kept) Identities) 0 (keptCount (S .kept) Identities) (λ j l. h .ties j (omega arith))
 
-  simple-reads : {d : ℕ} {s : List ℤ} (y : Yields (statementOf d) s) (q : List ℤ) (S : State) (ws : List ℤ) → Kept program (S .kept) → numberOfVerb (verbIn y) < 7
+  pub simple-reads : {d : ℕ} {s : List ℤ} (y : Yields (statementOf d) s) (q : List ℤ) (S : State) (ws : List ℤ) → Kept program (S .kept) → numberOfVerb (verbIn y) < 7
       → Fine (Listed (verbIn y)) Any (doSimple program (s ++ q) S ws (verbIn y))
   unfolding doSimple member
   simple-reads Yields.skip q S ws h l = ends-got tt
@@ -199,7 +203,7 @@ module _ (program : List ℤ) (small : length program < 2147483648) where
     pay = λ t i h. i;
     free = λ t i. i;
     note = λ b t i. i;
-    simple-on = λ p w t verb l v i e. kept-on (l .state .kept) p (t .state) w (steps-keep (steps-iff program p (t .state) (t .unread) verb l .0 e)) i;
+    simple-on = λ p w t verb l v i e. kept-on (l .state .kept) p (t .state) w (leaves-keep (simple-leaves program p (t .state) (t .unread) verb l e)) i;
     simple-end = λ {d} {s} y q t i h. simple-reads y q (t .state) (t .unread) i h;
     test-end = λ {e} v a b x q t. tests-read v a b x q t;
   }

@@ -1,5 +1,5 @@
 -- Kinds, clause by clause, and the part that is left: the laws by which code knows them. Assumes nothing.
-use mathlib.Core.Path.{_≡_, refl, sym, ap, _∙_}
+use mathlib.Core.Path.{_≡_, refl, ap, _∙_}
 use mathlib.Core.List.{List}
 use Prim.Native.Nat.{ℕ, zero, suc, _-_, _≤_, _<_}
 use native.Mathlib.Omega.{arith}
@@ -7,21 +7,20 @@ use native.Mathlib.Numerals.{sub-one}
 use lib.IntN.{ℤ}
 use lib.ListN.{drop}
 use Rattle.words.specs.Words.{wordAt, numberAt}
-use Rattle.words.specs.Answer.{Answer, got, stop, _>>=_, _>>_, want}
+use Rattle.words.specs.Answer.{got, stop, _>>=_, _>>_, want}
 use Rattle.words.proofs.AnswerLaws.{step, step-on, got-inj, stop≢got}
 use Rattle.tables.specs.declared.Value.{Value}
 use Rattle.tables.specs.declared.Value.the-variants.{Int}
 use Rattle.tables.specs.Cells.{Cells}
 use Rattle.program.specs.Forms.{Form, aNil, aFalse, aTrue, anInteger, aPath, anOperation, anIdentity, noForm, formOf}
 use Rattle.program.specs.Reading.{Reading, number, anyWord}
-use Rattle.program.proofs.NumberLaws.{IsNumber, number-read, any-read}
+use Rattle.program.proofs.NumberLaws.{number-read, any-read}
 use Rattle.program.proofs.FormLaws.{numberOfForm, form-number}
 use Rattle.program.proofs.LengthLaws.{Part, part-drop, part-trans}
 use Rattle.rules.specs.State.{Res, refuse, reads}
 use Rattle.rules.specs.Paths.{valueAt}
-use Rattle.rules.specs.Evaluation.{Kind, isNil, isBool, isInt, kindOf, opOf, takes, gives, at, evaluateForm, evaluate, kindForm, kind}
+use Rattle.rules.specs.Evaluation.{Kind, isBool, isInt, kindOf, opOf, takes, gives, at, evaluateForm, evaluate, kindForm, kind}
 use Rattle.rules.proofs.WordSteps.{reads-got, form-is, apart}
-use Rattle.rules.proofs.OperatorClauses.{no-op}
 use Rattle.rules.proofs.EvaluateClauses.{value-part}
 
 -- ---- the kind that an operator gives
@@ -49,14 +48,6 @@ gives-bool (suc (suc (suc (suc (suc (suc (suc (suc (suc zero))))))))) h l = refl
 gives-bool (suc (suc (suc (suc (suc (suc (suc (suc (suc (suc zero)))))))))) h l = refl
 gives-bool (suc (suc (suc (suc (suc (suc (suc (suc (suc (suc (suc zero))))))))))) h l = refl
 gives-bool (suc (suc (suc (suc (suc (suc (suc (suc (suc (suc (suc (suc o)))))))))))) h l = absurd (omega arith)
-
-pub gives-zero : gives (opOf 0) ≡ isNil
-unfolding gives opOf
-gives-zero = refl
-
-pub gives-none : (o : ℕ) → 11 < o → gives (opOf o) ≡ isNil
-unfolding gives
-gives-none o h = rw (no-op o h)
 
 -- ---- what is left is a part of what was there
 

@@ -22,7 +22,7 @@ use Rattle.rules.specs.Paths.{valueAt}
 use Rattle.rules.specs.Evaluation.{Kind, isBool, isInt, kindOf, boolOf, intOf, Op, add, sub, mul, lt, le, eq, ne, ge, gt, and, or, noOp, opOf}
 use Rattle.rules.specs.Evaluation.{takes, gives, at, ranged, made, apply, evaluateForm, evaluate, kindForm, kind}
 use Rattle.rules.specs.Constraints.{satisfies}
-use Rattle.rules.specs.EvaluationRules.{ComesTo, value, range}
+use Rattle.rules.specs.Steps.Evaluation.{ComesTo, value, range}
 use Rattle.rules.proofs.WordSteps.{at-got}
 use Rattle.rules.proofs.EndLaws.{ends-got, ends-then, Fine, fine-at}
 use Rattle.rules.proofs.TypingLaws.{wanted}
@@ -62,7 +62,7 @@ module _ (o : Op) (a b : Value) (t : takes o (kindOf a) (kindOf b) ≡ true) whe
   unfolding apply
   apply-kind e = made-kind o a b (rw t at e)
 
-  apply-nine : (n : ℕ) → apply o a b ≡ stop n → n ≡ 9
+  pub apply-nine : (n : ℕ) → apply o a b ≡ stop n → n ≡ 9
   unfolding apply
   apply-nine n e = made-fine (λ m. m ≡ 9) o (some-op o (kindOf a) (kindOf b) t) refl a b .bad n (rw t at e)
 

@@ -9,16 +9,17 @@ use Rattle.words.specs.Answer.{got, _>>_, want}
 use Rattle.words.proofs.AnswerLaws.{got-inj, stop-inj, stop≢got}
 use Rattle.tables.specs.declared.Value.{Value}
 use Rattle.tables.specs.declared.Slot.the-variants.{Has}
-use Rattle.tables.specs.Values.{Sound}
-use Rattle.tables.specs.Cells.{Cells}
+use Rattle.tables.specs.Values.{cellOf, Sound}
+use Rattle.tables.specs.Cells.{Cells, cellAt}
 use Rattle.fit.specs.Fit.{Fit}
 use Rattle.tables.proofs.SearchLaws.{cases}
 use Rattle.rules.specs.State.{Fault, Res, refused, refuse, slotAt}
 use Rattle.rules.specs.Identities.{Tie, ties, isNode, member, frozenBy, classOf, names, clashFree, putAll, identityPhase}
-use Rattle.rules.specs.IdentityRules.{itself, by-tie, onwards, backwards, Relevant, Frozen, Satisfies, RelevantUpdate, Solves, Target, Ready}
-use Rattle.rules.specs.Claims.LeastChange.{LeastChange, LeastChanges}
+use Rattle.rules.specs.Rules.Identities.{itself, by-tie, onwards, backwards, Frozen}
+use Rattle.rules.specs.Steps.Phases.{Relevant, RelevantUpdate, Satisfies, Solves, Target, Ready}
+use Rattle.rules.specs.Steps.LeastChange.{LeastChange, LeastChanges}
 use Rattle.rules.proofs.ClassLaws.{tied-carries, tied-below, class-iff, class-not, false≢true}
-use Rattle.rules.proofs.PutAllLaws.{put-all-other, put-all-slot, put-all-slot-other, put-all-records, put-all-fields, put-all-label, put-all-lengths}
+use Rattle.rules.proofs.PutAllLaws.{put-all-other, put-all-same, put-all-slot, put-all-slot-other, put-all-records, put-all-counts, put-all-label, put-all-lengths}
 use Rattle.rules.proofs.PhaseLaws.{phase-iff, frozen-iff, names-iff, clash-iff, is-has, node-iff}
 use Rattle.rules.proofs.ReadyLaws.{target-below, ends-below, tie-inside, frozen-inside, ready-sized, ready-slot}
 
@@ -55,6 +56,10 @@ module _ (program kept : List ℤ) (before now : Cells) (word : List ℤ) (targe
   class-slot Z e l r = rw (facts Z e .written)
       (put-all-slot v now (classOf ts target) l sound (ready-sized before fit ready) (tied-below ts (ends-below program kept before ts followed) r (target-below before reached)) (class-iff ts target l .1 r))
 
+  class-cell : (Z : Cells) → identityPhase program kept before now word target prefix v ≡ got Z → (l : ℕ) → Relevant ts target l → cellAt Z l ≡ cellOf v
+  class-cell Z e l r = rw (facts Z e .written)
+      (put-all-same v now (classOf ts target) l (ready-sized before fit ready) (tied-below ts (ends-below program kept before ts followed) r (target-below before reached)) (class-iff ts target l .1 r))
+
   pub other-slot : (Z : Cells) → identityPhase program kept before now word target prefix v ≡ got Z → (l : ℕ) → (Relevant ts target l → ⊥) → slotAt Z l ≡ slotAt now l
   other-slot Z e l n = rw (facts Z e .written) (put-all-slot-other v now (classOf ts target) l (class-not ts target l n))
 
@@ -74,10 +79,10 @@ module _ (program kept : List ℤ) (before now : Cells) (word : List ℤ) (targe
       let c = classOf ts target in
       record {
         update = record {
-          class = class-slot Z e;
+          class = class-cell Z e;
           others = λ l n. rw w (put-all-other v now c l (class-not ts target l n));
           records = rw w (put-all-records v now c);
-          fields = rw w (put-all-fields v now c);
+          counts = rw w (put-all-counts v now c);
           labels = rw w (put-all-label v now c);
           environment-length = rw w (put-all-lengths v now c .0);
           heap-length = rw w (put-all-lengths v now c .1);

@@ -28,7 +28,7 @@ use Rattle.program.specs.Forms.{mostSteps}
 use Rattle.program.proofs.NumberLaws.{number-of}
 use Rattle.rules.specs.State.{orRefuse, slotAt, present}
 use Rattle.rules.specs.Paths.{aRecord, aField, follow, Way, wayAt, valueAt}
-use Rattle.rules.specs.EvaluationRules.{HasField, Leads, here, by, Names, names, Holds, holds}
+use Rattle.rules.specs.Rules.Expressions.{HasField, Leads, here, by, Names, names, Holds, holds}
 use Rattle.rules.proofs.WordSteps.{or-got, present-got, by-number}
 
 -- ---- the field with a label
@@ -45,8 +45,7 @@ module _ (heap : List ℤ) (r label : ℕ) where
       rw e at (seeking-goes-on (seeking-at f (omega arith) (λ g m. h g (omega arith))) (omega arith) (ne-eqb (labelAt heap r f) label (h f (omega arith))))
 
   pub field-complete : {l : ℕ} → HasField heap r label l → fieldWith heap r label ≡ At l
-  field-complete {l} h =
-      rw (h .is) (sym (find-hits heap r label (h .place) (seeking-at (h .place) (omega (arith, h .used)) (h .first)) (h .used) (h .named)))
+  field-complete (HasField.field f used is first) = sym (find-hits heap r label f (seeking-at f (omega arith) first) used is)
 
   -- the search from f on, with `left` places to go
   search-sound : (left f : ℕ) {l : ℕ} → left + f ≡ fieldCount heap r → ((g : ℕ) → g < f → labelAt heap r g ≢ label) → fieldWith heap r label ≡ At l → HasField heap r label l
@@ -56,13 +55,10 @@ module _ (heap : List ℤ) (r label : ℕ) where
   search-sound (suc left) f {l} s h e = go (ℕ-discrete (labelAt heap r f) label) (λ k. search-sound left (suc f) (omega arith) k e)
     where
       go : Dec (labelAt heap r f ≡ label) → (((g : ℕ) → g < suc f → labelAt heap r g ≢ label) → HasField heap r label l) → HasField heap r label l
-      go (yes y) ih = record {
-        place = f;
-        used = omega arith;
-        named = y;
-        first = h;
-        is = let c : At (fieldLocation r f) ≡ At l = find-hits heap r label f (seeking-at f (omega arith) h) (omega arith) y ∙ e in cc;
-      }
+      go (yes y) ih =
+          let c : At (fieldLocation r f) ≡ At l = find-hits heap r label f (seeking-at f (omega arith) h) (omega arith) y ∙ e in
+          let i : fieldLocation r f ≡ l = cc in
+          rw (← i) (HasField.field f (omega arith) y h)
       go (no n) ih = ih (λ g m q. last g m q (ℕ-discrete g f))
         where
           last : (g : ℕ) → g < suc f → labelAt heap r g ≡ label → Dec (g ≡ f) → ⊥
@@ -87,7 +83,7 @@ a-field (At l) e = ap At (got-inj e)
 a-field Nothing e = stop≢got e
 
 module _ (S : Cells) where
-  follow-sound : (n l : ℕ) (p : List ℤ) (x : ℕ × List ℕ) → follow S n l p ≡ got x → Leads S l n p (x .0) (x .1)
+  pub follow-sound : (n l : ℕ) (p : List ℤ) (x : ℕ × List ℕ) → follow S n l p ≡ got x → Leads S l n p (x .0) (x .1)
   unfolding follow
   follow-sound zero l p x e = rw (← got-inj e) here
   follow-sound (suc n) l p x e =
@@ -98,7 +94,7 @@ module _ (S : Cells) where
       (by (a-record (slotAt S l) e1) (field-iff (S .heap) r (numberAt p 0) next .0 (a-field (fieldWith (S .heap) r (numberAt p 0)) e2))
       (follow-sound n next (drop 1 p) y e3))
 
-  leads-complete : {l n to : ℕ} {p : List ℤ} {prefix : List ℕ} → Leads S l n p to prefix → follow S n l p ≡ got (to, prefix)
+  pub leads-complete : {l n to : ℕ} {p : List ℤ} {prefix : List ℕ} → Leads S l n p to prefix → follow S n l p ≡ got (to, prefix)
   unfolding follow
   leads-complete here = refl
   leads-complete (by {r = r} {p = p} e h k) = rw (e, field-complete (S .heap) r (numberAt p 0) h, leads-complete k)
@@ -130,7 +126,3 @@ module _ (S : Cells) where
   pub holds-complete : {p : List ℤ} {v : Value} {q : List ℤ} → Holds S p v q → valueAt S p ≡ got (v, q)
   unfolding valueAt
   holds-complete (holds n e) = rw (names-complete n, e)
-
-  -- and so for the value that it names
-  pub holds-iff : (p : List ℤ) (v : Value) (q : List ℤ) → (valueAt S p ≡ got (v, q)) ↔ Holds S p v q
-  holds-iff p v q = (holds-sound p (v, q), holds-complete)

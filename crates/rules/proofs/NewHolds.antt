@@ -36,9 +36,9 @@ use Rattle.program.proofs.BlockLaws.{InFields, fields-start, label-twice, field
 use Rattle.rules.specs.State.{State, refused}
 use Rattle.rules.specs.Evaluation.{evaluate}
 use Rattle.rules.specs.Identities.{identityPhase}
-use Rattle.rules.specs.IdentityRules.{by-variable, with-record}
+use Rattle.rules.specs.Steps.Phases.{by-variable, with-record}
 use Rattle.rules.specs.Statements.{Left, fieldWords, doNew}
-use Rattle.rules.specs.Holds.{Holds}
+use Rattle.rules.specs.Steps.Holds.{Holds}
 use Rattle.rules.proofs.EndLaws.{Any}
 use Rattle.rules.proofs.ReadingLaws.{evaluate-reads}
 use Rattle.rules.proofs.HoldLaws.{half-of}
@@ -142,18 +142,25 @@ module _ (S : Cells) (fit : Fit S) (N : ℕ) (p q : List ℤ) (reads : readField
       (there-fits S fit (v .0) (evaluate-there S fit expressionDepth (x ++ (ys ++ q)) v e1))
       (field-rows d (i + 1) (set marks l true) more (omega arith) (part-trans part' (part-trans (part-drop 1 (pos l ∷ (x ++ (ys ++ q)))) (append-part x (ys ++ q)))) (rw w at next) (rw t at e2)))
 
+-- so the tables with the record are fit
+pub new-fit : (S : Cells) (n : ℕ) (ys q fs : List ℤ) → Fit S → recordCount (S .heap) < 64 → n ≤ 8 → Fields n [] ys → fieldWords n S (ys ++ q) ≡ got fs
+    → Fit (cells (S .environment) (withRecord (S .heap) fs n))
+new-fit S n ys q fs fit room few f e =
+    fit-add S fs n fit room few
+    (field-rows S fit n (ys ++ q) q (fields-complete f q) f 0 (replicate 32 false) fs (omega arith) (part-refl (ys ++ q)) fields-start e .fit)
+
 -- ---- the words of a new that reads
 
-record NewWords (ws : List ℤ) : Type 0 where
-  x : ℕ
-  n : ℕ
-  fs : List ℤ
-  is : ws ≡ pos 2 ∷ pos x ∷ pos n ∷ fs
-  small : x < variables
-  few : n ≤ mostFields
-  fields : Fields n [] fs
+pub record NewWords (ws : List ℤ) : Type 0 where
+  pub x : ℕ
+  pub n : ℕ
+  pub fs : List ℤ
+  pub is : ws ≡ pos 2 ∷ pos x ∷ pos n ∷ fs
+  pub small : x < variables
+  pub few : n ≤ mostFields
+  pub fields : Fields n [] fs
 
-new-words : {d : ℕ} {ws : List ℤ} (q : List ℤ) → Yields (statementOf d) ws → numberAt (ws ++ q) 0 ≡ 2 → NewWords ws
+pub new-words : {d : ℕ} {ws : List ℤ} (q : List ℤ) → Yields (statementOf d) ws → numberAt (ws ++ q) 0 ≡ 2 → NewWords ws
 new-words {d} {ws} q y e = go y refl e
   where
     not : {ws : List ℤ} (k : ℕ) (r : List ℤ) → numberAt (pos k ∷ r) 0 ≡ 2 → (k ≡ 2 → ⊥) → NewWords ws
@@ -184,10 +191,9 @@ module _ (program p : List ℤ) (S : State) (ws : List ℤ) (l : Left) (holds : 
       tested (refused 10 p) (ltb (recordCount (S .cells .heap)) 64) _ k1 λ c k2.
       step (identityPhase program (S .kept) (S .cells) (cells (S .cells .environment) (withRecord (S .cells .heap) fs n)) p x [] (Ref (recordCount (S .cells .heap)))) _ k2 λ Z e3 k3.
       let room : recordCount (S .cells .heap) < 64 = ltb-true (recordCount (S .cells .heap)) 64 c in
-      let rows = field-rows (S .cells) (holds .fit) n (ys ++ q) q (fields-complete f q) f 0 (replicate 32 false) fs (omega arith) (part-refl (ys ++ q)) fields-start e1 in
       value-holds program p S ws l holds x Z
       (phase-half program (S .kept) (S .cells) (cells (S .cells .environment) (withRecord (S .cells .heap) fs n)) p x [] (Ref (recordCount (S .cells .heap))) Z (half-of holds)
-      (with-record fs n room b) (by-variable a) e3 (fit-add (S .cells) fs n (holds .fit) room b (rows .fit))
+      (with-record fs n room b) (by-variable a) e3 (new-fit (S .cells) n ys q fs (holds .fit) room b f e1)
       (λ k z. let w : recordCount (S .cells .heap) ≡ k = cc in rw (add-records (S .cells .heap) fs n (holds .fit .sized .heap) room b) (omega arith))) k3
 
   -- the statement at p reads, as a new

@@ -4,11 +4,12 @@ use mathlib.Core.Logic.{_≢_}
 use mathlib.Core.Bool.{Bool, true, false, not, _&&_, _||_, true≢false}
 use Prim.Native.Nat.{ℕ, zero, suc, _≤_}
 use native.Mathlib.Omega.{arith}
+use native.Mathlib.Decide.{ℕ-discrete}
 use lib.IntN.{ℤ, _+ℤ_, _-ℤ_, _*ℤ_}
 use lib.Signed.{ltZ, leZ}
 use Rattle.words.specs.Words.{eqZ}
 use Rattle.words.specs.Range.{fits}
-use Rattle.words.specs.Answer.{Answer, got, stop, _>>_, want}
+use Rattle.words.specs.Answer.{Answer, got, _>>_, want}
 use Rattle.words.proofs.AnswerLaws.{got-inj, stop≢got, tested}
 use Rattle.words.proofs.Laws.{eqZ-refl, eqZ-true}
 use Rattle.tables.specs.declared.Value.{Value}
@@ -19,7 +20,7 @@ use Rattle.tables.proofs.SearchLaws.{cases, and-left, and-right, and-true}
 use Rattle.tables.proofs.ValueLaws.{slot-of-cell}
 use Rattle.program.specs.Forms.{operators}
 use Rattle.rules.specs.Evaluation.{Kind, isNil, isBool, isInt, isRef, kindOf, opOf, anInt, aBool, aRef, comparable, two, takes, gives, same, intOf, boolOf, ranged, made, apply}
-use Rattle.rules.specs.OperatorRules.{Gives, Makes}
+use Rattle.rules.specs.Rules.Operators.{Gives, Makes}
 
 -- ---- kind and payload
 
@@ -101,45 +102,47 @@ module _ (a b : Kind) where
   pub gives-sound : (o : ℕ) → 1 ≤ o → o ≤ operators → takes (opOf o) a b ≡ true → Gives o a b (gives (opOf o))
   unfolding takes gives opOf
   gives-sound zero h l e = absurd (omega arith)
-  gives-sound (suc zero) h l e = ints (λ x y. Gives 1 x y isInt) a b e Gives.plus
-  gives-sound (suc (suc zero)) h l e = ints (λ x y. Gives 2 x y isInt) a b e Gives.minus
-  gives-sound (suc (suc (suc zero))) h l e = ints (λ x y. Gives 3 x y isInt) a b e Gives.times
-  gives-sound (suc (suc (suc (suc zero)))) h l e = ints (λ x y. Gives 4 x y isBool) a b e Gives.less
-  gives-sound (suc (suc (suc (suc (suc zero))))) h l e = ints (λ x y. Gives 5 x y isBool) a b e Gives.at-most
-  gives-sound (suc (suc (suc (suc (suc (suc zero)))))) h l e = plains e λ x y. Gives.equal x y
-  gives-sound (suc (suc (suc (suc (suc (suc (suc zero))))))) h l e = plains e λ x y. Gives.unequal x y
-  gives-sound (suc (suc (suc (suc (suc (suc (suc (suc zero)))))))) h l e = ints (λ x y. Gives 8 x y isBool) a b e Gives.at-least
-  gives-sound (suc (suc (suc (suc (suc (suc (suc (suc (suc zero))))))))) h l e = ints (λ x y. Gives 9 x y isBool) a b e Gives.more
-  gives-sound (suc (suc (suc (suc (suc (suc (suc (suc (suc (suc zero)))))))))) h l e = bools (λ x y. Gives 10 x y isBool) a b e Gives.both
-  gives-sound (suc (suc (suc (suc (suc (suc (suc (suc (suc (suc (suc zero))))))))))) h l e = bools (λ x y. Gives 11 x y isBool) a b e Gives.either
+  gives-sound (suc zero) h l e = ints (λ x y. Gives 1 x y isInt) a b e (Gives.number (omega arith) (omega arith))
+  gives-sound (suc (suc zero)) h l e = ints (λ x y. Gives 2 x y isInt) a b e (Gives.number (omega arith) (omega arith))
+  gives-sound (suc (suc (suc zero))) h l e = ints (λ x y. Gives 3 x y isInt) a b e (Gives.number (omega arith) (omega arith))
+  gives-sound (suc (suc (suc (suc zero)))) h l e = ints (λ x y. Gives 4 x y isBool) a b e (Gives.order (omega arith) (omega arith))
+  gives-sound (suc (suc (suc (suc (suc zero))))) h l e = ints (λ x y. Gives 5 x y isBool) a b e (Gives.order (omega arith) (omega arith))
+  gives-sound (suc (suc (suc (suc (suc (suc zero)))))) h l e = plains e (Gives.equality (omega arith) (omega arith))
+  gives-sound (suc (suc (suc (suc (suc (suc (suc zero))))))) h l e = plains e (Gives.equality (omega arith) (omega arith))
+  gives-sound (suc (suc (suc (suc (suc (suc (suc (suc zero)))))))) h l e = ints (λ x y. Gives 8 x y isBool) a b e (Gives.reverse (omega arith) (omega arith))
+  gives-sound (suc (suc (suc (suc (suc (suc (suc (suc (suc zero))))))))) h l e = ints (λ x y. Gives 9 x y isBool) a b e (Gives.reverse (omega arith) (omega arith))
+  gives-sound (suc (suc (suc (suc (suc (suc (suc (suc (suc (suc zero)))))))))) h l e = bools (λ x y. Gives 10 x y isBool) a b e (Gives.logic (omega arith) (omega arith))
+  gives-sound (suc (suc (suc (suc (suc (suc (suc (suc (suc (suc (suc zero))))))))))) h l e = bools (λ x y. Gives 11 x y isBool) a b e (Gives.logic (omega arith) (omega arith))
   gives-sound (suc (suc (suc (suc (suc (suc (suc (suc (suc (suc (suc (suc o)))))))))))) h l e = absurd (omega arith)
 
 pub gives-operator : {o : ℕ} {a b k : Kind} → Gives o a b k → (1 ≤ o) × (o ≤ operators)
-gives-operator Gives.plus = (omega arith, omega arith)
-gives-operator Gives.minus = (omega arith, omega arith)
-gives-operator Gives.times = (omega arith, omega arith)
-gives-operator Gives.less = (omega arith, omega arith)
-gives-operator Gives.at-most = (omega arith, omega arith)
-gives-operator (Gives.equal x y) = (omega arith, omega arith)
-gives-operator (Gives.unequal x y) = (omega arith, omega arith)
-gives-operator Gives.at-least = (omega arith, omega arith)
-gives-operator Gives.more = (omega arith, omega arith)
-gives-operator Gives.both = (omega arith, omega arith)
-gives-operator Gives.either = (omega arith, omega arith)
+gives-operator (Gives.number h l) = (omega arith, omega arith)
+gives-operator (Gives.order h l) = (omega arith, omega arith)
+gives-operator (Gives.equality h l x y) = (omega arith, omega arith)
+gives-operator (Gives.reverse h l) = (omega arith, omega arith)
+gives-operator (Gives.logic h l) = (omega arith, omega arith)
 
-pub gives-complete : {o : ℕ} {a b k : Kind} → Gives o a b k → (takes (opOf o) a b ≡ true) × (gives (opOf o) ≡ k)
+-- a number from n on is n, or is above it
+from : (P : ℕ → Type 0) (n : ℕ) {o : ℕ} → n ≤ o → P n → (suc n ≤ o → P o) → P o
+from P n {o} h x y = go (ℕ-discrete n o)
+  where
+    go : Dec (n ≡ o) → P o
+    go (yes e) = rw (← e) x
+    go (no d) = y (omega arith)
+
+-- what the operator o takes, and what it then gives
+abbrev pub Given : Kind → Kind → Kind → ℕ → Type 0
+Given a b k o = (takes (opOf o) a b ≡ true) × (gives (opOf o) ≡ k)
+
+pub gives-complete : {o : ℕ} {a b k : Kind} → Gives o a b k → Given a b k o
 unfolding takes gives opOf
-gives-complete Gives.plus = (refl, refl)
-gives-complete Gives.minus = (refl, refl)
-gives-complete Gives.times = (refl, refl)
-gives-complete Gives.less = (refl, refl)
-gives-complete Gives.at-most = (refl, refl)
-gives-complete (Gives.equal {a = a} {b = b} x y) = (compared a b x y, refl)
-gives-complete (Gives.unequal {a = a} {b = b} x y) = (compared a b x y, refl)
-gives-complete Gives.at-least = (refl, refl)
-gives-complete Gives.more = (refl, refl)
-gives-complete Gives.both = (refl, refl)
-gives-complete Gives.either = (refl, refl)
+gives-complete (Gives.number h l) =
+    from (Given isInt isInt isInt) 1 h (refl, refl) λ i. from (Given isInt isInt isInt) 2 i (refl, refl) λ j. from (Given isInt isInt isInt) 3 j (refl, refl) λ k. absurd (omega arith)
+gives-complete (Gives.order h l) = from (Given isInt isInt isBool) 4 h (refl, refl) λ i. from (Given isInt isInt isBool) 5 i (refl, refl) λ j. absurd (omega arith)
+gives-complete (Gives.equality {a = a} {b = b} h l x y) =
+    from (Given a b isBool) 6 h (compared a b x y, refl) λ i. from (Given a b isBool) 7 i (compared a b x y, refl) λ j. absurd (omega arith)
+gives-complete (Gives.reverse h l) = from (Given isInt isInt isBool) 8 h (refl, refl) λ i. from (Given isInt isInt isBool) 9 i (refl, refl) λ j. absurd (omega arith)
+gives-complete (Gives.logic h l) = from (Given isBool isBool isBool) 10 h (refl, refl) λ i. from (Given isBool isBool isBool) 11 i (refl, refl) λ j. absurd (omega arith)
 
 -- ---- what an operator makes
 

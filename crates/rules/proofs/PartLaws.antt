@@ -1,7 +1,7 @@
 -- The parts of a constraint: the definitions and the rules say the same. Assumes nothing.
-use mathlib.Core.Path.{_≡_, refl, sym, _∙_}
+use mathlib.Core.Path.{_≡_, refl}
 use mathlib.Core.Logic.{_↔_}
-use mathlib.Core.Bool.{true, false}
+use mathlib.Core.Bool.{true}
 use mathlib.Core.List.{List, [], _∷_}
 use Prim.Native.Nat.{ℕ, zero, suc, _≤_}
 use native.Mathlib.Omega.{arith}
@@ -10,14 +10,15 @@ use Rattle.words.specs.Answer.{got}
 use Rattle.words.proofs.AnswerLaws.{got-inj, step, tested}
 use Rattle.tables.specs.declared.Value.the-variants.{Bool as Truth}
 use Rattle.tables.specs.Cells.{Cells}
-use Rattle.tables.proofs.SearchLaws.{cases}
+use Rattle.tables.proofs.ClearLaws.{agree}
 use Rattle.program.specs.Forms.{expressionDepth, mostParts, required}
 use Rattle.program.proofs.NumberLaws.{number-of}
 use Rattle.rules.specs.State.{refused}
 use Rattle.rules.specs.Evaluation.{Kind, isNil, isBool, isInt, isRef, aBool, evaluate, kind}
 use Rattle.rules.specs.Constraints.{Part, satisfies, partAt, partsAt, constraintAt}
-use Rattle.rules.specs.EvaluationRules.{KindWithin}
-use Rattle.rules.specs.ConstraintRules.{PartReads, PartsRead, ConstraintReads, PartIs, PartsAre, ConstraintIs}
+use Rattle.rules.specs.Rules.Expressions.{Within}
+use Rattle.rules.specs.Rules.Constraints.{PartIs, PartsAre, ConstraintIs}
+use Rattle.rules.specs.Steps.Evaluation.{PartReads, PartsRead, ConstraintReads}
 use Rattle.rules.proofs.WordSteps.{by-number}
 use Rattle.rules.proofs.EvaluationLaws.{evaluate-iff}
 use Rattle.rules.proofs.TypingLaws.{kind-iff}
@@ -32,6 +33,13 @@ a-bool isRef e = cc
 -- ---- what the definitions answer, the rules derive
 
 module _ (S : Cells) where
+  -- a part is satisfied by the definition exactly where its value is true
+  true-iff : (p q : List ℤ) → kind expressionDepth S p ≡ got (isBool, q) → (satisfies (evaluate expressionDepth S p) ≡ true) ↔ Within S expressionDepth p (Truth true) q
+  true-iff p q e =
+      let s = satisfied-iff expressionDepth S p q e in
+      let v = evaluate-iff expressionDepth S p (Truth true) q in
+      (λ c. v .0 (s .0 c), λ w. s .1 (v .1 w))
+
   part-sound : (p : List ℤ) (x : Part × List ℤ) → partAt S p ≡ got x → PartIs S p (x .0) (x .1)
   unfolding partAt
   part-sound p x e =
@@ -42,14 +50,7 @@ module _ (S : Cells) where
     where
       whole : (n : ℕ) (q : List ℤ) → 1 ≤ n → n ≤ required → (r : List ℤ) → kind expressionDepth S q ≡ got (isBool, r)
           → PartIs S (pos n ∷ q) (record { priority = n; satisfied = satisfies (evaluate expressionDepth S q) }) r
-      whole n q a b r e =
-          let t : KindWithin S expressionDepth q isBool r = kind-iff expressionDepth S q isBool r .0 e in
-          cases (satisfies (evaluate expressionDepth S q))
-          (λ c. rw c (PartIs.met a b t (evaluate-iff expressionDepth S q (Truth true) r .0 (satisfied-iff expressionDepth S q r e .0 c))))
-          (λ c. rw c (PartIs.unmet a b t (λ w. absurd
-          (let z : true ≡ false = sym (satisfied-iff expressionDepth S q r e .1 (evaluate-iff expressionDepth S q (Truth true) r .1 w)) ∙ c in
-          let y : _≡_ {A = ℕ} 0 1 = cc in
-          omega arith))))
+      whole n q a b r e = PartIs.part a b (kind-iff expressionDepth S q isBool r .0 e) (true-iff q r e)
 
   parts-sound : (m : ℕ) (p : List ℤ) (x : List Part × List ℤ) → partsAt m S p ≡ got x → PartsAre S m p (x .0) (x .1)
   unfolding partsAt
@@ -70,17 +71,10 @@ module _ (S : Cells) where
 
   part-complete : {p q : List ℤ} {x : Part} → PartIs S p x q → partAt S p ≡ got (x, q)
   unfolding partAt
-  part-complete (PartIs.met {priority = n} {p = p} {q = q} a b t w) =
+  part-complete (PartIs.part {priority = n} {b = c} {p = p} {q = q} a b t w) =
       let e : kind expressionDepth S p ≡ got (isBool, q) = kind-iff expressionDepth S p isBool q .1 t in
-      rw (number-of 1 required n p a b, e, satisfied-iff expressionDepth S p q e .1 (evaluate-iff expressionDepth S p (Truth true) q .1 w))
-  part-complete (PartIs.unmet {priority = n} {p = p} {q = q} a b t w) =
-      let e : kind expressionDepth S p ≡ got (isBool, q) = kind-iff expressionDepth S p isBool q .1 t in
-      rw (
-        number-of 1 required n p a b,
-        e,
-        cases {X = satisfies (evaluate expressionDepth S p) ≡ false} (satisfies (evaluate expressionDepth S p))
-            (λ c. absurd (w (evaluate-iff expressionDepth S p (Truth true) q .0 (satisfied-iff expressionDepth S p q e .0 c)))) (λ c. c),
-      )
+      let s : satisfies (evaluate expressionDepth S p) ≡ c = agree (satisfies (evaluate expressionDepth S p)) c (λ y. w .1 (true-iff p q e .0 y)) (λ y. true-iff p q e .1 (w .0 y)) in
+      rw (number-of 1 required n p a b, e, s)
 
   parts-complete : {m : ℕ} {p q : List ℤ} {xs : List Part} → PartsAre S m p xs q → partsAt m S p ≡ got (xs, q)
   unfolding partsAt
@@ -95,17 +89,13 @@ module _ (S : Cells) where
   pub part-iff : (p : List ℤ) (x : Part) (q : List ℤ) → (partAt S p ≡ got (x, q)) ↔ PartIs S p x q
   part-iff p x q = (part-sound p (x, q), part-complete)
 
-  pub parts-iff : (m : ℕ) (p : List ℤ) (xs : List Part) (q : List ℤ) → (partsAt m S p ≡ got (xs, q)) ↔ PartsAre S m p xs q
-  parts-iff m p xs q = (parts-sound m p (xs, q), parts-complete)
-
   pub constraint-iff : (p : List ℤ) (xs : List Part) → (constraintAt S p ≡ got xs) ↔ ConstraintIs S p xs
   constraint-iff p xs = (constraint-sound p xs, constraint-complete)
 
   -- ---- when a C reads
 
   part-reads : {p q : List ℤ} {x : Part} → PartIs S p x q → PartReads S p q
-  part-reads (PartIs.met a b t w) = PartReads.part a b t
-  part-reads (PartIs.unmet a b t w) = PartReads.part a b t
+  part-reads (PartIs.part a b t w) = PartReads.part a b t
 
   parts-read : {m : ℕ} {p q : List ℤ} {xs : List Part} → PartsAre S m p xs q → PartsRead S m p q
   parts-read PartsAre.none = PartsRead.none

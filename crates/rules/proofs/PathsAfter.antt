@@ -1,6 +1,6 @@
 -- After the identity phase the same L leads to the same cell. Assumes nothing.
 use mathlib.Core.Path.{_≡_, refl, sym, _∙_}
-use mathlib.Core.List.{List, [], _∷_, List·Memᴰ·head, List·Memᴰ·tail, List·Memᴰ·not-nil, Memᴰ·append-left, Memᴰ·append-right}
+use mathlib.Core.List.{List, [], _∷_, List·Memᴰ·head, List·Memᴰ·tail, List·Memᴰ·not-nil, Memᴰ·append-left, Memᴰ·append-right, List·Memᴰ as OneOf}
 use Prim.Native.Nat.{ℕ, _+_}
 use lib.IntN.{ℤ}
 use lib.ListN.{drop}
@@ -17,7 +17,8 @@ use Rattle.fit.specs.Fit.{Fit}
 use Rattle.rules.specs.State.{slotAt, positions}
 use Rattle.rules.specs.Paths.{Way, wayAt}
 use Rattle.rules.specs.Identities.{Tie, tieAt, tiesOf, ties, classOf, identityPhase}
-use Rattle.rules.specs.IdentityRules.{OneOf, Frozen, of-target, of-side, Target, Ready}
+use Rattle.rules.specs.Rules.Identities.{Frozen, of-target, of-side}
+use Rattle.rules.specs.Steps.Phases.{Target, Ready}
 use Rattle.rules.specs.Steps.PathsAfter.{PathsAfter, SamePaths}
 use Rattle.rules.proofs.PutAllLaws.{put-all-found}
 use Rattle.rules.proofs.WayLaws.{one-of-cons, way-same}

@@ -15,8 +15,9 @@ use Rattle.fit.specs.Fit.{Fit}
 use Rattle.tables.proofs.SearchLaws.{cases}
 use Rattle.rules.specs.State.{Fault, Res, refused, refuse, slotAt}
 use Rattle.rules.specs.Identities.{Tie, ties, isNode, member, frozenBy, classOf, names, is, clashFree, putAll, identityPhase}
-use Rattle.rules.specs.IdentityRules.{Names, Clash}
+use Rattle.rules.specs.Rules.Identities.{IsNamed}
 use Rattle.rules.specs.Steps.PhaseAnswers.{PhaseAnswers, Refuses, PhaseRefuses}
+use Rattle.rules.specs.Steps.Phases.{Clash}
 use Rattle.rules.proofs.ClassLaws.{false≢true, member-head, member-tail, class-iff}
 use Rattle.rules.proofs.PhaseLaws.{phase-iff, frozen-iff, names-iff, clash-iff, is-has, node-iff}
 
@@ -76,13 +77,13 @@ module _ (program kept : List ℤ) (before now : Cells) (word : List ℤ) (targe
   unfolding identityPhase tests
   phase-tests = rw followed
 
-  node-false : (node ≡ false) ↔ (Names ts target × (isNode v ≡ false))
+  node-false : (node ≡ false) ↔ (IsNamed ts target × (isNode v ≡ false))
   node-false = (
     λ e. let k = neither (names ts target) (isNode v) e in (names-iff ts target .0 (k .0), k .1),
     λ w. rw (names-iff ts target .1 (w .0), w .1),
   )
 
-  node-true : (node ≡ true) ↔ (Names ts target → isNode v ≡ true)
+  node-true : (node ≡ true) ↔ (IsNamed ts target → isNode v ≡ true)
   node-true = (
     λ e n. node-iff (names ts target) (isNode v) .0 e (names-iff ts target .1 n),
     λ f. node-iff (names ts target) (isNode v) .1 (λ q. f (names-iff ts target .0 q)),

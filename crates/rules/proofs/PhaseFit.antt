@@ -13,7 +13,7 @@ use Rattle.fit.specs.Fit.{Fit, MayHold, in-variable, in-field}
 use Rattle.fit.proofs.CellFits.{cell-fits}
 use Rattle.fit.proofs.FitLaws.{fit-count, fit-count-word}
 use Rattle.rules.specs.Identities.{Tie, ties, classOf, identityPhase}
-use Rattle.rules.specs.IdentityRules.{Target, Ready}
+use Rattle.rules.specs.Steps.Phases.{Target, Ready}
 use Rattle.rules.proofs.ClassLaws.{class-iff}
 use Rattle.rules.proofs.PhaseLaws.{small-sound}
 use Rattle.rules.proofs.PutAllLaws.{put-all-fit}

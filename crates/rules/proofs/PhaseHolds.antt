@@ -17,10 +17,10 @@ use Rattle.fit.specs.Fit.{Fit}
 use Rattle.fit.proofs.FitLaws.{fit-count}
 use Rattle.rules.specs.State.{positions}
 use Rattle.rules.specs.Identities.{sameNow, identityPhase}
-use Rattle.rules.specs.IdentityRules.{Target, Ready, Phase}
+use Rattle.rules.specs.Steps.Phases.{Target, Ready, Computed}
 use Rattle.rules.specs.Start.{identitiesHold}
-use Rattle.rules.specs.Conditions.{Each, none, more}
-use Rattle.rules.specs.Holds.{IdentityHolds}
+use Rattle.rules.specs.Rules.Proposals.{Each, none, more}
+use Rattle.rules.specs.Steps.Holds.{IdentityHolds}
 use Rattle.rules.proofs.PhaseLaws.{small-sound, phase-iff}
 use Rattle.rules.proofs.PhaseFit.{phase-fit}
 use Rattle.rules.proofs.IdentitiesAfter.{identities-after}
@@ -48,7 +48,7 @@ module _ (program kept : List ℤ) (before now : Cells) (word : List ℤ) (targe
   pub phase-half : Fit now → ((r : ℕ) → v ≡ Ref r → r < recordCount (now .heap)) → Half program kept Z
   phase-half fit-now small =
       let sound : Sound v = small-sound v (recordCount (now .heap)) (fit-count now fit-now) small in
-      let phase : Phase program kept before now target prefix v Z = phase-iff program kept before now word target prefix v (half .fit) sound Z .0 answered in
+      let phase : Computed program kept before now target prefix v Z = phase-iff program kept before now word target prefix v (half .fit) sound Z .0 answered in
       record {
         fit = phase-fit program kept before now word target prefix v (phase .tied) Z (half .fit) fit-now ready reached small (phase .followed) answered;
         identities = identities-iff program Z (positions kept Identities) .0

@@ -2,7 +2,7 @@
 use mathlib.Core.Path.{_≡_, refl, sym, ap, _∙_}
 use mathlib.Core.Logic.{_↔_}
 use mathlib.Core.Bool.{Bool, true, false, not, _||_}
-use mathlib.Core.List.{List, [], _∷_, _++_, List·Memᴰ·head, List·Memᴰ·tail}
+use mathlib.Core.List.{List, [], _∷_, _++_, List·Memᴰ·head, List·Memᴰ·tail, List·Memᴰ as OneOf}
 use Prim.Native.Nat.{ℕ, _≤_, _<_}
 use native.Mathlib.Omega.{arith}
 use borrow.Author.Tests.{eqb-true, eq-eqb}
@@ -26,7 +26,8 @@ use Rattle.fit.proofs.FitLaws.{fit-ref, fit-count}
 use Rattle.rules.specs.State.{refused, slotAt}
 use Rattle.rules.specs.Evaluation.{same}
 use Rattle.rules.specs.Identities.{Tie, ties, isNode, member, frozenBy, classOf, names, is, clashFree, identityPhase}
-use Rattle.rules.specs.IdentityRules.{OneOf, Frozen, of-target, of-side, Names, as-one, as-two, Phase}
+use Rattle.rules.specs.Rules.Identities.{Frozen, of-target, of-side, IsNamed, as-one, as-two}
+use Rattle.rules.specs.Steps.Phases.{Computed}
 use Rattle.rules.proofs.ClassLaws.{or-left, or-right, or-cases, false≢true, member-head, member-tail, member-cons, member-none, member-in, in-member, class-iff}
 
 -- ---- frozen cells
@@ -64,14 +65,14 @@ frozen-iff prefix ts l = (
 
 -- ---- what an identity names
 
-names-sound : (ts : List Tie) (l : ℕ) → names ts l ≡ true → Names ts l
+names-sound : (ts : List Tie) (l : ℕ) → names ts l ≡ true → IsNamed ts l
 unfolding names
 names-sound [] l e = false≢true e
 names-sound (t ∷ ts) l e = or-cases (eqb (t .one) l || eqb (t .two) l) (names ts l) e
     (λ a. or-cases (eqb (t .one) l) (eqb (t .two) l) a (λ b. as-one t (List·Memᴰ·head refl) (eqb-true (t .one) l b)) (λ b. as-two t (List·Memᴰ·head refl) (eqb-true (t .two) l b)))
     (λ a. more (names-sound ts l a))
   where
-    more : Names ts l → Names (t ∷ ts) l
+    more : IsNamed ts l → IsNamed (t ∷ ts) l
     more (as-one u m q) = as-one u (List·Memᴰ·tail m) q
     more (as-two u m q) = as-two u (List·Memᴰ·tail m) q
 
@@ -80,10 +81,10 @@ unfolding names
 names-here l t (List·Memᴰ·head {x = u} {xs = ts} q) e = or-left (eqb (u .one) l || eqb (u .two) l) (names ts l) (rw q at e)
 names-here l t (List·Memᴰ·tail {x = u} {xs = ts} m) e = or-right (eqb (u .one) l || eqb (u .two) l) (names ts l) (names-here l t m e)
 
-pub names-iff : (ts : List Tie) (l : ℕ) → (names ts l ≡ true) ↔ Names ts l
+pub names-iff : (ts : List Tie) (l : ℕ) → (names ts l ≡ true) ↔ IsNamed ts l
 names-iff ts l = (names-sound ts l, back-to)
   where
-    back-to : Names ts l → names ts l ≡ true
+    back-to : IsNamed ts l → names ts l ≡ true
     back-to (as-one t m q) = names-here l t m (or-left (eqb (t .one) l) (eqb (t .two) l) (eq-eqb (t .one) l q))
     back-to (as-two t m q) = names-here l t m (or-right (eqb (t .one) l) (eqb (t .two) l) (eq-eqb (t .two) l q))
 
@@ -153,7 +154,7 @@ node-iff false b = (λ e q. false≢true q, λ f. refl)
 module _ (program kept : List ℤ) (before now : Cells) (word : List ℤ) (target : ℕ) (prefix : List ℕ) (v : Value) where
   module _ (fit : Fit before) (sound : Sound v) where
     -- the phase answers exactly where it may, and then with the class's update
-    pub phase-iff : (Z : Cells) → (identityPhase program kept before now word target prefix v ≡ got Z) ↔ Phase program kept before now target prefix v Z
+    pub phase-iff : (Z : Cells) → (identityPhase program kept before now word target prefix v ≡ got Z) ↔ Computed program kept before now target prefix v Z
     unfolding identityPhase
     phase-iff Z = (
       λ e.

@@ -27,7 +27,7 @@ use Rattle.program.proofs.WhereLaws.{after-is, Looking, looking-starts, looking
 
 -- ---- the verb of a statement
 
-verb-back : (v : Verb) → getD verbs (numberOfVerb v) noVerb ≡ v
+pub verb-back : (v : Verb) → getD verbs (numberOfVerb v) noVerb ≡ v
 verb-back skip = refl
 verb-back assign = refl
 verb-back new = refl
@@ -39,7 +39,7 @@ verb-back branch = refl
 verb-back loop = refl
 verb-back noVerb = refl
 
-verb-none : (v : Verb) → (numberOfVerb v < 9 → ⊥) → v ≡ noVerb
+pub verb-none : (v : Verb) → (numberOfVerb v < 9 → ⊥) → v ≡ noVerb
 verb-none skip h = absurd (h (omega arith))
 verb-none assign h = absurd (h (omega arith))
 verb-none new h = absurd (h (omega arith))
@@ -66,7 +66,7 @@ verbIn (Yields.onceSame x y) = onceSame
 verbIn (Yields.branch x y z) = branch
 verbIn (Yields.loop x y) = loop
 
-verb-first : {d : ℕ} {s : List ℤ} (y : Yields (statementOf d) s) (q : List ℤ) → numberAt (s ++ q) 0 ≡ numberOfVerb (verbIn y)
+pub verb-first : {d : ℕ} {s : List ℤ} (y : Yields (statementOf d) s) (q : List ℤ) → numberAt (s ++ q) 0 ≡ numberOfVerb (verbIn y)
 verb-first Yields.skip q = number-first _ _
 verb-first (Yields.assign x y) q = number-first _ _
 verb-first (Yields.new h k f) q = number-first _ _

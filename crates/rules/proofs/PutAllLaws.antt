@@ -11,11 +11,11 @@ use Rattle.tables.specs.declared.Value.{Value}
 use Rattle.tables.specs.declared.Slot.the-variants.{Has}
 use Rattle.tables.specs.Values.{cellOf, slotOf, Sound}
 use Rattle.tables.specs.Cells.{Cells, cellAt, putCell, Sized}
-use Rattle.tables.specs.Records.{recordCount, fieldCount, labelAt, fieldWith}
+use Rattle.tables.specs.Records.{recordCount, countAt, fieldCount, labelAt, fieldWith}
 use Rattle.fit.specs.Fit.{Fit, MayHold, in-variable, in-field, cellFits}
 use Rattle.tables.proofs.SearchLaws.{cases}
 use Rattle.tables.proofs.ValueLaws.{slot-of-cell, cell-used}
-use Rattle.tables.proofs.CellLaws.{read-same, read-other, put-lengths, put-sized, put-count-word, put-records, put-fields, put-label, put-found, no-cell}
+use Rattle.tables.proofs.CellLaws.{read-same, read-other, put-lengths, put-sized, put-count-word, put-records, put-count, put-fields, put-label, put-found, no-cell}
 use Rattle.fit.proofs.FitChanges.{fit-put}
 use Rattle.rules.specs.State.{slotAt}
 use Rattle.rules.specs.Identities.{member, putAll}
@@ -85,6 +85,11 @@ module _ (v : Value) where
   unfolding putAll
   put-all-fields S [] r = refl
   put-all-fields S (l ∷ ls) r = put-all-fields (putCell S l (cellOf v)) ls r ∙ put-fields S l (cellOf v) r
+
+  pub put-all-counts : (S : Cells) (ls : List ℕ) (r : ℕ) → countAt (putAll S ls v .heap) r ≡ countAt (S .heap) r
+  unfolding putAll
+  put-all-counts S [] r = refl
+  put-all-counts S (l ∷ ls) r = put-all-counts (putCell S l (cellOf v)) ls r ∙ put-count S l (cellOf v) r
 
   pub put-all-label : (S : Cells) (ls : List ℕ) (r f : ℕ) → labelAt (putAll S ls v .heap) r f ≡ labelAt (S .heap) r f
   unfolding putAll

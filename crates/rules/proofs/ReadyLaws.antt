@@ -1,7 +1,7 @@
 -- What paths and kept identities of the state before a statement reach is the same in the tables that the identity phase writes.
 -- Assumes nothing.
 use mathlib.Core.Path.{_≡_, refl, sym, ap, _∙_}
-use mathlib.Core.List.{List, [], _∷_, _++_, List·Memᴰ·head, List·Memᴰ·tail, List·Memᴰ·not-nil, List·Memᴰ·append-cases}
+use mathlib.Core.List.{List, [], _∷_, _++_, List·Memᴰ·head, List·Memᴰ·tail, List·Memᴰ·not-nil, List·Memᴰ·append-cases, List·Memᴰ as OneOf}
 use mathlib.Core.Logic.{inl, inr}
 use Prim.Native.Nat.{ℕ, zero, suc, _+_, _<_}
 use native.Mathlib.Omega.{arith}
@@ -28,7 +28,8 @@ use Rattle.program.proofs.NumberLaws.{number-read}
 use Rattle.rules.specs.State.{slotAt, positions}
 use Rattle.rules.specs.Paths.{follow, Way, wayAt}
 use Rattle.rules.specs.Identities.{Tie, tieAt, tiesOf, ties}
-use Rattle.rules.specs.IdentityRules.{OneOf, Tied, Frozen, of-target, of-side, Target, by-variable, by-path, Ready, as-before, with-record}
+use Rattle.rules.specs.Rules.Identities.{Tied, Frozen, of-target, of-side}
+use Rattle.rules.specs.Steps.Phases.{Target, by-variable, by-path, Ready, as-before, with-record}
 use Rattle.rules.proofs.ClassLaws.{tied-carries, EndsBelow}
 use Rattle.rules.proofs.WayLaws.{one-of-cons, found-at, found-same, follow-step, follow-none, way-of, way-below}
 

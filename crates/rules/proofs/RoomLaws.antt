@@ -1,47 +1,40 @@
 -- No room is given back: the claims of specs/Claims/Room.antt. Assumes nothing.
 use mathlib.Core.Path.{_≡_, refl, _∙_}
-use mathlib.Core.Bool.{not, _||_}
-use mathlib.Core.List.{List, [], _++_}
+use mathlib.Core.List.{List}
 use Prim.Native.Nat.{ℕ, _≤_, _<_}
 use native.Mathlib.Omega.{arith}
 use native.Mathlib.Decide.{decLt}
 use lib.IntN.{ℤ}
-use lib.ListN.{length, drop}
-use Rattle.words.specs.Words.{numberAt}
-use Rattle.words.specs.Answer.{got}
-use Rattle.words.proofs.AnswerLaws.{got-inj, step, tested}
+use lib.ListN.{length}
 use Rattle.tables.specs.declared.Value.{Value}
 use Rattle.tables.specs.declared.Sort.{Sort}
-use Rattle.tables.specs.Sizes.{constraintsWords, mostFields}
-use Rattle.tables.specs.Cells.{Cells, cells, Sized}
-use Rattle.tables.specs.Records.{recordCount, withRecord}
-use Rattle.tables.specs.Kept.{mostKept, keptCount, positionAt, isKept, withPosition}
-use Rattle.tables.proofs.SearchLaws.{cases, and-left}
-use Rattle.tables.proofs.RecordLaws.{add-records, add-fields-other, add-label-other}
-use Rattle.tables.proofs.KeptLaws.{keep-full, keep-count, keep-count-other, keep-old, keep-position-other}
-use Rattle.fit.specs.Fit.{sized}
-use Rattle.fit.proofs.StartLaws.{sized-lengths}
-use Rattle.program.specs.Forms.{Verb, once, verbOf}
-use Rattle.rules.specs.State.{State, refused}
-use Rattle.rules.specs.Identities.{ties, isNode, frozenBy, classOf, names, clashFree, identityPhase}
+use Rattle.tables.specs.Sizes.{constraintsWords}
+use Rattle.tables.specs.Cells.{Cells, Sized}
+use Rattle.tables.specs.Records.{recordCount, fieldCount, labelAt}
+use Rattle.tables.specs.Kept.{mostKept, keptCount, positionAt, withPosition}
+use Rattle.tables.proofs.FindLaws.{fields-same}
+use Rattle.tables.proofs.KeptLaws.{keep-length, keep-full, keep-count, keep-count-other, keep-old, keep-position-other}
+use Rattle.rules.specs.State.{State}
 use Rattle.rules.specs.Proposals.{Asked}
-use Rattle.rules.specs.Conditions.{Settles}
-use Rattle.rules.specs.Statements.{Left, keep}
-use Rattle.rules.specs.StatementRules.{Steps, s-skip, s-assign, s-new, s-once, s-always, s-once-identity, s-always-identity}
-use Rattle.rules.specs.Reaching.{Reached, at-first, after-one}
-use Rattle.rules.specs.Start.{budgetFits, starts, run}
-use Rattle.rules.specs.Claims.Room.{RecordsStay, PositionsStay, Stays, StepsStay, ReachedStays, RunsStay}
-use Rattle.rules.proofs.SimpleLaws.{keeps-is}
-use Rattle.rules.proofs.EffectLaws.{settle-near}
-use Rattle.rules.proofs.PutAllLaws.{put-all-records, put-all-fields, put-all-label, put-all-sized}
-use Rattle.rules.proofs.ProposalLaws.{settle-iff}
-use Rattle.rules.proofs.SameRecords.{add-sized}
-use Rattle.rules.proofs.KeepLaws.{kept-length, same-sort}
-use Rattle.rules.proofs.StartLaws.{passed}
-use Rattle.rules.proofs.RunLaws.{Way, at-start, to-end, on-way, way}
+use Rattle.rules.specs.Statements.{Left}
+use Rattle.rules.specs.Start.{Ended}
+use Rattle.rules.specs.Claims.Answers.{Reached, at-first, after-one}
+use Rattle.rules.specs.Rules.Identities.{Phase}
+use Rattle.rules.specs.Rules.Proposals.{Settles}
+use Rattle.rules.specs.Rules.Statements.{Adds, Keeps, again, added, Gives, assigns, makes}
+use Rattle.rules.specs.Rules.Statements.{Steps, s-skip, s-gives, s-once, s-always, s-once-identity, s-always-identity}
+use Rattle.rules.specs.Rules.Answers.{Passes, Answered, unstarted, finished, stopped}
+use Rattle.rules.specs.Claims.Room.{Stays, StepsStay, RunsStay}
+use Rattle.rules.proofs.ProposalLaws.{proposals-move}
+use Rattle.rules.proofs.KeepLaws.{same-sort}
 use Rattle.rules.proofs.RunFacts.{answers}
 
 -- ---- records
+
+record RecordsStay (S Z : Cells) : Type 0 where
+  count : recordCount (S .heap) ≤ recordCount (Z .heap)
+  fields : (r : ℕ) → r < recordCount (S .heap) → fieldCount (Z .heap) r ≡ fieldCount (S .heap) r
+  labels : (r f : ℕ) → r < recordCount (S .heap) → labelAt (Z .heap) r f ≡ labelAt (S .heap) r f
 
 -- what becomes of an environment and a heap of their lengths
 record Grows (S Z : Cells) : Type 0 where
@@ -65,41 +58,44 @@ grows-self : (S : Cells) → Sized S → Grows S S
 grows-self S z = record { stay = records-self S; sized = z }
 
 -- the identity phase moves cells only
-phase-grows : (program kept : List ℤ) (before now : Cells) (word : List ℤ) (target : ℕ) (prefix : List ℕ) (v : Value) {Y : Cells}
-    → Sized now → identityPhase program kept before now word target prefix v ≡ got Y → Grows now Y
-unfolding identityPhase
-phase-grows program kept before now word target prefix v z e =
-    step (ties program kept before) _ e λ ts e1 k1.
-    tested (refused 13 word) (not (names ts target) || isNode v) _ k1 λ c2 k2.
-    tested (refused 12 word) (clashFree before (prefix ++ frozenBy ts) v (classOf ts target)) _ k2 λ c3 k3.
-    let c : List ℕ = classOf ts target in
-    rw (← got-inj k3)
-    (record {
-      stay = record { count = rw (put-all-records v now c) (omega arith); fields = λ r h. put-all-fields v now c r; labels = λ r f h. put-all-label v now c r f };
-      sized = put-all-sized v now c z;
-    })
+phase-grows : {program kept : List ℤ} {before now Y : Cells} {target : ℕ} {prefix : List ℕ} {v : Value} → Sized now → Phase program kept before now target prefix v Y → Grows now Y
+phase-grows {now = now} {Y = Y} z h =
+    let u = h .update in
+    record {
+      stay = record { count = rw (u .records) (omega arith); fields = λ r b. fields-same (Y .heap) (now .heap) r (u .counts r); labels = λ r f b. u .labels r f };
+      sized = record { environment = u .environment-length ∙ z .environment; heap = u .heap-length ∙ z .heap };
+    }
 
 -- and so does a proposal
 settles-grows : (program kept : List ℤ) (asked : Asked) (S : Cells) (ws : List ℤ) (Z : Cells) (rest : List ℤ) → Sized S → Settles program kept asked S ws Z rest → Grows S Z
 settles-grows program kept asked S ws Z rest z s =
-    let n = settle-near program kept asked [] S ws Z rest (settle-iff program kept asked [] S ws Z rest .1 s) z in
+    let n = proposals-move program kept asked S ws Z rest z s in
     record {
-      stay = record { count = rw (n .effect .records) (omega arith); fields = λ r h. n .effect .fields r; labels = λ r f h. n .effect .labels r f };
-      sized = n .sized;
+      stay = record { count = rw (n .records) (omega arith); fields = λ r h. n .fields r; labels = λ r f h. n .labels r f };
+      sized = record { environment = n .environment ∙ z .environment; heap = n .heap ∙ z .heap };
     }
 
 -- a record more
-new-grows : (S : Cells) (fs : List ℤ) (n : ℕ) → Sized S → recordCount (S .heap) < 64 → n ≤ 8 → Grows S (cells (S .environment) (withRecord (S .heap) fs n))
-new-grows S fs n z room few = record {
+new-grows : {S now : Cells} {fs : List (ℕ × Value)} → Sized S → Adds S fs now → Grows S now
+new-grows {S} {now} z a = record {
   stay = record {
-    count = rw (add-records (S .heap) fs n (z .heap) room few) (omega arith);
-    fields = λ r h. add-fields-other (S .heap) fs n (z .heap) room few r (λ e. omega arith);
-    labels = λ r f h. add-label-other (S .heap) fs n (z .heap) room few r f (λ e. omega arith);
+    count = rw (a .records) (omega arith);
+    fields = λ r h. fields-same (now .heap) (S .heap) r (a .counts r (λ e. omega arith));
+    labels = λ r f h. a .labels r f (λ e g. omega arith);
   };
-  sized = add-sized S fs n z;
+  sized = record { environment = a .environment-length ∙ z .environment; heap = a .heap-length ∙ z .heap };
 }
 
+-- what an assignment or a new gives
+gives-grows : {S N : Cells} {p : List ℤ} {target : ℕ} {prefix : List ℕ} {v : Value} → Sized S → Gives S p target prefix v N → Grows S N
+gives-grows {S} z (assigns e w) = grows-self S z
+gives-grows z (makes a b f room adds) = new-grows z adds
+
 -- ---- kept positions
+
+record PositionsStay (c d : List ℤ) : Type 0 where
+  count : (s : Sort) → keptCount c s ≤ keptCount d s
+  places : (s : Sort) (i : ℕ) → i < keptCount c s → positionAt d s i ≡ positionAt c s i
 
 positions-self : (c : List ℤ) → PositionsStay c c
 positions-self c = record { count = λ s. omega arith; places = λ s i h. refl }
@@ -120,9 +116,13 @@ module _ (c : List ℤ) (s : Sort) (k : ℕ) (long : length c ≡ constraintsWor
       place t i h (yes e) = rw e (keep-old c s k i (rw e at h))
       place t i h (no n) = keep-position-other c s k t i n
 
-  keep-stays : PositionsStay c (keep c s k)
-  unfolding keep
-  keep-stays = cases (isKept c s k) (λ e. rw e (positions-self c)) (λ e. rw e with-stays)
+keeps-stay : {c d : List ℤ} {s : Sort} {k : ℕ} → length c ≡ constraintsWords → Keeps c s k d → PositionsStay c d
+keeps-stay {c} long (again e) = positions-self c
+keeps-stay {c} {s = s} {k = k} long (added e l) = with-stays c s k long
+
+keeps-long : {c d : List ℤ} {s : Sort} {k : ℕ} → Keeps c s k d → length d ≡ length c
+keeps-long (again e) = refl
+keeps-long {c} {s = s} {k = k} (added e l) = keep-length c s k
 
 -- ---- statements
 
@@ -133,7 +133,7 @@ record Step (S Z : State) : Type 0 where
   long : length (Z .kept) ≡ constraintsWords
 
 step-stays : {S Z : State} → Step S Z → Stays S Z
-step-stays a = record { records = a .cells .stay; positions = a .kept }
+step-stays a = let r = a .cells .stay in record { records = r .count; fields = r .fields; labels = r .labels; kept = a .kept .count; places = a .kept .places }
 
 step-trans : {S Y Z : State} → Step S Y → Step Y Z → Step S Z
 step-trans a b = record { cells = grows-trans (a .cells) (b .cells); kept = positions-trans (a .kept) (b .kept); long = b .long }
@@ -141,46 +141,39 @@ step-trans a b = record { cells = grows-trans (a .cells) (b .cells); kept = posi
 step-self : (S : State) → Sized (S .cells) → length (S .kept) ≡ constraintsWords → Step S S
 step-self S z long = record { cells = grows-self (S .cells) z; kept = positions-self (S .kept); long = long }
 
-module _ (program p : List ℤ) (S : State) (ws : List ℤ) (z : Sized (S .cells)) (long : length (S .kept) ≡ constraintsWords) where
-  step-of : (verb : Verb) (l : Left) → Steps program p S ws verb l → Step S (l .state)
-  step-of verb l s-skip = step-self S z long
-  step-of verb l (s-assign {Y = Y} {Z = Z} {rest = rest} v w phase s) =
-      let a = phase-grows program (S .kept) (S .cells) (S .cells) p _ _ _ z phase in
-      record { cells = grows-trans a (settles-grows program (S .kept) _ Y ws Z rest (a .sized) s); long = long; kept = positions-self (S .kept) }
-  step-of verb l (s-new {n = n} {Y = Y} {Z = Z} {fields = fs} {rest = rest} is x few f room phase s) =
-      let a = new-grows (S .cells) fs n z room few in
-      let b = phase-grows program (S .kept) (S .cells) _ p _ _ _ (a .sized) phase in
+module _ (program : List ℤ) (S : State) (ws : List ℤ) (z : Sized (S .cells)) (long : length (S .kept) ≡ constraintsWords) where
+  step-of : {p : List ℤ} {l : Left} → Steps program S ws p l → Step S (l .state)
+  step-of s-skip = step-self S z long
+  step-of (s-gives {Y = Y} {Z = Z} {rest = rest} g phase s) =
+      let a = gives-grows z g in
+      let b = phase-grows (a .sized) phase in
       record { cells = grows-trans a (grows-trans b (settles-grows program (S .kept) _ Y ws Z rest (b .sized) s)); long = long; kept = positions-self (S .kept) }
-  step-of verb l (s-once {Z = Z} {rest = rest} s) =
+  step-of (s-always {Z = Z} {rest = rest} s k) =
+      record { cells = settles-grows program (S .kept) _ (S .cells) ws Z rest z s; long = keeps-long k ∙ long; kept = keeps-stay long k }
+  step-of (s-once {Z = Z} {rest = rest} s) =
       record { cells = settles-grows program (S .kept) _ (S .cells) ws Z rest z s; long = long; kept = positions-self (S .kept) }
-  step-of verb l (s-always s k) = rw (← keeps-is k) (record { cells = step-of once _ s .cells; long = kept-length (S .kept) _ _ ∙ long; kept = keep-stays (S .kept) _ _ long })
-  step-of verb l (s-once-identity a b c d e) = step-self S z long
-  step-of verb l (s-always-identity s k) = rw (← keeps-is k) (record { cells = grows-self (S .cells) z; long = kept-length (S .kept) _ _ ∙ long; kept = keep-stays (S .kept) _ _ long })
+  step-of (s-always-identity a k) = record { cells = grows-self (S .cells) z; long = keeps-long k ∙ long; kept = keeps-stay long k }
+  step-of (s-once-identity a) = step-self S z long
 
 pub steps-stay : StepsStay
-steps-stay program p S ws verb l z long s = step-stays (step-of program p S ws z long verb l s)
+steps-stay program p S ws l z long s = step-stays (step-of program S ws z long s)
 
 -- ---- chains and runs
 
 chain : (program ws : List ℤ) (S Z : State) (us : List ℤ) (n : ℕ) → Sized (S .cells) → length (S .kept) ≡ constraintsWords → Reached program ws S Z us n → Step S Z
 chain program ws S Z us n z long at-first = step-self S z long
-chain program ws S Z us n z long (after-one {Z = Y} {us = vs} {n = m} {l = l} k r s) =
+chain program ws S Z us n z long (after-one {Z = Y} {us = vs} {n = m} r here s) =
     let a = chain program ws S Y vs m z long r in
-    step-trans a (step-of program (drop k program) Y vs (a .cells .sized) (a .long) (verbOf (numberAt program k)) l s)
+    step-trans a (step-of program Y vs (a .cells .sized) (a .long) s)
 
-pub reached-stays : ReachedStays
-reached-stays program ws S Z us n z long r = step-stays (chain program ws S Z us n z long r)
+stays-self : (S : State) → Stays S S
+stays-self S = record { records = omega arith; fields = λ r h. refl; labels = λ r f h. refl; kept = λ s. omega arith; places = λ s i h. refl }
+
+passed-stays : (program ws : List ℤ) (budget : ℤ) (S : State) (e : Ended) → Passes program budget S → Answered program ws budget S e → Stays S (e .state)
+passed-stays program ws budget S e p a =
+    step-stays (chain program ws S _ _ _ (p .stands .fit .sized) (p .stands .long) (answers program ws budget S e a .reached))
 
 pub runs-stay : RunsStay
-runs-stay program ws budget S = go (way program ws budget S)
-  where
-    begun : starts program budget S ≡ got tt → Stays S (run program ws budget S .state)
-    begun e =
-        let y = sized-lengths (S .cells .environment) (S .cells .heap) (S .kept)
-        (and-left (sized (S .cells .environment) (S .cells .heap) (S .kept)) (budgetFits budget) (passed program budget S e .sizes)) in
-        reached-stays program ws S _ _ _ (record { environment = y .0; heap = y .1 .0 }) (y .1 .1) (answers program ws budget S .reached)
-
-    go : Way program ws budget S → Stays S (run program ws budget S .state)
-    go (at-start e x r) = rw r (record { records = records-self (S .cells); positions = positions-self (S .kept) })
-    go (to-end t x o r) = begun x
-    go (on-way n place t x o r) = begun x
+runs-stay program ws budget S e (unstarted u) = stays-self S
+runs-stay program ws budget S e (finished p r) = passed-stays program ws budget S _ p (finished p r)
+runs-stay program ws budget S e (stopped p r) = passed-stays program ws budget S _ p (stopped p r)

@@ -19,8 +19,8 @@ use Rattle.rules.specs.State.{Fault, Res, orRefuse, reads, slotAt, prese
 use Rattle.rules.specs.Paths.{aRecord, aField, follow, wayAt, valueAt}
 use Rattle.rules.specs.Evaluation.{Kind, kindOf, kindForm, kind}
 use Rattle.rules.specs.Identities.{tieAt, tiesOf, ties}
-use Rattle.rules.specs.Structure.{Same, Alike, nils, truths, ints, refs}
-use Rattle.rules.proofs.Structure.{AlikeSlot, absents, held, slots-alike, field-same}
+use Rattle.rules.specs.Structure.{Same}
+use Rattle.rules.proofs.Structure.{Alike, nils, truths, ints, refs, AlikeSlot, absents, held, alike-at, slots-alike, field-same}
 
 -- two answers of a path: alike values with the same part after them, or the same refusal
 pub data Both : Res (Value × List ℤ) → Res (Value × List ℤ) → Type 0 where
@@ -55,7 +55,7 @@ module _ (S Z : Cells) (s : Same S Z) where
   -- a cell holds alike values in both
   pub slot-same : (l : ℕ) → AlikeSlot (slotAt S l) (slotAt Z l)
   unfolding slotAt
-  slot-same l = slots-alike (cellAt S l) (cellAt Z l) (s .alike l)
+  slot-same l = slots-alike (cellAt S l) (cellAt Z l) (alike-at s l)
 
   follow-same : (n l : ℕ) (p : List ℤ) → follow S n l p ≡ follow Z n l p
   unfolding follow

@@ -14,11 +14,12 @@ use Rattle.tables.proofs.CellLaws.{put-sized}
 use Rattle.rules.specs.State.{refused}
 use Rattle.rules.specs.Identities.{isNode, ties, frozenBy, classOf, names, clashFree, putAll, identityPhase}
 use Rattle.rules.specs.Proposals.{Asked, settle}
-use Rattle.rules.specs.Structure.{Same, Alike}
-use Rattle.rules.proofs.Structure.{cells-alike, put-same}
+use Rattle.rules.specs.Structure.{Same}
+use Rattle.rules.proofs.Structure.{Alike, cells-alike, put-same}
 use Rattle.rules.proofs.SamePaths.{ties-same}
 use Rattle.rules.proofs.PutAllLaws.{put-all-sized}
-use Rattle.rules.proofs.EffectLaws.{settle-near, effect-same}
+use Rattle.rules.proofs.EffectLaws.{settles-near, effect-same}
+use Rattle.rules.proofs.ProposalLaws.{settle-iff}
 
 -- ---- the identity phase
 
@@ -65,5 +66,5 @@ pub record Settled (S Z : Cells) : Type 0 where
 -- an accepted proposal keeps the structure
 pub settle-same : (program kept : List ℤ) (asked : Asked) (word : List ℤ) (S : Cells) (ws : List ℤ) {x : Cells × List ℤ} → Sized S → settle program kept asked word S ws ≡ got x → Settled S (x .0)
 settle-same program kept asked word S ws {x} z e =
-    let n = settle-near program kept asked word S ws (x .0) (x .1) e z in
+    let n = settles-near z (settle-iff program kept asked word S ws (x .0) (x .1) .0 e) in
     record { same = effect-same (n .effect); sized = n .sized }

@@ -21,8 +21,8 @@ use Rattle.program.specs.Reading.{number}
 use Rattle.rules.specs.State.{reads}
 use Rattle.rules.specs.Evaluation.{evaluate}
 use Rattle.rules.specs.Statements.{fieldWords}
-use Rattle.rules.specs.Structure.{AlikeCell, Same}
-use Rattle.rules.proofs.Structure.{cells-alike}
+use Rattle.rules.specs.Structure.{Same}
+use Rattle.rules.proofs.Structure.{AlikeCell, alike-at, cells-alike}
 use Rattle.rules.proofs.SameValues.{Near, evaluate-near}
 
 -- the words of n fields: the same labels, and alike cells
@@ -80,7 +80,7 @@ module _ (S Z : Cells) (s : Same S Z) (i : Sized S) (j : Sized Z) (fs gs : List 
     where
       go : Among (recordCount (S .heap)) n l → AlikeCell (cellAt X l) (cellAt Y l)
       go (no-place d) =
-          rw (add-cell-other (S .heap) fs n (i .heap) room few (S .environment) l d, add-cell-other (Z .heap) gs n (j .heap) room' few (Z .environment) l (rw (s .records) at d)) (s .alike l)
+          rw (add-cell-other (S .heap) fs n (i .heap) room few (S .environment) l d, add-cell-other (Z .heap) gs n (j .heap) room' few (Z .environment) l (rw (s .records) at d)) (alike-at s l)
       go (the-place f b e) =
           let e' : l ≡ fieldLocation (recordCount (Z .heap)) f = rw (s .records) at e in
           let p : cellAt X l ≡ newCell fs f = ap (λ k. cellAt X k) e ∙ add-cell (S .heap) fs n (i .heap) room few (S .environment) f b in
@@ -103,7 +103,8 @@ module _ (S Z : Cells) (s : Same S Z) (i : Sized S) (j : Sized Z) (fs gs : List 
   -- a record more, with alike fields
   pub new-same : Same X Y
   new-same = record {
-    alike = new-cells;
+    kinds = λ l. new-cells l .kind;
+    payloads = λ l. new-cells l .payload;
     labels = λ r f y. new-labels r f (ℕ-discrete r (recordCount (S .heap))) (decLt f n) y;
     fields = λ r. new-fields r (ℕ-discrete r (recordCount (S .heap)));
     records = add-records (S .heap) fs n (i .heap) room few ∙ ap (λ k. k + 1) (s .records) ∙ sym (add-records (Z .heap) gs n (j .heap) room' few);

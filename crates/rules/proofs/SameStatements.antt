@@ -25,8 +25,8 @@ use Rattle.rules.specs.Evaluation.{evaluate}
 use Rattle.rules.specs.Identities.{sameNow, identityPhase}
 use Rattle.rules.specs.Proposals.{Asked, settle}
 use Rattle.rules.specs.Statements.{Left, positionOf, hasRoom, keep, valuePhase, doAssign, fieldWords, doNew, doConstraint, doIdentity, doSimple}
-use Rattle.rules.specs.Structure.{Same, SameState, Alike, refs}
-use Rattle.rules.proofs.Structure.{same-sym, same-trans}
+use Rattle.rules.specs.Structure.{Same, SameState}
+use Rattle.rules.proofs.Structure.{Alike, refs, same-sym, same-trans}
 use Rattle.rules.proofs.WordSteps.{reads-got}
 use Rattle.rules.proofs.SamePaths.{way-same}
 use Rattle.rules.proofs.SameValues.{Near, evaluate-near}

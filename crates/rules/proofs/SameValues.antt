@@ -18,7 +18,8 @@ use Rattle.program.specs.Reading.{number, anyWord}
 use Rattle.rules.specs.State.{Res, reads}
 use Rattle.rules.specs.Paths.{valueAt}
 use Rattle.rules.specs.Evaluation.{Op, add, sub, mul, lt, le, eq, ne, ge, gt, and, or, noOp, opOf, takes, kindOf, ranged, made, apply, at, evaluateForm, evaluate}
-use Rattle.rules.specs.Structure.{Same, Alike, nils, truths, ints}
+use Rattle.rules.specs.Structure.{Same}
+use Rattle.rules.proofs.Structure.{Alike, nils, truths, ints}
 use Rattle.rules.proofs.WordSteps.{at-got}
 use Rattle.rules.proofs.SamePaths.{Both, answers, refuses, value-both}
 

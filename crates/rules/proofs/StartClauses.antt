@@ -65,24 +65,3 @@ pub starts-is : (program : List ℤ) (budget : ℤ) (S : State)
     ≡ (early 1 (want 0 (sized (S .cells .environment) (S .cells .heap) (S .kept) && budgetFits budget)) >> (early 2 (readProgram program) >> (early 3 (want 0 (environmentFits (wordAt (S .cells .heap) 0) (S .cells .environment))) >> (early 3 (want 1 (heapFits (S .cells .heap))) >> (early 3 (want 2 (constraintsStand program (S .kept))) >> (early 4 (valuesHold program (S .cells) (positions (S .kept) Values)) >> early 4 (identitiesHold program (S .cells) (positions (S .kept) Identities))))))))
 unfolding starts
 starts-is program budget S = refl
-
-pub ended-on : (program : List ℤ) (t : Tally)
-    → ended program (on t) ≡ record { outcome = 0; place = length program; steps = t .steps; accepted = t .accepted; state = t .state; unread = t .unread; tests = t .tests }
-unfolding ended
-ended-on program t = refl
-
-pub ended-end : (program : List ℤ) (n place : ℕ) (t : Tally)
-    → ended program (end n place t) ≡ record { outcome = n; place = place; steps = t .steps; accepted = t .accepted; state = t .state; unread = t .unread; tests = t .tests }
-unfolding ended
-ended-end program n place t = refl
-
-module _ (program ws : List ℤ) (budget : ℤ) (S : State) where
-  pub run-begun : (u : Unit {0}) → starts program budget S ≡ got u
-      → run program ws budget S ≡ ended program (doBlock 8 program (numberOf budget) program (record { state = S; unread = ws; steps = 0; accepted = 0; tests = [] }))
-  unfolding run
-  run-begun u e = rw (e, run)
-
-  pub run-early : (e : Early) → starts program budget S ≡ stop e
-      → run program ws budget S ≡ record { outcome = e .number; place = e .place; steps = 0; accepted = 0; state = S; unread = ws; tests = [] }
-  unfolding run
-  run-early e h = rw (h, run)

@@ -1,12 +1,13 @@
 -- One structure: an equivalence; what cells hold, and which field has a label, depend on it only.
 -- Assumes nothing.
 use mathlib.Core.Path.{_≡_, refl, sym, _∙_}
+use mathlib.Core.Bool.{Bool}
 use Prim.Native.Nat.{ℕ, zero, suc, _+_, _<_}
 use native.Mathlib.Omega.{arith}
 use native.Mathlib.Decide.{decLt, ℕ-discrete}
 use borrow.Author.Tests.{eqb-true}
 use lib.Dec.{eqb}
-use lib.IntN.{pos}
+use lib.IntN.{ℤ, pos}
 use Rattle.words.specs.Words.{numberOf}
 use Rattle.tables.specs.declared.Cell.{Cell}
 use Rattle.tables.specs.declared.Value.{Value}
@@ -22,28 +23,24 @@ use Rattle.tables.proofs.WordLaws.{word-number}
 use Rattle.tables.proofs.ValueLaws.{slot-boolean, slot-integer, cell-truth, cell-integer}
 use Rattle.tables.proofs.CellLaws.{no-cell, read-same, read-other, put-records, put-fields, put-label}
 use Rattle.rules.specs.State.{State}
-use Rattle.rules.specs.Structure.{AlikeCell, Same, SameState, Alike, nils, truths, ints, refs}
+use Rattle.rules.specs.Structure.{Same, SameState}
+
+-- two values of one kind, and the same value unless they are booleans or integers
+pub data Alike : Value → Value → Type 0 where
+  nils : Alike Nil Nil
+  truths : {a b : Bool} → Alike (Truth a) (Truth b)
+  ints : {a b : ℤ} → Alike (Int a) (Int b)
+  refs : {r : ℕ} → Alike (Ref r) (Ref r)
 
 -- ---- one structure is an equivalence
 
-pub alike-refl : (c : Cell) → AlikeCell c c
-alike-refl c = record { kind = refl; payload = λ m n. refl }
-
-pub alike-sym : {a b : Cell} → AlikeCell a b → AlikeCell b a
-alike-sym s = record { kind = sym (s .kind); payload = λ m n. sym (s .payload (rw (s .kind) m) (rw (s .kind) n)) }
-
-pub alike-trans : {a b c : Cell} → AlikeCell a b → AlikeCell b c → AlikeCell a c
-alike-trans s t = record {
-  kind = s .kind ∙ t .kind;
-  payload = λ m n. s .payload m n ∙ t .payload (rw (s .kind) at m) (rw (s .kind) at n);
-}
-
 pub same-refl : (S : Cells) → Same S S
-same-refl S = record { alike = λ l. alike-refl (cellAt S l); labels = λ r f b. refl; fields = λ r. refl; records = refl }
+same-refl S = record { kinds = λ l. refl; payloads = λ l m n. refl; labels = λ r f b. refl; fields = λ r. refl; records = refl }
 
 pub same-sym : {S Z : Cells} → Same S Z → Same Z S
 same-sym s = record {
-  alike = λ l. alike-sym (s .alike l);
+  kinds = λ l. sym (s .kinds l);
+  payloads = λ l m n. sym (s .payloads l (rw (s .kinds l) m) (rw (s .kinds l) n));
   labels = λ r f b. sym (s .labels r f b);
   fields = λ r. sym (s .fields r);
   records = sym (s .records);
@@ -51,7 +48,8 @@ same-sym s = record {
 
 pub same-trans : {S Z W : Cells} → Same S Z → Same Z W → Same S W
 same-trans s t = record {
-  alike = λ l. alike-trans (s .alike l) (t .alike l);
+  kinds = λ l. s .kinds l ∙ t .kinds l;
+  payloads = λ l m n. s .payloads l m n ∙ t .payloads l (rw (s .kinds l) at m) (rw (s .kinds l) at n);
   labels = λ r f b. s .labels r f b ∙ t .labels r f b;
   fields = λ r. s .fields r ∙ t .fields r;
   records = s .records ∙ t .records;
@@ -67,6 +65,17 @@ pub state-trans : {S Z W : State} → SameState S Z → SameState Z W → SameSt
 state-trans s t = record { cells = same-trans (s .cells) (t .cells); kept = s .kept ∙ t .kept }
 
 -- ---- values in alike cells
+
+-- two cells of one kind, and of one payload unless they are booleans or integers
+pub record AlikeCell (a b : Cell) : Type 0 where
+  pub kind : a .kind ≡ b .kind
+  pub payload : (numberOf (a .kind) ≡ 2 → ⊥) → (numberOf (a .kind) ≡ 3 → ⊥) → a .payload ≡ b .payload
+
+pub alike-at : {S Z : Cells} → Same S Z → (l : ℕ) → AlikeCell (cellAt S l) (cellAt Z l)
+alike-at s l = record { kind = s .kinds l; payload = s .payloads l }
+
+pub alike-refl : (c : Cell) → AlikeCell c c
+alike-refl c = record { kind = refl; payload = λ m n. refl }
 
 pub value-refl : (v : Value) → Alike v v
 value-refl Nil = nils
@@ -133,7 +142,8 @@ module _ (S Z : Cells) (s : Same S Z) where
 
 pub put-same : (S Z : Cells) → Same S Z → Sized S → Sized Z → (l : ℕ) (c d : Cell) → AlikeCell c d → Same (putCell S l c) (putCell Z l d)
 put-same S Z s i j l c d a = record {
-  alike = λ k. at k (ℕ-discrete k l) (decLt k 576);
+  kinds = λ k. at k (ℕ-discrete k l) (decLt k 576) .kind;
+  payloads = λ k. at k (ℕ-discrete k l) (decLt k 576) .payload;
   labels = λ r f x. put-label S l c r f ∙ s .labels r f x ∙ sym (put-label Z l d r f);
   fields = λ r. put-fields S l c r ∙ s .fields r ∙ sym (put-fields Z l d r);
   records = put-records S l c ∙ s .records ∙ sym (put-records Z l d);
@@ -142,4 +152,4 @@ put-same S Z s i j l c d a = record {
     at : (k : ℕ) → Dec (k ≡ l) → Dec (k < 576) → AlikeCell (cellAt (putCell S l c) k) (cellAt (putCell Z l d) k)
     at k (yes e) (yes h) = rw (e, read-same S l c i (omega arith), read-same Z l d j (omega arith)) a
     at k (yes e) (no h) = rw (no-cell (putCell S l c) k (omega arith), no-cell (putCell Z l d) k (omega arith)) (alike-refl _)
-    at k (no n) h = rw (read-other S l k c n, read-other Z l k d n) (s .alike k)
+    at k (no n) h = rw (read-other S l k c n, read-other Z l k d n) (alike-at s k)

@@ -3,7 +3,7 @@ use mathlib.Core.Path.{_≡_, refl, _∙_}
 use mathlib.Core.Logic.{_↔_}
 use mathlib.Core.Bool.{Bool, true, false}
 use mathlib.Core.List.{List, _∷_}
-use Prim.Native.Nat.{ℕ, zero, suc, _<_, _≤_}
+use Prim.Native.Nat.{ℕ, zero, suc}
 use native.Mathlib.Omega.{arith}
 use lib.IntN.{ℤ, pos}
 use lib.ListN.{drop}
@@ -20,8 +20,8 @@ use Rattle.program.proofs.FormLaws.{numberOfForm}
 use Rattle.rules.specs.State.{Res, reads}
 use Rattle.rules.specs.Paths.{valueAt}
 use Rattle.rules.specs.Evaluation.{Kind, opOf, takes, gives, at, kindForm, kind}
-use Rattle.rules.specs.OperatorRules.{Gives}
-use Rattle.rules.specs.EvaluationRules.{HasKind, t-nil, t-false, t-true, t-integer, t-path, t-operation, kindDepth, KindWithin}
+use Rattle.rules.specs.Rules.Operators.{Gives}
+use Rattle.rules.specs.Rules.Expressions.{t-nil, t-false, t-true, t-integer, t-path, t-operation, KindWithin}
 use Rattle.rules.proofs.WordSteps.{at-got, by-number, by-word, form-words, form-is, apart}
 use Rattle.rules.proofs.NameLaws.{holds-sound, holds-complete}
 use Rattle.rules.proofs.OperatorLaws.{gives-sound, gives-operator, gives-complete}
@@ -36,16 +36,16 @@ module _ (S : Cells) (d : ℕ) (go : List ℤ → Res (Kind × List ℤ)) (ih : 
   form-sound : (f : Form) (p : List ℤ) (x : Kind × List ℤ) → kindForm go S (pos (numberOfForm f) ∷ p) f ≡ got x
       → KindWithin S (suc d) (pos (numberOfForm f) ∷ p) (x .0) (x .1)
   unfolding kindForm
-  form-sound aNil p x e = rw (← got-inj e) (record { rule = t-nil; deep = omega arith })
-  form-sound aFalse p x e = rw (← got-inj e) (record { rule = t-false; deep = omega arith })
-  form-sound aTrue p x e = rw (← got-inj e) (record { rule = t-true; deep = omega arith })
+  form-sound aNil p x e = rw (← got-inj e) t-nil
+  form-sound aFalse p x e = rw (← got-inj e) t-false
+  form-sound aTrue p x e = rw (← got-inj e) t-true
   form-sound anInteger p x e =
       step (reads (anyWord p)) _ e λ q e1 k1.
       by-word p q e1 λ w s.
-      rw (← got-inj k1, s) (record { rule = t-integer; deep = omega arith })
+      rw (← got-inj k1, s) t-integer
   form-sound aPath p x e =
       step (valueAt S p) _ e λ y e1 k1.
-      rw (← got-inj k1) (record { rule = t-path (holds-sound S p y e1); deep = omega arith })
+      rw (← got-inj k1) (t-path (holds-sound S p y e1))
   form-sound anOperation p x e =
       by-number 1 operators p _ (omega arith) e λ o q a b s k.
       step (go q) _ k λ y e2 k2.
@@ -57,7 +57,7 @@ module _ (S : Cells) (d : ℕ) (go : List ℤ → Res (Kind × List ℤ)) (ih : 
       operation : (o : ℕ) (q : List ℤ) → p ≡ pos o ∷ q → (y z : Kind × List ℤ)
           → KindWithin S d q (y .0) (y .1) → KindWithin S d (y .1) (z .0) (z .1) → Gives o (y .0) (z .0) (gives (opOf o)) → (gives (opOf o), z .1) ≡ x
           → KindWithin S (suc d) (pos 25 ∷ p) (x .0) (x .1)
-      operation o q s y z l r g i = rw (s, ← i) (record { rule = t-operation (l .rule) (r .rule) g; deep = omega (arith, l .deep, r .deep) })
+      operation o q s y z l r g i = rw (s, ← i) (t-operation l r g)
   form-sound anIdentity p x e = stop≢got e
   form-sound noForm p x e = stop≢got e
 
@@ -73,32 +73,23 @@ kind-sound S (suc d) p x e =
 
 -- ---- what the rules derive, the definition answers
 
-pub kind-deep-pos : {S : Cells} {p : List ℤ} {k : Kind} {q : List ℤ} (e : HasKind S p k q) → 0 < kindDepth e
-kind-deep-pos t-nil = omega arith
-kind-deep-pos t-false = omega arith
-kind-deep-pos t-true = omega arith
-kind-deep-pos t-integer = omega arith
-kind-deep-pos (t-path h) = omega arith
-kind-deep-pos (t-operation l r g) = omega arith
-
 -- an expression that begins with the word of a form has its kind by that form
 pub kind-opens : (S : Cells) (d : ℕ) (f : Form) (p : List ℤ) → (f ≡ noForm → ⊥)
     → kind (suc d) S (pos (numberOfForm f) ∷ p) ≡ kindForm (λ q. kind d S q) S (pos (numberOfForm f) ∷ p) f
 unfolding kind
 kind-opens S d f p h = rw (number-first (pos (numberOfForm f)) p, form-is f h)
 
-pub kind-complete : {S : Cells} (d : ℕ) {p : List ℤ} {k : Kind} {q : List ℤ} (e : HasKind S p k q) → kindDepth e ≤ d → kind d S p ≡ got (k, q)
+pub kind-complete : {S : Cells} {d : ℕ} {p : List ℤ} {k : Kind} {q : List ℤ} → KindWithin S d p k q → kind d S p ≡ got (k, q)
 unfolding kindForm
-kind-complete zero e h = absurd (omega (arith, kind-deep-pos e))
-kind-complete {S} (suc d) (t-nil {p = p}) h = kind-opens S d aNil p (apart λ z. omega arith)
-kind-complete {S} (suc d) (t-false {p = p}) h = kind-opens S d aFalse p (apart λ z. omega arith)
-kind-complete {S} (suc d) (t-true {p = p}) h = kind-opens S d aTrue p (apart λ z. omega arith)
-kind-complete {S} (suc d) (t-integer {w = w} {p = p}) h = kind-opens S d anInteger (w ∷ p) (apart λ z. omega arith) ∙ rw (any-fits (w ∷ p) (omega arith))
-kind-complete {S} (suc d) (t-path {p = p} k) h = kind-opens S d aPath p (apart λ z. omega arith) ∙ rw (holds-complete S k)
-kind-complete {S} (suc d) (t-operation {o = o} {p = p} l r g) h =
+kind-complete {S} (t-nil {d = d} {p = p}) = kind-opens S d aNil p (apart λ z. omega arith)
+kind-complete {S} (t-false {d = d} {p = p}) = kind-opens S d aFalse p (apart λ z. omega arith)
+kind-complete {S} (t-true {d = d} {p = p}) = kind-opens S d aTrue p (apart λ z. omega arith)
+kind-complete {S} (t-integer {d = d} {w = w} {p = p}) = kind-opens S d anInteger (w ∷ p) (apart λ z. omega arith) ∙ rw (any-fits (w ∷ p) (omega arith))
+kind-complete {S} (t-path {d = d} {p = p} k) = kind-opens S d aPath p (apart λ z. omega arith) ∙ rw (holds-complete S k)
+kind-complete {S} (t-operation {d = d} {o = o} {p = p} l r g) =
     kind-opens S d anOperation (pos o ∷ p) (apart λ z. omega arith)
-    ∙ rw (number-of 1 operators o p (gives-operator g .0) (gives-operator g .1), kind-complete d l (omega arith), kind-complete d r (omega arith), gives-complete g .0, gives-complete g .1)
+    ∙ rw (number-of 1 operators o p (gives-operator g .0) (gives-operator g .1), kind-complete l, kind-complete r, gives-complete g .0, gives-complete g .1)
 
 -- an expression has the kind k, with q after it, exactly where the rules derive it within the nesting
 pub kind-iff : (d : ℕ) (S : Cells) (p : List ℤ) (k : Kind) (q : List ℤ) → (kind d S p ≡ got (k, q)) ↔ KindWithin S d p k q
-kind-iff d S p k q = (kind-sound S d p (k, q), λ w. kind-complete d (w .rule) (w .deep))
+kind-iff d S p k q = (kind-sound S d p (k, q), λ w. kind-complete w)

@@ -1,7 +1,7 @@
 -- Laws of paths: what an L goes through, and that it leads to the same cell where its prefix cells are the same. Assumes nothing.
 use mathlib.Core.Path.{_≡_, refl, sym, ap, _∙_}
 use mathlib.Core.Bool.{Bool}
-use mathlib.Core.List.{List, [], _∷_, List·Memᴰ·head, List·Memᴰ·tail, List·Memᴰ·not-nil, List·Memᴰ·cases-cons}
+use mathlib.Core.List.{List, [], _∷_, List·Memᴰ·head, List·Memᴰ·tail, List·Memᴰ·cases-cons, List·Memᴰ as OneOf}
 use mathlib.Core.Logic.{inl, inr}
 use Prim.Native.Nat.{ℕ, zero, suc, _-_, _≤_, _<_}
 use native.Mathlib.Omega.{arith}
@@ -29,7 +29,6 @@ use Rattle.program.specs.Reading.{Reading, number}
 use Rattle.program.proofs.NumberLaws.{number-read}
 use Rattle.rules.specs.State.{orRefuse, reads, slotAt}
 use Rattle.rules.specs.Paths.{aRecord, aField, follow, Way, wayAt}
-use Rattle.rules.specs.IdentityRules.{OneOf}
 
 pub one-of-cons {ℓ} : {A : Type 0} {X : Type ℓ} (x y : A) (ys : List A) → OneOf x (y ∷ ys) → (x ≡ y → X) → (OneOf x ys → X) → X
 one-of-cons x y ys m f g = elim (List·Memᴰ·cases-cons m) [ inl e ↦ f e | inr n ↦ g n ]
@@ -122,12 +121,6 @@ module _ (S : Cells) where
   follow-below (suc n) l p x h e = follow-step n l p x e λ r next y e1 e2 e3 q.
       rw q (follow-below n next (drop 1 p) y (find-below (S .heap) r (numberAt p 0) next e2) e3)
 
-  -- each of its prefix cells holds a reference
-  pub follow-held : (n l : ℕ) (p : List ℤ) (x : ℕ × List ℕ) → follow S n l p ≡ got x → (k : ℕ) → OneOf k (x .1) → (r : ℕ) × (slotAt S k ≡ Has (Ref r))
-  follow-held zero l p x e k m = absurd (List·Memᴰ·not-nil (rw (follow-none l p x e) at m))
-  follow-held (suc n) l p x e k m = follow-step n l p x e λ r next y e1 e2 e3 q.
-      one-of-cons k l (y .1) (rw q at m) (λ a. (r, rw a e1)) (λ b. follow-held n next (drop 1 p) y e3 k b)
-
 -- where the prefix cells hold the same and records met have the same fields, labels lead to the same cell through the same cells
 pub follow-same : (S Z : Cells) (n l : ℕ) (p : List ℤ) (x : ℕ × List ℕ) → ((k r label : ℕ) → slotAt S k ≡ Has (Ref r) → fieldWith (Z .heap) r label ≡ fieldWith (S .heap) r label) → follow S n l p ≡ got x → ((k : ℕ) → OneOf k (x .1) → slotAt Z k ≡ slotAt S k) → follow Z n l p ≡ got x
 unfolding follow
@@ -186,10 +179,6 @@ module _ (S : Cells) (p : List ℤ) (w : Way) (e : wayAt S p ≡ got w) where
       let o = way-of S p w e in
       let b = number-read 0 63 p (o .first-word) .most in
       follow-below S (o .steps) (o .variable) (o .labels) (w .cell, w .prefix) (omega arith) (o .leads)
-
-  -- its prefix cells hold references
-  pub way-held : (k : ℕ) → OneOf k (w .prefix) → (r : ℕ) × (slotAt S k ≡ Has (Ref r))
-  way-held = let o = way-of S p w e in follow-held S (o .steps) (o .variable) (o .labels) (w .cell, w .prefix) (o .leads)
 
   -- it names the same cell in another table where its prefix cells hold the same, and the records have the same fields
   pub way-same : (Z : Cells) → ((k r label : ℕ) → slotAt S k ≡ Has (Ref r) → fieldWith (Z .heap) r label ≡ fieldWith (S .heap) r label) → ((k : ℕ) → OneOf k (w .prefix) → slotAt Z k ≡ slotAt S k) → wayAt Z p ≡ got w

@@ -1,8 +1,8 @@
 -- What a proposal may do to the tables (01, "Proposal"). Assumes nothing: these are definitions.
 use Prim.Native.Nat.{ℕ}
 use mathlib.Core.Path.{_≡_}
+use mathlib.Core.Logic.{_⊎_}
 use mathlib.Core.Bool.{Bool, cond}
-use mathlib.Core.List.{List}
 use mathlib.Core.Option.{some}
 use lib.IntN.{ℤ, pos}
 use lib.ListN.{length}
@@ -18,15 +18,10 @@ pub data OfKind : Cell → ℤ → Type 0 where
   a-boolean : {p : ℤ} (b : Bool) → OfKind (cell (pos 2) p) (cond b (pos 1) (pos 0))
   an-integer : {p n : ℤ} → OfKind (cell (pos 3) p) n
 
--- what becomes of a cell: it stays, or it keeps its kind and takes another payload of that kind
-pub data Moved (before : Cell) : Cell → Type 0 where
-  unmoved : Moved before before
-  another : {n : ℤ} → OfKind before n → Moved before (cell (before .kind) n)
-
 -- the state Z after a proposal, and S before it: "Each names an integer or boolean cell and gives a different payload of the same kind";
 -- "the target cell itself may not be changed by it"
 pub record Effect (asked : Asked) (S Z : Cells) : Type 0 where
-  pub cells : (l : ℕ) → Moved (cellAt S l) (cellAt Z l)
+  pub cells : (l : ℕ) → (cellAt Z l ≡ cellAt S l) ⊎ ((n : ℤ) × (OfKind (cellAt S l) n × (cellAt Z l ≡ cell (cellAt S l .kind) n)))
   pub target : (l : ℕ) → asked .target ≡ some l → cellAt Z l ≡ cellAt S l
   pub records : recordCount (Z .heap) ≡ recordCount (S .heap)
   pub fields : (r : ℕ) → fieldCount (Z .heap) r ≡ fieldCount (S .heap) r

@@ -8,16 +8,8 @@ pub mod Statements
 pub mod Running
 pub mod Start
 pub mod Sheets
-pub mod OperatorRules
-pub mod EvaluationRules
-pub mod ConstraintRules
-pub mod IdentityRules
+pub mod Rules
 pub mod Effects
-pub mod Conditions
-pub mod StatementRules
-pub mod Derivations
-pub mod Reaching
-pub mod Holds
 pub mod Structure
 pub mod Claims
 pub mod Steps

@@ -12,8 +12,8 @@ use Rattle.rules.specs.State.{State}
 use Rattle.rules.specs.Running.{Out, on, end}
 use Rattle.rules.specs.Running.{Tally as Carries}
 use Rattle.rules.specs.Start.{Ended, starts, run}
-use Rattle.rules.specs.Derivations.{firstTally, finished}
-use Rattle.rules.proofs.RunLaws.{refusedWith, whole, run-early, run-on, run-end}
+use Rattle.rules.specs.Rules.Answers.{firstTally, given as gives}
+use Rattle.rules.proofs.RunLaws.{whole, run-early, run-on, run-end}
 use Rattle.proposals.proofs.FormLaws.{unlike}
 use Rattle.lent.specs.declared.Tally.{Tally}
 use Rattle.lent.specs.Tallied.{carries, untold, untoldOut, Runs}
@@ -44,7 +44,7 @@ module _ (program ws : List ℤ) (budget : ℤ) (S : State) where
       let y = sym (rw x at e) ∙ h in
       let y1 : f .number ≡ n = cc in
       let y2 : f .place ≡ k = cc in
-      meets (refusedWith (f .number) (f .place) (firstTally S ws)) (run-early program ws budget S x) (rw (y1, y2) a) refl refl)
+      meets (gives (f .number) (f .place) (firstTally S ws)) (run-early program ws budget S x) (rw (y1, y2) a) refl refl)
 
   pub begins : {h : Started} → h ≡ startedOf (starts program budget S) → h ≡ Begins → starts program budget S ≡ got tt
   begins e h = either {X = starts program budget S ≡ got tt} (starts program budget S) (λ u x. x) (λ f x. unlike (let y = sym (rw x at e) ∙ h in cc))
@@ -62,7 +62,7 @@ module _ (program ws : List ℤ) (budget : ℤ) (S : State) where
             let y2 : t .steps ≡ u .steps = ap (λ (c : Carries). c .steps) k in
             let y3 : t .accepted ≡ u .accepted = ap (λ (c : Carries). c .accepted) k in
             let y4 : lastOf (t .unread) ws ≡ u .unread = ap (λ (c : Carries). c .unread) k in
-            meets (finished program u) (run-on program ws budget S x w) (rw (← y2, ← y3) a) y1 y4
+            meets (gives 0 (length program) u) (run-on program ws budget S x w) (rw (← y2, ← y3) a) y1 y4
         by (end n place u) w e = unlike (cc)
 
     pub meets-end : {answer : List ℤ} → (t .outcome ≡ 0 → ⊥) → answer ≡ wordOf (t .outcome) ∷ wordOf (t .place) ∷ wordOf (t .steps) ∷ wordOf (t .accepted) ∷ []
@@ -79,4 +79,4 @@ module _ (program ws : List ℤ) (budget : ℤ) (S : State) where
             let y4 : lastOf (t .unread) ws ≡ u .unread = ap (λ (c : Carries). c .unread) w6 in
             let y5 : t .outcome ≡ m = cc in
             let y6 : t .place ≡ place = cc in
-            meets (refusedWith m place u) (run-end program ws budget S x w) (rw (← y2, ← y3, ← y5, ← y6) a) y1 y4
+            meets (gives m place u) (run-end program ws budget S x w) (rw (← y2, ← y3, ← y5, ← y6) a) y1 y4

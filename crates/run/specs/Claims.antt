@@ -1,21 +1,18 @@
 -- What a host may rely on: the claims of the rules, said of what run leaves and hands back. Assumes nothing: these are statements.
 use mathlib.Core.Path.{_≡_}
-use mathlib.Core.Logic.{_↔_}
 use mathlib.Core.List.{List}
-use Prim.Native.Nat.{ℕ, _≤_, _<_}
+use Prim.Native.Nat.{ℕ, _≤_}
 use lib.IntN.{ℤ}
 use lib.ListN.{length}
 use Rattle.words.specs.Words.{numberOf, numberAt, lastOf}
 use Rattle.program.specs.declared.Spot.the-variants.{Nowhere}
 use Rattle.program.specs.Where.{statementAt}
 use Rattle.rules.specs.State.{State}
-use Rattle.rules.specs.Running.{Tally}
 use Rattle.rules.specs.Start.{Ended, run}
-use Rattle.rules.specs.Holds.{Holds}
-use Rattle.rules.specs.Reaching.{Reached}
+use Rattle.rules.specs.Claims.Answers.{Reached}
 use Rattle.rules.specs.Structure.{SameState}
-use Rattle.rules.specs.Derivations.{Derived}
-use Rattle.rules.specs.Claims.Holding.{Started}
+use Rattle.rules.specs.Rules.Kept.{Stands}
+use Rattle.rules.specs.Rules.Answers.{Answered}
 use Rattle.run.specs.Told.{Meets}
 
 -- any two answers that the promise of run allows are equal: the tables, the four words, and the unread words
@@ -37,23 +34,14 @@ pub record Keeps (program ws : List ℤ) (budget : ℤ) (S Z : State) (answer un
 abbrev pub EveryAnswer : Type 0
 EveryAnswer = (program ws : List ℤ) (budget : ℤ) (S Z : State) (a u : List ℤ) → Meets Z a u (run program ws budget S) → Keeps program ws budget S Z a u
 
--- the four words, the tables and the unread words are those of a derivation that ends with the tally t
-pub record Finishes (program : List ℤ) (Z : State) (answer unread : List ℤ) (t : Tally) : Type 0 where
-  pub outcome : numberAt answer 0 ≡ 0
-  pub place : numberAt answer 1 ≡ length program
-  pub steps : numberAt answer 2 ≡ t .steps
-  pub accepted : numberAt answer 3 ≡ t .accepted
-  pub tables : Z ≡ t .state
-  pub rest : unread ≡ t .unread
+-- demand 2: the rules derive an answer, and the four words, the tables and the unread words are those of every answer that they derive, whatever its outcome
+abbrev pub AnswersExactly : Type 0
+AnswersExactly = (program ws : List ℤ) (budget : ℤ) (S Z : State) (a u : List ℤ) → Meets Z a u (run program ws budget S)
+    → ((e : Ended) × Answered program ws budget S e) × ((e : Ended) → Answered program ws budget S e → Meets Z a u e)
 
--- demand 2: it finishes exactly where the rules of statements have a derivation, and every derivation gives this answer
-abbrev pub FinishesExactly : Type 0
-FinishesExactly = (program ws : List ℤ) (budget : ℤ) (S Z : State) (a u : List ℤ) → Meets Z a u (run program ws budget S)
-    → ((numberAt a 0 ≡ 0) ↔ ((e : Ended) × Derived program ws budget S e)) × ((e : Ended) (d : Derived program ws budget S e) → Finishes program Z a u (d .last))
-
--- demand 3: wherever a run that started stops, the tables are fit and what is kept holds, whatever the proposals said
-abbrev pub HoldsAfter : Type 0
-HoldsAfter = (program ws : List ℤ) (budget : ℤ) (S Z : State) (a u : List ℤ) → Meets Z a u (run program ws budget S) → Started (numberAt a 0) → Holds program Z
+-- demand 3: wherever a run stops whose outcome is 0 or from 5 on, the tables are fit and what is kept holds, whatever the proposals said
+abbrev pub StandsAfter : Type 0
+StandsAfter = (program ws : List ℤ) (budget : ℤ) (S Z : State) (a u : List ℤ) → Meets Z a u (run program ws budget S) → (1 ≤ numberAt a 0 → 5 ≤ numberAt a 0) → Stands program Z
 
 -- two runs that finish, with tests that came out alike, leave one structure
 abbrev pub OneStructure : Type 0

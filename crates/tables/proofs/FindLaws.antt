@@ -26,6 +26,11 @@ pub fields-are : (h : List ℤ) (r : ℕ) → countAt h r ≤ 8 → fieldCount h
 unfolding fieldCount
 fields-are h r b = rw (le-leb (countAt h r) 8 b)
 
+-- the count as it is written decides
+pub fields-same : (h k : List ℤ) (r : ℕ) → countAt h r ≡ countAt k r → fieldCount h r ≡ fieldCount k r
+unfolding fieldCount
+fields-same h k r e = rw e
+
 pub no-fields : (h : List ℤ) (r : ℕ) → 64 ≤ r → fieldCount h r ≡ 0
 unfolding fieldCount countAt
 no-fields h r a = rw (le-ltb r 64 a)

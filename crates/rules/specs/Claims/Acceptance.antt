@@ -1,31 +1,23 @@
--- When a proposal is accepted, and which number refuses it. Assumes nothing: these are statements.
+-- Every proposal is accepted, or one number refuses it: a good one is not turned down. Assumes nothing: these are statements.
 use Prim.Native.Nat.{ℕ}
 use mathlib.Core.Path.{_≡_}
-use mathlib.Core.Logic.{_↔_}
+use mathlib.Core.Logic.{_⊎_}
 use mathlib.Core.Bool.{true}
 use mathlib.Core.List.{List}
 use lib.IntN.{ℤ}
-use Rattle.words.specs.Answer.{got, stop}
 use Rattle.tables.specs.Cells.{Cells, Sized}
-use Rattle.rules.specs.State.{refused}
-use Rattle.rules.specs.Constraints.{Part, counted}
-use Rattle.rules.specs.Proposals.{Asked, settle}
-use Rattle.rules.specs.Conditions.{Acceptable, Fails, Judged}
+use Rattle.rules.specs.Constraints.{Part}
+use Rattle.rules.specs.Proposals.{Asked}
+use Rattle.rules.specs.Rules.Constraints.{CountedAre}
+use Rattle.rules.specs.Rules.Proposals.{Settles, Unsettled}
 
--- In each, the parts that count read in S as `before`, and there is room for the position.
-
--- a proposal is accepted exactly when it is acceptable
-abbrev pub AcceptedExactly : Type 0
-AcceptedExactly = (program kept : List ℤ) (asked : Asked) (word : List ℤ) (S : Cells) (before : List Part) (proposals : List ℤ) (Z : Cells) (rest : List ℤ)
-    → counted program kept (asked .own) S ≡ got before → asked .room ≡ true
-    → (settle program kept asked word S proposals ≡ got (Z, rest)) ↔ Acceptable program kept asked S before proposals Z rest
-
--- it is refused with a number exactly when that number's condition is the first to fail
-abbrev pub RefusedExactly : Type 0
-RefusedExactly = (program kept : List ℤ) (asked : Asked) (word : List ℤ) (S : Cells) (before : List Part) (proposals : List ℤ) (n : ℕ)
-    → Sized S → counted program kept (asked .own) S ≡ got before → asked .room ≡ true
-    → (settle program kept asked word S proposals ≡ stop (refused n word)) ↔ Fails program kept asked S before proposals n
+-- where the parts that count read and there is room for the position: one or the other, never both, one number, and one state with its unread words
+pub record Judged (program kept : List ℤ) (asked : Asked) (S : Cells) (ws : List ℤ) : Type 0 where
+  pub some : ((Z : Cells) × ((rest : List ℤ) × Settles program kept asked S ws Z rest)) ⊎ ((n : ℕ) × Unsettled program kept asked S ws n)
+  pub never-both : {n : ℕ} {Z : Cells} {rest : List ℤ} → Settles program kept asked S ws Z rest → Unsettled program kept asked S ws n → ⊥
+  pub one-number : {m n : ℕ} → Unsettled program kept asked S ws m → Unsettled program kept asked S ws n → m ≡ n
+  pub one-state : {Z Y : Cells} {rest left : List ℤ} → Settles program kept asked S ws Z rest → Settles program kept asked S ws Y left → (Z ≡ Y) × (rest ≡ left)
 
 abbrev pub EveryJudged : Type 0
-EveryJudged = (program kept : List ℤ) (asked : Asked) (S : Cells) (before : List Part) (proposals : List ℤ)
-    → Sized S → counted program kept (asked .own) S ≡ got before → asked .room ≡ true → Judged program kept asked S before proposals
+EveryJudged = (program kept : List ℤ) (asked : Asked) (S : Cells) (before : List Part) (ws : List ℤ)
+    → Sized S → CountedAre program kept S (asked .own) before → asked .room ≡ true → Judged program kept asked S ws

@@ -1,44 +1,37 @@
--- What every answer of a run keeps to, whatever the program, the proposals, the budget and the tables are. Assumes nothing: this is a statement.
+-- What every answer that the rules derive keeps to, whatever the program, the proposals, the budget and the tables are. Assumes nothing: this is a statement.
 use mathlib.Core.Path.{_≡_}
-use Prim.Native.Nat.{ℕ, _≤_, _<_}
-use mathlib.Core.Bool.{true, _||_}
-use mathlib.Core.List.{List, _∷_}
+use Prim.Native.Nat.{ℕ, _+_, _≤_, _<_}
+use mathlib.Core.List.{List}
 use lib.IntN.{ℤ}
 use lib.ListN.{length}
-use Rattle.words.specs.Words.{numberOf, numberAt, lastOf}
-use Rattle.words.specs.Answer.{stop}
-use Rattle.tables.specs.declared.Sort.the-variants.{Values, Identities}
-use Rattle.tables.specs.Kept.{isKept}
-use Rattle.program.specs.Forms.{mostWords, verbOf}
-use Rattle.program.specs.Reading.{readProgram}
+use Rattle.words.specs.Words.{numberOf, lastOf}
+use Rattle.program.specs.Forms.{mostWords}
 use Rattle.program.specs.declared.Spot.the-variants.{Nowhere}
 use Rattle.program.specs.Where.{statementAt}
 use Rattle.rules.specs.State.{State}
-use Rattle.rules.specs.Identities.{member}
-use Rattle.rules.specs.Reaching.{refusals, Reached}
-use Rattle.rules.specs.Start.{Ended, run}
+use Rattle.rules.specs.Start.{Ended}
+use Rattle.rules.specs.Rules.Kept.{AtStatement}
+use Rattle.rules.specs.Statements.{Left}
+use Rattle.rules.specs.Rules.Statements.{Steps}
+use Rattle.rules.specs.Rules.Answers.{Unstarted, firstTally, given, Answered}
+
+-- tables, unread words and proposals accepted that a chain of accepted statements of the program leads to
+pub data Reached (program ws : List ℤ) (S : State) : State → List ℤ → ℕ → Type 0 where
+  at-first : Reached program ws S S ws 0
+  after-one : {Z : State} {us p : List ℤ} {n : ℕ} {l : Left}
+      → Reached program ws S Z us n → AtStatement program p → Steps program Z us p l → Reached program ws S (l .state) (l .unread) (n + l .accepted)
 
 pub record Answer (program ws : List ℤ) (budget : ℤ) (S : State) (e : Ended) : Type 0 where
   -- "No. 0 to 19"
   pub known : e .outcome ≤ 19
   -- "finished; place is the program's length"
   pub finished : e .outcome ≡ 0 → e .place ≡ length program
-  -- "a table's length or the budget is wrong; place 0"
-  pub wrong : e .outcome ≡ 1 → e .place ≡ 0
-  -- "program does not read": the place is the reader's, inside the program or its length; "over 4,096 words: always 4096"
-  pub unreadable : e .outcome ≡ 2 → readProgram program ≡ stop (e .place)
-  pub unread-place : e .outcome ≡ 2 → (e .place ≤ mostWords) × (e .place ≤ length program)
-  pub too-long : e .outcome ≡ 2 → mostWords < length program → e .place ≡ mostWords
-  -- "place the first of 0 environment, 1 heap, 2 constraints"
-  pub unfit : e .outcome ≡ 3 → e .place ≤ 2
-  -- "a kept constraint .. at the start; place is its position"
-  pub broken : e .outcome ≡ 4 → isKept (S .kept) Values (e .place) || isKept (S .kept) Identities (e .place) ≡ true
-  -- "Outcomes 1 to 4 .. cost no steps, accept no proposal and change no table"
-  pub untouched : 1 ≤ e .outcome → e .outcome ≤ 4 → (e .state ≡ S) × ((e .unread ≡ ws) × ((e .steps ≡ 0) × (e .accepted ≡ 0)))
+  -- 1 to 4: the number and the place are those of the first thing that is wrong; they "cost no steps, accept no proposal and change no table"
+  pub early : 1 ≤ e .outcome → e .outcome ≤ 4 → Unstarted program budget S (e .outcome) (e .place) × (e ≡ given (e .outcome) (e .place) (firstTally S ws))
+  -- 2: "place is the first unfit word, or the length if words run out; over 4,096 words: always 4096"
+  pub unread-place : e .outcome ≡ 2 → (e .place ≤ mostWords) × ((e .place ≤ length program) × (mostWords < length program → e .place ≡ mostWords))
   -- "From 5 on, place is the statement's word"
-  pub inside : 5 ≤ e .outcome → e .place < length program
   pub at-statement : 5 ≤ e .outcome → statementAt program (e .place) ≡ Nowhere → ⊥
-  pub by-verb : 5 ≤ e .outcome → member (e .outcome) (5 ∷ refusals (verbOf (numberAt program (e .place)))) ≡ true
   -- the counts, and the unread words "as a part of that slice"
   pub steps : e .steps ≤ numberOf budget
   pub accepted : e .accepted ≤ e .steps
@@ -47,4 +40,4 @@ pub record Answer (program ws : List ℤ) (budget : ℤ) (S : State) (e : Ended)
   pub reached : Reached program ws S (e .state) (e .unread) (e .accepted)
 
 abbrev pub Answers : Type 0
-Answers = (program ws : List ℤ) (budget : ℤ) (S : State) → Answer program ws budget S (run program ws budget S)
+Answers = (program ws : List ℤ) (budget : ℤ) (S : State) (e : Ended) → Answered program ws budget S e → Answer program ws budget S e

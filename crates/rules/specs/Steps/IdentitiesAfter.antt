@@ -11,7 +11,7 @@ use Rattle.tables.specs.Cells.{Cells}
 use Rattle.fit.specs.Fit.{Fit}
 use Rattle.rules.specs.State.{positions}
 use Rattle.rules.specs.Identities.{identityPhase}
-use Rattle.rules.specs.IdentityRules.{Target, Ready}
+use Rattle.rules.specs.Steps.Phases.{Target, Ready}
 use Rattle.rules.specs.Start.{identitiesHold}
 
 abbrev pub IdentitiesAfter : Type 0

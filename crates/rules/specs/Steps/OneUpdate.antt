@@ -6,11 +6,11 @@ use Rattle.tables.specs.declared.Value.{Value}
 use Rattle.tables.specs.Cells.{Cells}
 use Rattle.fit.specs.Fit.{Fit}
 use Rattle.rules.specs.Identities.{Tie}
-use Rattle.rules.specs.IdentityRules.{Update}
+use Rattle.rules.specs.Rules.Identities.{Update}
 
--- two fit tables in which the class took the value and nothing else moved are equal, word for word
+-- two tables in which the class took the value and nothing else of a fit table moved are equal, word for word
 abbrev pub OneUpdate : Type 0
 OneUpdate =
     (ts : List Tie) (target : ℕ) (v : Value) (now Y Z : Cells)
-    → Fit Y → Fit Z → Update ts target v now Y → Update ts target v now Z
+    → Fit now → Update ts target v now Y → Update ts target v now Z
     → Y ≡ Z

@@ -1,7 +1,7 @@
 -- After the identity phase the same L leads to the same cell, through the same prefix cells. Assumes nothing.
 use Prim.Native.Nat.{ℕ, _+_}
 use mathlib.Core.Path.{_≡_}
-use mathlib.Core.List.{List}
+use mathlib.Core.List.{List, List·Memᴰ as OneOf}
 use lib.IntN.{ℤ}
 use lib.ListN.{drop}
 use Rattle.words.specs.Answer.{got}
@@ -13,7 +13,8 @@ use Rattle.fit.specs.Fit.{Fit}
 use Rattle.rules.specs.State.{positions}
 use Rattle.rules.specs.Paths.{Way, wayAt}
 use Rattle.rules.specs.Identities.{Tie, ties, identityPhase}
-use Rattle.rules.specs.IdentityRules.{OneOf, Frozen, Target, Ready}
+use Rattle.rules.specs.Rules.Identities.{Frozen}
+use Rattle.rules.specs.Steps.Phases.{Target, Ready}
 
 pub record PathsAfter (program kept : List ℤ) (before : Cells) (prefix : List ℕ) (ts : List Tie) (Z : Cells) : Type 0 where
   -- every L whose prefix cells are frozen; so the target's

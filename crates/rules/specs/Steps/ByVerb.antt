@@ -1,13 +1,15 @@
--- Which refusals a statement may give, and what accepted statements lead to. Assumes nothing: these are definitions.
-use Prim.Native.Nat.{ℕ, _+_}
+-- Which refusals a statement may give, by its verb. Assumes nothing: these are statements.
+use Prim.Native.Nat.{ℕ, _≤_}
+use mathlib.Core.Path.{_≡_}
+use mathlib.Core.Bool.{true}
 use mathlib.Core.List.{List, [], _∷_}
 use lib.IntN.{ℤ}
-use lib.ListN.{drop}
 use Rattle.words.specs.Words.{numberAt}
 use Rattle.program.specs.Forms.{Verb, skip, assign, new, always, once, alwaysSame, onceSame, branch, loop, noVerb, verbOf}
 use Rattle.rules.specs.State.{State}
-use Rattle.rules.specs.Statements.{Left}
-use Rattle.rules.specs.StatementRules.{Steps}
+use Rattle.rules.specs.Identities.{member}
+use Rattle.rules.specs.Start.{Ended}
+use Rattle.rules.specs.Rules.Answers.{Answered}
 
 -- the outcomes with which a statement may be refused, besides 5, by its verb
 abbrev pub refusals : Verb → List ℕ
@@ -22,10 +24,7 @@ refusals branch = 7 ∷ 8 ∷ 9 ∷ []
 refusals loop = 7 ∷ 8 ∷ 9 ∷ []
 refusals noVerb = []
 
--- tables, unread words and proposals accepted that a chain of accepted statements of the program leads to; each is the statement at some word k
-pub data Reached (program ws : List ℤ) (S : State) : State → List ℤ → ℕ → Type 0 where
-  at-first : Reached program ws S S ws 0
-  after-one : {Z : State} {us : List ℤ} {n : ℕ} {l : Left} (k : ℕ)
-      → Reached program ws S Z us n
-      → Steps program (drop k program) Z us (verbOf (numberAt program k)) l
-      → Reached program ws S (l .state) (l .unread) (n + l .accepted)
+-- from 5 on, the outcome is one of those of the statement at the place
+abbrev pub ByVerb : Type 0
+ByVerb = (program ws : List ℤ) (budget : ℤ) (S : State) (e : Ended)
+    → Answered program ws budget S e → 5 ≤ e .outcome → member (e .outcome) (5 ∷ refusals (verbOf (numberAt program (e .place)))) ≡ true

@@ -1,8 +1,8 @@
--- The operators' table (01, "Operators: 1 +, 2 -, 3 ×, 4 <, 5 ≤, 6 =, 7 ≠, 8 ≥, 9 >, 10 and, 11 or"; 000, T-OP and E-OP), a line for each.
+-- The operators' table (01, "Operators: 1 +, 2 -, 3 ×, 4 <, 5 ≤, 6 =, 7 ≠, 8 ≥, 9 >, 10 and, 11 or"; 000, T-OP and E-OP).
 -- Assumes nothing: these are definitions.
 use mathlib.Core.Path.{_≡_}
 use mathlib.Core.Logic.{_≢_}
-use Prim.Native.Nat.{ℕ}
+use Prim.Native.Nat.{ℕ, _≤_}
 use mathlib.Core.Bool.{Bool, true, false, _&&_, _||_}
 use lib.IntN.{ℤ, _+ℤ_, _-ℤ_, _*ℤ_}
 use lib.Signed.{ltZ, leZ}
@@ -11,19 +11,14 @@ use Rattle.tables.specs.declared.Value.{Value}
 use Rattle.tables.specs.declared.Value.the-variants.{Bool as Truth, Int}
 use Rattle.rules.specs.Evaluation.{Kind, isBool, isInt, isRef, kindOf}
 
--- T-OP: the operator takes operands of the first two kinds, and gives the third
+-- T-OP: the operator takes operands of the first two kinds, and gives the third: "Operators 1 to 5, 8 and 9 want integers, 10 and 11 booleans,
+-- 6 and 7 any two values but references"
 pub data Gives : ℕ → Kind → Kind → Kind → Type 0 where
-  plus : Gives 1 isInt isInt isInt
-  minus : Gives 2 isInt isInt isInt
-  times : Gives 3 isInt isInt isInt
-  less : Gives 4 isInt isInt isBool
-  at-most : Gives 5 isInt isInt isBool
-  equal : {a b : Kind} → a ≢ isRef → b ≢ isRef → Gives 6 a b isBool
-  unequal : {a b : Kind} → a ≢ isRef → b ≢ isRef → Gives 7 a b isBool
-  at-least : Gives 8 isInt isInt isBool
-  more : Gives 9 isInt isInt isBool
-  both : Gives 10 isBool isBool isBool
-  either : Gives 11 isBool isBool isBool
+  number : {o : ℕ} → 1 ≤ o → o ≤ 3 → Gives o isInt isInt isInt
+  order : {o : ℕ} → 4 ≤ o → o ≤ 5 → Gives o isInt isInt isBool
+  equality : {o : ℕ} {a b : Kind} → 6 ≤ o → o ≤ 7 → a ≢ isRef → b ≢ isRef → Gives o a b isBool
+  reverse : {o : ℕ} → 8 ≤ o → o ≤ 9 → Gives o isInt isInt isBool
+  logic : {o : ℕ} → 10 ≤ o → o ≤ 11 → Gives o isBool isBool isBool
 
 -- E-OP: the operator makes the third value of the first two; "each result of 1 to 3 must fit 32 bits signed"
 pub data Makes : ℕ → Value → Value → Value → Type 0 where

@@ -12,7 +12,8 @@ use Rattle.tables.specs.Cells.{Cells}
 use Rattle.fit.specs.Fit.{Fit}
 use Rattle.rules.specs.State.{Res, refuse, slotAt}
 use Rattle.rules.specs.Identities.{Tie, ties, isNode, identityPhase}
-use Rattle.rules.specs.IdentityRules.{Relevant, Names, Satisfies, RelevantUpdate, Solves, Clash, Target, Ready}
+use Rattle.rules.specs.Rules.Identities.{IsNamed}
+use Rattle.rules.specs.Steps.Phases.{Relevant, RelevantUpdate, Clash, Satisfies, Solves, Target, Ready}
 
 -- `phase` is what the identity phase comes to, `ts` are the kept identities, followed in the state before the statement
 pub record LeastChange (phase : Res Cells) (before now : Cells) (word : List ℤ) (target : ℕ) (prefix : List ℕ) (v : Value) (ts : List Tie) : Type 0 where
@@ -22,7 +23,7 @@ pub record LeastChange (phase : Res Cells) (before now : Cells) (word : List ℤ
   pub impossible : Clash prefix ts target v before → (Y : Cells) → Solves prefix ts target v before Y → ⊥
   pub refused : phase ≡ refuse 12 word → (Y : Cells) → Solves prefix ts target v before Y → ⊥
   -- and where there is one, the phase answers, unless 13 refuses the value
-  pub answers : (Y : Cells) → Solves prefix ts target v before Y → (Names ts target → isNode v ≡ true) → (Z : Cells) × (phase ≡ got Z)
+  pub answers : (Y : Cells) → Solves prefix ts target v before Y → (IsNamed ts target → isNode v ≡ true) → (Z : Cells) × (phase ≡ got Z)
   -- its answer moves the class and nothing else
   pub updates : (Z : Cells) → phase ≡ got Z → RelevantUpdate prefix ts target v before now Z
   -- if the identities held before, they hold in it: it is such a table

@@ -1,4 +1,4 @@
--- What a run must never lose: fit tables, and every kept constraint and identity true. Assumes nothing: these are definitions.
+-- What a run must never lose, by the definitions. Assumes nothing: these are definitions.
 use Prim.Native.Nat.{ℕ, _+_, _≤_}
 use mathlib.Core.Path.{_≡_}
 use mathlib.Core.Bool.{true}
@@ -19,7 +19,7 @@ use Rattle.rules.specs.State.{State, positions}
 use Rattle.rules.specs.Constraints.{Part, keptAt}
 use Rattle.rules.specs.Identities.{sameNow}
 use Rattle.rules.specs.Statements.{positionOf}
-use Rattle.rules.specs.Conditions.{Each, Met}
+use Rattle.rules.specs.Rules.Proposals.{Each, Met}
 
 -- the value constraint at a position reads, and each of its required parts is true
 pub record ValueHolds (program : List ℤ) (S : Cells) (position : ℕ) : Type 0 where
@@ -40,7 +40,7 @@ pub record Holds (program : List ℤ) (S : State) : Type 0 where
   pub identities : Each (IdentityHolds program (S .cells)) (positions (S .kept) Identities)
 
 -- p is the part of the program that begins at a statement of it
-pub record AtStatement (program p : List ℤ) : Type 0 where
+pub record StatementThere (program p : List ℤ) : Type 0 where
   pub short : length program ≤ mostWords
   pub part : drop (positionOf program p) program ≡ p
   pub nest : ℕ
