@@ -2,6 +2,7 @@
 //!
 //! Program words become trees and tables become maps; the answers are the
 //! outcome, place, steps, proposals accepted, unread words and final tables.
+//! Texts in the papers' notation (document 02, W1) become program words.
 #![forbid(unsafe_code)]
 
 pub mod batch;
@@ -16,3 +17,4 @@ pub mod proposal;
 pub mod run;
 pub mod statements;
 pub mod tables;
+pub mod text;

@@ -10,6 +10,7 @@ pub mod numbers;
 mod search;
 mod solve;
 mod start;
+pub mod texts;
 mod wishes;
 
 use crate::batch::Sheet;

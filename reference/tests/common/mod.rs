@@ -1,6 +1,9 @@
 //! Builders of words and tables for the tests.
 #![allow(dead_code)]
 
+pub mod judge;
+pub mod texts;
+
 use reference::batch::{Finish, Sheet};
 use reference::tables::{CONSTRAINT_WORDS, ENVIRONMENT_WORDS, HEAP_WORDS};
 
