@@ -1,12 +1,12 @@
 #!/usr/bin/env python3
 """opened.py: a crate knows a lower crate by its promises and laws. Names each `unfolding` line that opens a definition of another
 crate, and each place above crates/tables that speaks of where a word stands in a table: an offset's name, or a numeral of the heap's
-layout. The sheets of crates/rules, crates/lister and crates/sheet, which compute through definitions, are the one exception. Exit status 1 where there is one."""
+layout. The sheets of crates/rules, crates/lister, crates/sheet and crates/text, which compute through definitions, are the one exception. Exit status 1 where there is one."""
 import pathlib
 import re
 import sys
 
-SHEETS = [pathlib.Path("crates", crate, folder, "Sheets.antt") for crate in ("rules", "lister", "sheet") for folder in ("specs", "proofs")]
+SHEETS = [pathlib.Path("crates", crate, folder, "Sheets.antt") for crate in ("rules", "lister", "sheet", "text") for folder in ("specs", "proofs")]
 # the crates that know where words stand; the offsets' names, the heap's length, and its 25 words to a record
 KNOWING = ("words", "tables")
 OFFSETS = re.compile(r"(?<![\w·-])(countWord|labelWord|fieldWord|locationWord|keptWord|firstKept|recordWords|1601|25 \*)(?![\w·-])")

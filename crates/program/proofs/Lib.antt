@@ -13,3 +13,4 @@ pub mod BlockLaws
 pub mod WhereLaws
 pub mod StandLaws
 pub mod MarkingLaws
+pub mod AmongLaws

@@ -6,3 +6,4 @@ pub mod RunLaws
 pub mod TokenLaws
 pub mod TokenRules
 pub mod TextRules
+pub mod SameLaws

@@ -1,0 +1,46 @@
+-- What is written: words, and the places that they come from, one after the other. Assumes nothing: these are definitions.
+use mathlib.Core.Path.{_≡_}
+use Prim.Native.Nat.{ℕ, _+_, _-_, _≤_}
+use mathlib.Core.Bool.{Bool, cond}
+use mathlib.Core.List.{List}
+use lib.Dec.{ltb}
+use lib.ListN.{set, take, drop}
+use Rattle.words.specs.Answer.{got}
+use Rattle.program.specs.Forms.{mostWords}
+use Rattle.text.specs.declared.Reader.{Reader as Carried}
+use Rattle.text.specs.Reading.{passing, owing}
+use Rattle.text.specs.Told.{Follows}
+
+-- what is written from a word on
+unfoldable pub since : {A : Type 0} → ℕ → List A → Carried → List A
+since from ws r = take (r .written - from) (drop from ws)
+
+-- one more
+unfoldable pub with1 : {A : Type 0} → List A → Carried → A → List A
+with1 ws r w = cond (ltb (r .written) mostWords) (set ws (r .written) w) ws
+
+abbrev pub oneMore : Carried → Carried
+oneMore r = record {
+  number = r .number;
+  place = r .place;
+  at = r .at;
+  last = r .last;
+  certain = r .certain;
+  owed = r .owed;
+  passed = r .passed;
+  variables = r .variables;
+  labels = r .labels;
+  named = r .named;
+  written = r .written + 1;
+  depth = r .depth;
+}
+
+unfoldable pub wroteOne : Carried → Carried
+wroteOne r = cond (ltb (r .written) mostWords) (oneMore r) r
+
+-- the same reader, whose next token passes a limit where b says so; and one that owes k words more, where what it owes is no more than there may be
+abbrev pub Passes : Bool → Carried → Carried → Type 0
+Passes b r s = Follows r (λ q. got (passing b q)) s
+
+abbrev pub Owes : ℕ → Carried → Carried → Type 0
+Owes k r s = r .owed ≤ mostWords → k ≤ mostWords → Follows r (λ q. got (owing k q)) s
