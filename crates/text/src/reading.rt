@@ -128,7 +128,7 @@ pub fn need(text: &[u8], r: Reader, c: usize, k: usize) -> Reader
 }
 
 // Takes a variable's name.
-pub fn variable(text: &[u8], names: &mut [usize], r: Reader, k: usize) -> Reader
+pub(crate) fn variable(text: &[u8], names: &mut [usize], r: Reader, k: usize) -> Reader
     ensures { λ s. ⌜ Numbers (now (names .entry)) r (λ q. variableBy (now (text .entry)) k q) (now (names .exit)) s ⌝ }
 {
     if r.number != 0 {
@@ -192,7 +192,7 @@ fn named_label(r: Reader, count: usize, n: usize) -> Reader
 }
 
 // Takes a label, which is none of those in seen.
-pub fn label(text: &[u8], names: &mut [usize], r: Reader, seen: &[usize]) -> Reader
+pub(crate) fn label(text: &[u8], names: &mut [usize], r: Reader, seen: &[usize]) -> Reader
     ensures { λ s. ⌜ Numbers (now (names .entry)) r (λ q. labelBy (now (text .entry)) (now (seen .entry)) q) (now (names .exit)) s ⌝ }
 {
     if r.number != 0 {

@@ -53,7 +53,7 @@ pub fn passing(r: Reader, b: bool) -> Reader
 }
 
 // The same reader, which owes k words more; one that owes more than there may be stays.
-pub fn owing(r: Reader, k: usize) -> Reader
+pub(crate) fn owing(r: Reader, k: usize) -> Reader
     ensures { λ s. ⌜ Owes k r s ⌝ }
 {
     if crate::MOST_WORDS < r.owed {
