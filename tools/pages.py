@@ -1,7 +1,7 @@
 #!/usr/bin/env python3
-"""Tests README.md and docs/OUTCOMES.md: the inputs and outputs that they show are those of sheets/, the second page has a section with a sheet for every outcome from 0 to 19
-and for `input=`, and each sheet of sheets/outcomes is named after what it answers. `...` on a page stands for what is left out. That the sheets print their outputs is
-tested elsewhere."""
+"""Tests README.md, docs/OUTCOMES.md and docs/NOTATION.md: the inputs and outputs that they show are those of sheets/, the second page has a section with a sheet for every outcome
+from 0 to 19 and for `input=`, and each sheet of sheets/outcomes is named after what it answers. Every text of the third is a file, every refusal is its `.read` as hosts/rust
+prints it, and 20, 21 and 22 have a section each. `...` on a page stands for what is left out. That the sheets give their outputs is tested elsewhere."""
 import pathlib
 import re
 import sys
@@ -10,6 +10,8 @@ ROOT = pathlib.Path(__file__).resolve().parent.parent
 SHEETS = ROOT / "sheets"
 SHOWN = re.compile(r"`sheets/([a-z0-9/-]+)` reads\n\n```\n(.*?)```\n\nand prints\n\n```\n(.*?)```", re.S)
 ANSWERED = re.compile(r"`sheets/([a-z0-9/-]+)\.txt` answers\n\n```\n(.*?)```", re.S)
+TYPED = re.compile(r"`sheets/([a-z0-9/-]+)` types\n\n```\n(.*?)\n```(?:\n\nand is refused:\n\n```\n(.*?)\n```)?", re.S)
+TYPED_ROW = re.compile(r"^\| `([^`]+)` \| (?:(\d\d, column \d+) \| )?.* \| `([a-z0-9-]+)` \|$", re.M)
 faults = []
 
 
@@ -69,12 +71,63 @@ def test_names(page):
     return len(sheets)
 
 
+def tellings(name, says):
+    """A text's outcome, and what a page may tell of it: nothing where it is read; the refusal as hosts/rust prints it, or, in the first line, its number and column."""
+    text, file = (SHEETS / f"{name}.text").read_bytes(), SHEETS / f"{name}.read"
+    if not file.is_file() or file.read_text().startswith("outcome=0\n"):
+        return 0, [""]
+    outcome, place = re.match(r"outcome=(\d+)\nplace=(\d+)\n", file.read_text()).groups()
+    before = text[: int(place)].decode().split("\n")
+    line, column = len(before), len(before[-1]) + 1
+    shown = text.decode().split("\n")[line - 1].removesuffix("\r") + "\n" + re.sub(r"[^\t]", " ", before[-1]) + "^"
+    printed = f"{outcome} at line {line}, column {column}: {says[outcome]}\n{shown}"
+    return int(outcome), [printed, f"{outcome}, column {column}"][: 2 if line == 1 else 1]
+
+
+def test_notation(page):
+    """Each refusal stands in the section of its number. The heading has the words that hosts/rust prints."""
+    says = dict(re.findall(r"^## (\d\d): (.*)$", page, re.M))
+    printed = (ROOT / "hosts" / "rust" / "src" / "answer.rs").read_text()
+    if list(says) != ["20", "21", "22"] or not all(f'"{words}"' in printed for words in says.values()):
+        faults.append(f"the refusals of docs/NOTATION.md are {says}")
+        return 0
+    texts = 0
+    for section in re.split(r"^## ", page, flags=re.M):
+        outcomes = set()
+        rows = [(f"notation/{name}", text, told) for text, told, name in TYPED_ROW.findall(section)]
+        for name, text, told in TYPED.findall(section) + rows:
+            file = SHEETS / f"{name}.text"
+            if not file.is_file() or not is_cut(text, file.read_text().removesuffix("\n")):
+                faults.append(f"{name}.text is not as shown")
+                continue
+            outcome, fits = tellings(name, says)
+            if told not in fits:
+                faults.append(f"{name}.text is not answered as told")
+            outcomes.add(outcome)
+            texts += 1
+        if outcomes != ({int(section[:2])} if section[:2] in says else outcomes & {0}):
+            faults.append(f"the section {section.splitlines()[0]!r} shows {sorted(outcomes)}")
+    if page.count("```") != sum(4 if told else 2 for _, _, told in TYPED.findall(page)):
+        faults.append("docs/NOTATION.md shows a text in another form")
+    return texts
+
+
+def test_typed():
+    """The texts that pages name are there: on the page of the notation without their folder."""
+    texts = {file.stem for file in (SHEETS / "notation").iterdir()}
+    for page, named in (("docs/NOTATION.md", r"`([a-z0-9]+(?:-[a-z0-9]+)+)`"), ("docs/DECISIONS.md", r"`notation/([a-z0-9-]+)`"), ("sheets/README.md", r"`notation/([a-z0-9-]+)`")):
+        for name in sorted(set(re.findall(named, (ROOT / page).read_text())) - texts):
+            faults.append(f"{page}: there is no text {name}")
+
+
 def main():
     page = (ROOT / "docs" / "OUTCOMES.md").read_text()
     sections, sheets = test_outcomes(page), test_names(page)
     if not test_shown((ROOT / "README.md").read_text()):
         faults.append("README.md shows no sheet")
-    print("\n".join(faults) or f"{sections} outcomes explained, {sheets} sheets of them")
+    texts = test_notation((ROOT / "docs" / "NOTATION.md").read_text())
+    test_typed()
+    print("\n".join(faults) or f"{sections} outcomes explained, {sheets} sheets of them; {texts} texts of the notation")
     sys.exit(1 if faults else 0)
 
 

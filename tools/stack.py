@@ -1,9 +1,9 @@
 #!/usr/bin/env python3
-"""tools/stack.py [ARCHIVE]: the most stack that cordbasin_run can take, from the frames of the machine code.
+"""tools/stack.py [ARCHIVE]: the most stack that each call can take, from the frames of the machine code.
 
 Reads what objdump says of the archive (target/native/libcordbasin.a if none is named): each function's frame and its calls. A function that
 calls itself, straight or through others, is counted as often as its nesting allows: blocks nest 8 deep, expressions 16; one more call of each
-meets the limit and turns back. Ends with 1 above 64 KiB, where a
+meets the limit and turns back. Ends with 1 above 64 KiB for a run and 128 KiB for reading a text, where a
 function's nesting is not known, and where a call goes to a function that is not in the archive, other than the four that move memory.
 """
 
@@ -24,9 +24,18 @@ NESTING = {
     "read_expression": 17,
     "evaluate_at": 17,
     "operand": 17,
+    "climb": 17,
+    "joined": 16,
+    "onwards": 16,
+    "block": 9,
+    "conditional": 8,
+    "repeated": 8,
+    "statement": 8,
+    "statements": 8,
+    "steps": 9,
 }
-# More than this fails.
-MOST = 65536
+# The calls, and how many bytes fail.
+CALLS = {"cordbasin_run": 65536, "cordbasin_read": 131072}
 MEMORY = {"memcpy", "memmove", "memset", "memcmp"}
 
 
@@ -45,7 +54,7 @@ def functions(archive):
     said = disassembled(archive)
     # a call stores the address to return to, on AArch64 in the frame
     entry = 8 if "x86-64" in said else 0
-    found, name, calls_itself = {}, None, False
+    found, name, calls_itself, probed = {}, None, False, False
     for line in said.splitlines():
         head = re.match(r"^[0-9a-f]+ <(.+)>:$", line)
         if head:
@@ -55,8 +64,16 @@ def functions(archive):
         if name is None:
             continue
         frame, calls = found[name]
+        # a large frame is taken a page at a time, in a loop that ends at this address
+        page = re.search(r"\bsub\s+x\d+, sp, #(0x[0-9a-f]+)(, lsl #12)|\blea\s+-0x([0-9a-f]+)\(%rsp\),%r11", line)
         grown = re.search(r"\bsub\s+sp, sp, #(0x[0-9a-f]+|\d+)(, lsl #12)?|\[sp, #-(\d+)\]!|\bsub\s+\$0x([0-9a-f]+),%rsp", line)
-        if grown:
+        if page:
+            size, shifted, wide = page.groups()
+            found[name][0] = frame + (int(size, 0) << 12 if shifted else int(wide, 16))
+            probed = True
+        elif grown and probed:
+            probed = False
+        elif grown:
             size, shifted, stored, wide = grown.groups()
             size = int(size, 0) if size else int(stored) if stored else int(wide, 16)
             found[name][0] = frame + (size << 12 if shifted else size)
@@ -97,20 +114,19 @@ def deepest(found, name, opened):
     return frame + best, [(name, frame)] + chain
 
 
+def told(found, call):
+    """Prints the deepest chain of a call; whether it is too deep."""
+    most, chain = deepest(found, call, {call: 1})
+    print(f"{call}: {most} bytes at most, in {len(chain)} calls:")
+    for name, frame in dict.fromkeys(chain):
+        print(f"{chain.count((name, frame)):4} x {frame:5}  {name}")
+    return most >= CALLS[call]
+
+
 def main():
     archive = sys.argv[1] if len(sys.argv) > 1 else "target/native/libcordbasin.a"
     found = functions(archive)
-    most, chain = deepest(found, "cordbasin_run", {"cordbasin_run": 1})
-    print(f"{most} bytes at most, in {len(chain)} calls:")
-    last = None
-    for name, frame in chain + [(None, 0)]:
-        if last and last[0] == name:
-            last[2] += 1
-            continue
-        if last:
-            print(f"{last[2]:4} x {last[1]:5}  {last[0]}")
-        last = [name, frame, 1]
-    sys.exit(most > MOST)
+    sys.exit(any([told(found, call) for call in CALLS]))
 
 
 main()

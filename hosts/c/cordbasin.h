@@ -1,4 +1,4 @@
-/* Cordbasin's call for a host in C or C++. Link libcordbasin.a; it needs at most memcpy, memset, memmove and memcmp. */
+/* Cordbasin's calls for a host in C or C++. Link libcordbasin.a; it needs at most memcpy, memset, memmove and memcmp. */
 #ifndef CORDBASIN_H
 #define CORDBASIN_H
 
@@ -14,6 +14,13 @@ enum {
     CORDBASIN_ENVIRONMENT_WORDS = 128, /* kind and payload of the variables 0 to 63 */
     CORDBASIN_HEAP_WORDS = 1601,       /* record count; 64 records of field count and 8 times label, kind, payload */
     CORDBASIN_CONSTRAINTS_WORDS = 98   /* value count, identity count, 64 value positions, 32 identity positions */
+};
+
+/* How many words are lent for a text to be read into. */
+enum {
+    CORDBASIN_PROGRAM_WORDS = 4096, /* the most that a program may have; as many origins */
+    CORDBASIN_NAMES_WORDS = 192,    /* first byte and length of the names of 64 variables, then of 32 labels */
+    CORDBASIN_FIRST_LABEL = 128     /* the word at which the labels' begin */
 };
 
 /* The kinds of a cell, the first of its two words. */
@@ -71,12 +78,25 @@ enum {
     CORDBASIN_REQUIRED_UNMET = 19
 };
 
+/* Outcomes of reading a text, beside 0 and 1. The place is the first byte of the token at which one of them applies first; it is the
+   text's length where the text ends too early, and 65536 where it is too long. */
+enum {
+    /* the token may not stand there, or there is none, or a label that this new has already */
+    CORDBASIN_UNFIT_TEXT = 20,
+    /* the name of the 65th variable or the 33rd label */
+    CORDBASIN_TOO_MANY_NAMES = 21,
+    /* the token passes a limit of document 01, or byte 65,536 */
+    CORDBASIN_OVER_LIMIT = 22
+};
+
 /* Where each number stands in the answer. */
 enum {
     CORDBASIN_OUTCOME = 0,
     CORDBASIN_PLACE = 1,
-    CORDBASIN_STEPS = 2,   /* statements begun, refused ones too, and later tests of whiles */
-    CORDBASIN_ACCEPTED = 3 /* proposals accepted */
+    CORDBASIN_STEPS = 2,     /* statements begun, refused ones too, and later tests of whiles */
+    CORDBASIN_ACCEPTED = 3,  /* proposals accepted */
+    CORDBASIN_VARIABLES = 2, /* of a text: how many variables have names */
+    CORDBASIN_LABELS = 3     /* of a text: how many labels have names */
 };
 
 /* Runs a program on lent tables.
@@ -97,6 +117,23 @@ enum {
 size_t cordbasin_run(const int32_t *program, size_t program_words, int32_t *environment, size_t environment_words,
                      int32_t *heap, size_t heap_words, int32_t *constraints, size_t constraints_words,
                      const int32_t *proposals, size_t proposals_words, int32_t budget, int32_t answer[4]);
+
+/* Reads a text in the papers' notation to the words of a program.
+
+   What is said of pointers, of overlap and of threads above holds here too. The call's stack does not grow with the text.
+
+   text      the bytes that were typed, at most 65,536; only read
+   program   4,096 words; holds the program's words, and behind them what it held before
+   origins   4,096 words; for each word of the program the first byte of the token that it comes from
+   names     192 words; variable v's first appearance begins at byte names[2v] and has names[2v + 1] bytes, label l's stands at
+             128 + 2l and 129 + 2l; 0 where there is none
+   answer    where outcome, place, and the numbers of variables and labels are stored
+
+   Returns how many words the program has. Outcome 0 comes with the text's length as place; its words always read, so that no run of
+   them answers 2. On any other outcome the call returns 0 and writes to the answer alone, whose last two numbers are 0. 1 is for
+   program, origins or names of another length, with place 0. */
+size_t cordbasin_read(const uint8_t *text, size_t text_bytes, int32_t *program, size_t program_words, int32_t *origins,
+                      size_t origins_words, int32_t *names, size_t names_words, int32_t answer[4]);
 
 #ifdef __cplusplus
 }

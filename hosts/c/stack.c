@@ -1,4 +1,5 @@
-/* How much stack a run takes: a sheet with blocks nested 8 deep and an expression nested 16 deep is run on a stack that was painted before. */
+/* How much stack the calls take, on a stack that was painted before: a run of a sheet with blocks nested 8 deep and an expression nested
+   16 deep; reading such a text; and reading one bracket and 30,000 around a number. */
 #define _POSIX_C_SOURCE 200809L
 #include <pthread.h>
 #include <stdint.h>
@@ -7,13 +8,15 @@
 
 #include "cordbasin.h"
 
-enum { STACK = 1 << 20, PAINT = 0x5A, IFS = 7, DEEP = 15 };
+enum { STACK = 1 << 20, PAINT = 0x5A, IFS = 7, DEEP = 15, BRACKETS = 30000, RUNNING = 65536, READING = 131072 };
 
 static _Alignas(65536) unsigned char stack[STACK];
-static int32_t answer[4];
+static int32_t answer[4], program[CORDBASIN_PROGRAM_WORDS];
+static char text[65536];
+static size_t bytes;
 
 /* The words of v0 := 1, and in IFS ifs: once required v0 = 2, weak true and true and .. and true. */
-static size_t written(int32_t *program) {
+static size_t written(void) {
     int32_t *at = program;
     *at++ = 2;
     memcpy(at, (int32_t[]){1, 0, 0, 23, 1}, 20);
@@ -33,37 +36,78 @@ static size_t written(int32_t *program) {
     return (size_t)(at - program);
 }
 
-static void *run(void *program) {
+static void *run(void *unused) {
     static int32_t environment[128], heap[1601], constraints[98];
     const int32_t proposals[] = {0, 1, 0, 2};
-    cordbasin_run(program, written(program), environment, 128, heap, 1601, constraints, 98, proposals, 4, 100, answer);
-    return NULL;
+    cordbasin_run(program, written(), environment, 128, heap, 1601, constraints, 98, proposals, 4, 100, answer);
+    return unused;
 }
 
-/* The same thread without the run, for what a thread itself takes. */
-static void *rest(void *program) {
-    written(program);
-    return NULL;
+static void *read_text(void *unused) {
+    static int32_t origins[CORDBASIN_PROGRAM_WORDS], names[CORDBASIN_NAMES_WORDS];
+    cordbasin_read((const uint8_t *)text, bytes, program, CORDBASIN_PROGRAM_WORDS, origins, CORDBASIN_PROGRAM_WORDS, names,
+                   CORDBASIN_NAMES_WORDS, answer);
+    return unused;
+}
+
+/* The same thread without a call, for what a thread itself takes. */
+static void *rest(void *unused) {
+    written();
+    return unused;
 }
 
 static size_t used(void *(*work)(void *)) {
-    static int32_t program[4096];
     pthread_attr_t attributes;
     pthread_t thread;
     memset(stack, PAINT, STACK);
     pthread_attr_init(&attributes);
-    if (pthread_attr_setstack(&attributes, stack, STACK) != 0) return 0;
-    if (pthread_create(&thread, &attributes, work, program) != 0) return 0;
+    if (pthread_attr_setstack(&attributes, stack, STACK) != 0) return STACK;
+    if (pthread_create(&thread, &attributes, work, NULL) != 0) return STACK;
     pthread_join(thread, NULL);
     size_t clean = 0;
     while (clean < STACK && stack[clean] == PAINT) clean++;
     return STACK - clean;
 }
 
+/* What a call takes beyond the thread; its outcome is told if it is not 0. */
+static size_t taken(const char *what, void *(*work)(void *)) {
+    size_t without = used(rest), with = used(work);
+    printf("%s: outcome %d, %zu bytes of stack\n", what, (int)answer[0], with - without);
+    return answer[0] == 0 ? with - without : STACK;
+}
+
+static void put(const char *part, int times) {
+    for (int turn = 0; turn < times; turn++) {
+        memcpy(text + bytes, part, strlen(part));
+        bytes += strlen(part);
+    }
+}
+
+static size_t bracketed(const char *what, int brackets) {
+    bytes = 0;
+    put("x := ", 1);
+    put("(", brackets);
+    put("7", 1);
+    put(")", brackets);
+    return taken(what, read_text);
+}
+
+/* In IFS ifs an always, with a path, and operators that nest to the right as deep as they may. */
+static size_t nested(void) {
+    bytes = 0;
+    put("if true then {", IFS);
+    put("always a.b.c.d.e.f.g.h = 1 /\\ weak ", 1);
+    put("(1 + ", DEEP);
+    put("a.b.c.d.e.f.g.h", 1);
+    put(")", DEEP);
+    put("} else {}", IFS);
+    return taken("reading blocks and an expression nested deep", read_text);
+}
+
 int main(void) {
-    size_t without = used(rest);
-    size_t with = used(run);
-    printf("outcome=%d\nsteps=%d\n", answer[0], answer[2]);
-    printf("%zu bytes of stack\n", with - without);
-    return with - without < 65536 && answer[0] == 0 ? 0 : 1;
+    size_t deepest = taken("a run of blocks and an expression nested deep", run);
+    size_t one = bracketed("reading one bracket", 1);
+    size_t many = bracketed("reading 30,000 brackets", BRACKETS);
+    size_t read = nested();
+    return deepest < RUNNING && read < READING && many == one ? 0 : 1;
 }

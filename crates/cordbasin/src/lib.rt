@@ -1,6 +1,8 @@
-// The call for a host in C or Rust.
+// The calls for a host in C or Rust.
+ghost use mathlib.Core.Path.{_≡_};
 ghost use Rattle.rules.specs.Start.{run as runBy};
 ghost use Rattle.phases.specs.Told.{tables};
+ghost use Rattle.text.specs.Whole.{answered, read as readBy};
 ghost use Rattle.cordbasin.specs.Told.{Answers};
 
 // A run: the four words of the answer are outcome, place, steps and accepted proposals; it returns how many words of the proposals are unread.
@@ -26,4 +28,18 @@ pub extern "C" fn cordbasin_run(
         answer,
     );
     unread.len()
+}
+
+// Reads a text: the four words of the answer are outcome, place, and how many variables and labels have names; it returns how many words the program has.
+#[no_mangle]
+pub extern "C" fn cordbasin_read(
+    text: &[u8],
+    program: &mut [i32],
+    origins: &mut [i32],
+    names: &mut [i32],
+    answer: &mut [i32; 4],
+) -> usize
+    ensures { λ n. ⌜ answered (now (program .exit)) (now (origins .exit)) (now (names .exit)) (now (answer .exit)) n ≡ readBy (now (text .entry)) (now (program .entry)) (now (origins .entry)) (now (names .entry)) ⌝ }
+{
+    text::whole::read(text, program, origins, names, answer)
 }

@@ -1,6 +1,6 @@
 -- Expressions that are read are the grammar's, within the limits. Assumes the two laws of tokens that `TokenLaws` names.
 use mathlib.Core.Path.{_≡_, refl, sym, ap}
-use mathlib.Core.Bool.{Bool, true, false, cond, not, _&&_}
+use mathlib.Core.Bool.{Bool, true, false, cond, _&&_}
 use mathlib.Core.List.{List, [], _∷_, _++_}
 use Prim.Native.Nat.{ℕ, zero, suc, _+_, _-_, _≤_, _<_}
 use native.Mathlib.Omega.{arith}
@@ -21,6 +21,16 @@ use Rattle.text.specs.Claims.{TokensOf}
 use Rattle.text.proofs.TookLaws.{Spot, spot, total, Fine, Took, took-none, took-on, before, ordinary}
 use Rattle.text.proofs.TakenLaws.{TokenLaws, One, take-one}
 use Rattle.text.proofs.PieceLaws.{either-way, Piece, Nested, Operand, or-false, operand-sound}
+
+-- every operator is on some level
+pub level-some : (k : ℕ) → leb 1 (levelOf k) ≡ true
+unfolding levelOf
+level-some k =
+    cases (eqb k 3) (λ a. rw a) (λ a. cases (leb k 2) (λ b. rw (a, b)) (λ b. cases (leb k 9) (λ c. rw (a, b, c)) (λ c. cases (leb k 10) (λ d. rw (a, b, c, d)) (λ d. rw (a, b, c, d)))))
+
+-- one level over both of two operands
+pub deeper : (n a b : ℕ) → a ≤ n → b ≤ n → suc (cond (ltb a b) b a) ≤ suc n
+deeper n a b h k = cases (ltb a b) (λ y. rw y (omega arith)) (λ y. rw y (omega arith))
 
 -- ---- operators
 
@@ -212,9 +222,6 @@ module _ {text : List ℕ} (L : TokenLaws text) where
         next t k i e =
             let z : leb (suc k) (levelOf (t .code - 40)) ≡ false = rw i at e in
             let y : levelOf (t .code - 40) < suc k = leb-false (suc k) (levelOf (t .code - 40)) z in omega arith
-
-        deeper : (n a b : ℕ) → a ≤ n → b ≤ n → suc (cond (ltb a b) b a) ≤ suc n
-        deeper n a b h k = cases (ltb a b) (λ y. rw y (omega arith)) (λ y. rw y (omega arith))
 
         deepest : (n a b : ℕ) → suc (cond (ltb a b) b a) ≤ suc n → (a ≤ n) × (b ≤ n)
         deepest n a b h =

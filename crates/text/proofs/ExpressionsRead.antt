@@ -2,11 +2,11 @@
 use mathlib.Core.Path.{_≡_, refl, ap, _∙_}
 use mathlib.Core.Bool.{Bool, false}
 use mathlib.Core.List.{List, [], _∷_, _++_, append-assoc}
-use Prim.Native.Nat.{ℕ, zero, suc, _+_, _-_, _≤_, _<_}
+use Prim.Native.Nat.{ℕ, zero, suc, _+_, _≤_, _<_}
 use native.Mathlib.Omega.{arith}
 use lib.IntN.{ℤ, pos}
 use lib.ListN.{length, length-append}
-use Rattle.words.specs.Answer.{Answer, got, _>>=_, _>>_}
+use Rattle.words.specs.Answer.{Answer, got, _>>=_}
 use Rattle.program.specs.Forms.{mostWords, expressionDepth}
 use Rattle.program.specs.Grammar.{Expression as Of}
 use Rattle.tokens.specs.declared.Token.{Token}

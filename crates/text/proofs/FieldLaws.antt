@@ -24,7 +24,8 @@ use Rattle.text.specs.Reading.{label, path, expression, fieldAt, fieldsO
 use Rattle.text.specs.Claims.{meaning}
 use Rattle.text.proofs.NameLaws.{Extends, extends-on, extends-same, names-extend, number-stays, number-within}
 use Rattle.text.proofs.TookLaws.{Spot, spot, total, Fine, Took, took-none, took-on, Later, later-same, before, Below}
-use Rattle.text.proofs.TakenLaws.{TokenLaws, One, take-one, need-one, label-passed, Field, field-one, name-same}
+use Rattle.text.proofs.TakenLaws.{TokenLaws, One, take-one, need-one, Field, field-one, name-same}
+use Rattle.text.proofs.AnswerSteps.{label-never}
 use Rattle.text.proofs.PieceLaws.{either-way, never, Piece, PathIs, path-sound, path-names}
 use Rattle.text.proofs.ExpressionLaws.{ExpressionIs, expression-sound}
 
@@ -101,7 +102,7 @@ module _ {text : List ℕ} (L : TokenLaws text) where
           yields = λ vs ls t. field-is (peek text r) (peek text (y .1)) (l .label .name) (l .colon) (l .label .number ls (before (z .took) t .labels)) (z .yields vs ls t);
           limits = FieldWithin.fit (l .label .within) (l .label .apart b) (z .limits);
           sum = omega (arith, l .sum, z .sum);
-          unpassed = cases (r .passed) (λ p. label-passed text seen r y e1 p) (λ p. p);
+          unpassed = cases (r .passed) (λ p. label-never text seen r y p e1) (λ p. p);
         };
         below = Below.more {m = y .0} (omega arith) (below-on (more-labels k) b);
       })

@@ -1,27 +1,25 @@
 -- Constraints and fields are read as they are judged. Assumes that tokens and white space make up a text.
 use Prim.Native.Nat.{ℕ, zero, suc, _+_, _-_, _≤_}
 use mathlib.Core.Path.{_≡_, refl}
-use mathlib.Core.Bool.{true, false, not, _&&_, true≢false}
+use mathlib.Core.Bool.{true, false, _&&_}
 use mathlib.Core.List.{List, [], _∷_}
 use native.Mathlib.Omega.{arith}
 use lib.Dec.{eqb, ltb, leb}
 use lib.ListN.{length}
 use lib.IntN.{pos}
 use borrow.Author.Tests.{leb-true, lt-ltb, eq-eqb, ne-eqb}
-use Rattle.words.specs.Answer.{got}
-use Rattle.words.proofs.AnswerLaws.{step, tested}
-use Rattle.tables.specs.Sizes.{mostFields, labels}
+use Rattle.tables.specs.Sizes.{mostFields}
 use Rattle.tables.proofs.SearchLaws.{cases, and-left}
 use Rattle.program.specs.Forms.{mostParts, mostSteps, required}
-use Rattle.program.specs.Reading.{among}
 use Rattle.tokens.specs.Codes.{nameCode, tooLong, weakCode, colonCode, commaCode, identicalCode, besideCode, openBraceCode, closeBraceCode}
 use Rattle.tokens.specs.Claims.{MakesUp}
-use Rattle.text.specs.Reading.{fault, Reader, Form, wordThen, owing, passing, peek, is, refusal, take, need, known, numberIn, roomFor, label, path, expression, expressionOn}
+use Rattle.text.specs.Reading.{Reader, Form, wordThen, owing, passing, peek, is, take, need, label, path, expression, expressionOn}
 use Rattle.text.specs.Reading.{priority, partAt, partsOn, constraintOn, statedOn, stated, fieldAt, fieldsOn, fieldsAt}
 use Rattle.text.specs.Judge.{Sort, Awaited, only, side, pathStated, stated as awaitedStated, braces, mayPart, mayField, may, there}
 use Rattle.text.proofs.Leads.{pass, Leads, leads-here, leads-then, leads-on, leads-as, take-leads, need-leads, label-leads}
 use Rattle.text.proofs.JudgePaths.{path-leads}
-use Rattle.text.proofs.JudgeExpressions.{not-passed, expression-leads, expression-on-leads}
+use Rattle.text.proofs.AnswerSteps.{passing-one, field-never}
+use Rattle.text.proofs.JudgeExpressions.{expression-leads, expression-on-leads}
 
 module _ (text : List ℕ) (makes-up : MakesUp) where
   pub part-leads : (a : Awaited) (r : Reader) → r .at ≤ length text → Leads text (Awaited.part a) r (λ x. (a, x .1)) (partAt text r)
@@ -111,16 +109,6 @@ module _ (text : List ℕ) (makes-up : MakesUp) where
       leads-then text (expression text false s) _ (expression-leads text makes-up false (Awaited.fields n (x .0 ∷ seen) a) s p) λ f k.
       leads-here text refl (λ o z. z)
 
-  -- no field may follow where a limit is passed
-  no-field : {X : Type 0} (seen : List ℕ) (r : Reader) (x : ℕ × (Form × Reader)) → fieldAt text seen (passing true r) ≡ got x → X
-  unfolding fieldAt label
-  no-field seen r x e =
-      step (label text seen (passing true r)) _ e λ y i j.
-      tested (refusal text (peek text (passing true r)))
-      (is text (passing true r) nameCode && not (known text (r .labels) (peek text (passing true r)) && among (numberIn text (r .labels) (peek text (passing true r))) seen)) _ i λ c k.
-      tested (fault 21 (peek text (passing true r) .place)) (roomFor text labels (r .labels) (peek text (passing true r))) _ k λ d m.
-      step (take text 1 (passing true r)) _ m λ s n p. absurd (true≢false (not-passed text makes-up 1 true r s n))
-
   fields-leads : (n : ℕ) (seen : List ℕ) (a : Awaited) (r : Reader) → r .at ≤ length text → Leads text (Awaited.fields n seen a) r (λ x. (a, x .1 .1)) (fieldsOn text n seen r)
   unfolding fieldsOn may peek
   fields-leads zero seen a r l =
@@ -129,7 +117,7 @@ module _ (text : List ℕ) (makes-up : MakesUp) where
       (leads-as text {b = Awaited.token commaCode Sort.other 0 (Awaited.beyond (Awaited.field 0 seen a))} {s = r} refl refl (rw e)
       (leads-on text (take text 0 r) _ l (take-leads text makes-up commaCode 0 (Awaited.beyond (Awaited.field 0 seen a)) r e refl) λ s i m.
       leads-as text {b = Awaited.field 0 seen a} {s = passing true s} refl refl refl
-      (leads-then text (fieldAt text seen (passing true s)) _ (field-leads 0 seen a (passing true s) m) λ f j. no-field seen s f j))))
+      (leads-then text (fieldAt text seen (passing true s)) _ (field-leads 0 seen a (passing true s) m) λ f j. field-never text seen (passing true s) f (passing-one s) j))))
       (λ e. rw e (leads-here text refl (λ o z. pass text refl (rw e) z)))
   fields-leads (suc n) seen a r l =
       cases (is text r commaCode)

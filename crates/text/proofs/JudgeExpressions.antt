@@ -1,13 +1,13 @@
 -- Expressions are read as they are judged: an operator groups what it does not bind tighter than. Assumes that tokens and white space make up a text.
 use Prim.Native.Nat.{ℕ, zero, suc, _+_, _-_, _≤_, _<_}
 use mathlib.Core.Path.{_≡_, refl, sym, ap, _∙_}
-use mathlib.Core.Bool.{Bool, true, false, not, cond, _&&_, _||_}
+use mathlib.Core.Bool.{Bool, true, false, not, cond, _&&_}
 use mathlib.Core.List.{List, [], _∷_}
 use native.Mathlib.Omega.{arith}
 use lib.Dec.{eqb, ltb, leb}
 use lib.ListN.{length}
-use borrow.Author.Tests.{ltb-true, ltb-false, leb-true, leb-false, lt-ltb, le-ltb, le-leb, lt-leb, eq-eqb, ne-eqb, not-true}
-use Rattle.words.specs.Answer.{Answer, got, _>>=_, _>>_}
+use borrow.Author.Tests.{ltb-true, ltb-false, leb-true, leb-false, lt-ltb, le-ltb, le-leb, lt-leb, eq-eqb, ne-eqb}
+use Rattle.words.specs.Answer.{Answer, got, _>>=_}
 use Rattle.words.proofs.AnswerLaws.{got-inj, stop≢got, step, tested}
 use Rattle.tables.proofs.SearchLaws.{cases, and-left, and-right, and-false}
 use Rattle.program.specs.Forms.{mostWords, expressionDepth}
@@ -15,6 +15,8 @@ use Rattle.tokens.specs.Codes.{endCode, tooLong, openBracketCode, closeBracketC
 use Rattle.tokens.specs.Claims.{MakesUp}
 use Rattle.text.specs.Reading.{Fault, fault, Reader, Form, passing, levelOf, isOperator, peek, is, take, operand, enough, opened, over, joins, onwards, climb, expression, expressionOn}
 use Rattle.text.specs.Judge.{Sort, Open, Awaited, deeper, grouped, closed, bracketed, levels, mayOperand, mayOperator, may, there}
+use Rattle.text.proofs.AnswerSteps.{take-within}
+use Rattle.text.proofs.ExpressionLaws.{level-some}
 use Rattle.text.proofs.Leads.{pass, Leads, leads-here, leads-then, leads-as, leads-to, onward, strictly, take-leads, unfit-leads}
 use Rattle.text.proofs.JudgePaths.{operand-leads, operand-one}
 
@@ -45,18 +47,6 @@ grouped-none l d [] u = refl
 grouped-none l d (Open.bracket ∷ os) u = refl
 grouped-none l d (Open.operator k e ∷ os) u = rw (lt-leb l k u)
 
-or-right : (a b : Bool) → (a || b) ≡ false → b ≡ false
-or-right true b e = cc
-or-right false b e = e
-
-level-some : (k : ℕ) → leb 1 (levelOf k) ≡ true
-unfolding levelOf
-level-some k =
-    cases (eqb k 3) (λ e. rw e) (λ e. rw e
-    (cases (leb k 2) (λ e. rw e) (λ e. rw e
-    (cases (leb k 9) (λ e. rw e) (λ e. rw e
-    (cases (leb k 10) (λ e. rw e) (λ e. rw e)))))))
-
 with-true : (a b : Bool) → b ≡ true → (a && b) ≡ false → a ≡ false
 with-true true b c e = sym c ∙ e
 with-true false b c e = refl
@@ -65,11 +55,6 @@ module _ (text : List ℕ) (makes-up : MakesUp) where
   took : (k : ℕ) (r s : Reader) → take text k r ≡ got s → s .at ≡ peek text r .end
   unfolding take peek
   took k r s e = tested (fault 22 (peek text r .place)) (not (r .passed) && leb (r .certain + r .owed + k) mostWords) _ e λ c j. ap (λ z. z .at) (sym (got-inj j))
-
-  pub not-passed : (k : ℕ) (b : Bool) (r s : Reader) → take text k (passing b r) ≡ got s → b ≡ false
-  unfolding take peek
-  not-passed k b r s e =
-      tested (fault 22 (peek text r .place)) (not (r .passed || b) && leb (r .certain + r .owed + k) mostWords) _ e λ c j. or-right (r .passed) b (not-true (r .passed || b) (and-left _ _ c))
 
   module _ (inC : Bool) (os : List Open) (a : Awaited) where
     opened-leads : (fuel b : ℕ) (r : Reader) → Leads text (Awaited.operand inC (brackets b os) a) r (λ x. (Awaited.operand inC (brackets (x .0) os) a, x .1)) (opened text fuel b r)
@@ -154,7 +139,7 @@ module _ (text : List ℕ) (makes-up : MakesUp) where
         (leads-then text (take text 2 s) _ (take-leads text makes-up code 2 then s here whole) λ v i.
         let p = took 2 s v i in
         let w : v .at ≤ length text = omega (arith, p, onward text makes-up r code here whole l .1) in
-        let some : 1 ≤ left = (let z = ltb-false left (e .depth) (not-passed 2 (ltb left (e .depth)) r v i) in omega (arith, z, d)) in
+        let some : 1 ≤ left = (let z = ltb-false left (e .depth) (take-within text 2 (ltb left (e .depth)) r v i) in omega (arith, z, d)) in
         leads-then text (go (suc lv) v) _ (go-leads some lv (e .depth) b v w) λ f j.
         let q = go-leads some lv (e .depth) b v w .forth f j w in
         leads-as text {b = Awaited.behind inC (deeper (e .depth) (f .0 .depth)) (brackets b os) a} {s = f .1} refl refl

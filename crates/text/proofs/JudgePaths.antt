@@ -1,5 +1,5 @@
 -- Paths and operands are read as they are judged. Assumes that tokens and white space make up a text.
-use Prim.Native.Nat.{ℕ, zero, suc, _-_}
+use Prim.Native.Nat.{ℕ, zero, suc}
 use mathlib.Core.Path.{_≡_, refl, sym, ap}
 use mathlib.Core.Bool.{Bool, true, false, not, _&&_}
 use mathlib.Core.List.{List, []}
@@ -7,7 +7,7 @@ use lib.Dec.{eqb}
 use lib.ListN.{length}
 use lib.IntN.{ℤ}
 use borrow.Author.Tests.{eqb-true}
-use Rattle.words.specs.Answer.{Answer, got, stop, _>>=_, _>>_}
+use Rattle.words.specs.Answer.{Answer, got, stop, _>>=_}
 use Rattle.words.proofs.AnswerLaws.{got-inj, stop≢got, step}
 use Rattle.tables.proofs.SearchLaws.{cases}
 use Rattle.program.specs.Forms.{mostSteps}
@@ -15,6 +15,7 @@ use Rattle.tokens.specs.Codes.{tooLong, nameCode, numberCode, trueCode, falseCo
 use Rattle.tokens.specs.Claims.{MakesUp}
 use Rattle.text.specs.Reading.{Reader, Form, passing, peek, is, take, variable, label, steps, path, literal, outside, literalAt, pathOrSame, operand}
 use Rattle.text.specs.Judge.{Sort, Open, Awaited, aLabel, side, same, tooGreat, mayOperand, may, there}
+use Rattle.text.proofs.AnswerSteps.{passing-none}
 use Rattle.text.proofs.Leads.{pass, Leads, leads-here, leads-then, leads-as, take-leads, unfit-leads, variable-leads, any-label-leads}
 
 module _ (text : List ℕ) (makes-up : MakesUp) where
@@ -60,13 +61,6 @@ module _ (text : List ℕ) (makes-up : MakesUp) where
       leads-then text (path text 2 s) _ (path-leads 2 a s) λ g k.
       leads-here text refl (λ o z. z))))
       (λ e. rw e (leads-here text refl (λ o z. pass text refl (rw e) z)))
-
-  pub passing-none : (r : Reader) → passing false r ≡ r
-  passing-none r = go (r .passed) refl
-    where
-      go : (b : Bool) → r .passed ≡ b → passing false r ≡ r
-      go true e = rw e
-      go false e = rw e
 
   -- a literal of one word
   word-leads : (c : ℕ) (a : Awaited) (r : Reader) (f : Form) → is text r c ≡ true → eqb c numberCode ≡ false → eqb c tooLong ≡ false

@@ -1,6 +1,6 @@
 -- A piece's reader does what the judge of tokens does: where it answers the judging goes on behind the piece, where it refuses the judging refuses.
 -- Assumes that tokens and white space make up a text.
-use Prim.Native.Nat.{ℕ, _+_, _-_, _≤_, _<_}
+use Prim.Native.Nat.{ℕ, _+_, _≤_, _<_}
 use mathlib.Core.Path.{_≡_, refl, sym, ap, _∙_}
 use mathlib.Core.Bool.{Bool, true, false, not, cond, _&&_}
 use mathlib.Core.List.{List, []}
@@ -8,7 +8,7 @@ use native.Mathlib.Omega.{arith}
 use lib.Dec.{eqb, leb}
 use lib.ListN.{length}
 use borrow.Author.Tests.{eqb-true, eqb-false}
-use Rattle.words.specs.Answer.{Answer, got, stop, _>>=_, _>>_}
+use Rattle.words.specs.Answer.{Answer, got, stop, _>>=_}
 use Rattle.words.proofs.AnswerLaws.{got-inj, stop-inj, stop≢got}
 use Rattle.tables.specs.Sizes.{variables, labels}
 use Rattle.tables.proofs.SearchLaws.{cases, and-left}

@@ -25,21 +25,21 @@ pub extends-on : {ns ms ls : List Named} → Extends ns ms → Extends ms ls →
 extends-on {ns} a b = record { behind = a .behind ++ b .behind; split = b .split ∙ rw (a .split) (append-assoc ns (a .behind) (b .behind)) }
 
 module _ (text : List ℕ) where
-  number-most : (ns : List Named) (t : Token) → numberIn text ns t ≤ length ns
+  pub number-most : (ns : List Named) (t : Token) → numberIn text ns t ≤ length ns
   unfolding numberIn
   number-most [] t = omega arith
   number-most (n ∷ ns) t =
       cases (eqb (n .length) (t .end - t .place) && sameIn text (n .place) (t .place) (n .length))
       (λ y. rw y (omega arith)) (λ y. rw y (let z : numberIn text ns t ≤ length ns = number-most ns t in omega arith))
 
-  number-keeps : (ns xs : List Named) (t : Token) → numberIn text ns t < length ns → numberIn text (ns ++ xs) t ≡ numberIn text ns t
+  pub number-keeps : (ns xs : List Named) (t : Token) → numberIn text ns t < length ns → numberIn text (ns ++ xs) t ≡ numberIn text ns t
   unfolding numberIn
   number-keeps [] xs t h = absurd (omega arith)
   number-keeps (n ∷ ns) xs t h =
       cases (eqb (n .length) (t .end - t .place) && sameIn text (n .place) (t .place) (n .length))
       (λ y. rw y) (λ y. rw y (ap suc (number-keeps ns xs t (let z : suc (numberIn text ns t) < suc (length ns) = rw y at h in omega arith))))
 
-  number-new : (ns : List Named) (t : Token) → length ns ≤ numberIn text ns t → sameIn text (t .place) (t .place) (t .end - t .place) ≡ true
+  pub number-new : (ns : List Named) (t : Token) → length ns ≤ numberIn text ns t → sameIn text (t .place) (t .place) (t .end - t .place) ≡ true
       → numberIn text (ns ++ record { place = t .place; length = t .end - t .place } ∷ []) t ≡ numberIn text ns t
   unfolding numberIn
   number-new [] t h e = rw (eq-eqb (t .end - t .place) (t .end - t .place) refl, e)

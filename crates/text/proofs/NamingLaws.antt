@@ -1,11 +1,11 @@
 -- The table of names: what the loop over it comes to, and the names that it has with one more. Assumes nothing.
 use mathlib.Core.Path.{_≡_, refl, sym, ap, _∙_}
-use mathlib.Core.Bool.{Bool, true, false, cond, _&&_, _||_}
+use mathlib.Core.Bool.{Bool, true, false, cond, _||_}
 use mathlib.Core.List.{List, [], _∷_, _++_}
 use Prim.Native.Nat.{ℕ, zero, suc, _+_, _-_, _*_, _≤_, _<_}
 use native.Mathlib.Omega.{arith}
 use native.Mathlib.Numerals.{add-one}
-use borrow.Author.Tests.{ltb-true, ltb-false, lt-ltb, le-ltb, eq-eqb, ne-eqb}
+use borrow.Author.Tests.{ltb-false, lt-ltb, le-ltb, eq-eqb, ne-eqb}
 use lib.Dec.{eqb, ltb}
 use lib.ListN.{length, getD, set, drop, length-set, drop-of-length-le}
 use lib.Seq.{getD-set-same, getD-set-other, drop-cons}
@@ -16,6 +16,7 @@ use Rattle.tokens.specs.declared.Token.{Token}
 use Rattle.tokens.specs.Bytes.{sameIn}
 use Rattle.text.specs.Reading.{Named, numberIn, known, withName, roomFor}
 use Rattle.text.specs.Told.{nameAt, isName, namesFrom, tableWith, countWith, atMost}
+use Rattle.text.proofs.NameLaws.{number-most}
 
 pub most-small : (most n : ℕ) → atMost most n ≤ most
 unfolding atMost
@@ -29,15 +30,6 @@ pub length-names : (names : List ℕ) (i n : ℕ) → length (namesFrom names i 
 unfolding namesFrom
 length-names names i zero = refl
 length-names names i (suc n) = ap suc (length-names names (suc (suc i)) n)
-
-pub number-within : (text : List ℕ) (ns : List Named) (t : Token) → numberIn text ns t ≤ length ns
-unfolding numberIn isName
-number-within text [] t = omega arith
-number-within text (n ∷ ns) t = go (isName text n t) (number-within text ns t)
-  where
-    go : (b : Bool) → numberIn text ns t ≤ length ns → cond b 0 (suc (numberIn text ns t)) ≤ suc (length ns)
-    go true h = omega arith
-    go false h = omega arith
 
 -- how many names there are with one of number n
 pub count-most : (most count n : ℕ) → count ≤ most → n ≤ count → n < most → atMost most (countWith count n) ≡ countWith count n
@@ -54,14 +46,14 @@ module _ (text : List ℕ) (ns : List Named) (t : Token) {n : ℕ} (is : n ≡ n
 
   pub room-full : {most : ℕ} → most ≤ n → length ns ≤ most → roomFor text most ns t ≡ false
   unfolding roomFor
-  room-full {most = most} h l = rw (is-known, le-ltb n (length ns) (omega arith), le-ltb (length ns) most (omega (arith, is, number-within text ns t)))
+  room-full {most = most} h l = rw (is-known, le-ltb n (length ns) (omega arith), le-ltb (length ns) most (omega (arith, is, number-most text ns t)))
 
   pub room-there : {most : ℕ} → n < most → roomFor text most ns t ≡ true
   unfolding roomFor
   room-there {most = most} h =
       cases (ltb n (length ns))
       (λ e. rw (is-known, e))
-      (λ e. rw (is-known, e) (lt-ltb (length ns) most (omega (arith, is, number-within text ns t, ltb-false n (length ns) e))))
+      (λ e. rw (is-known, e) (lt-ltb (length ns) most (omega (arith, is, number-most text ns t, ltb-false n (length ns) e))))
 
 -- ---- one name
 

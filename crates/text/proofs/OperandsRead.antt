@@ -2,7 +2,7 @@
 use mathlib.Core.Path.{_≡_, refl, ap, _∙_}
 use mathlib.Core.Bool.{Bool, true, false, not, _&&_}
 use mathlib.Core.List.{List, [], _∷_, _++_}
-use Prim.Native.Nat.{ℕ, _+_, _-_, _≤_, _<_}
+use Prim.Native.Nat.{ℕ, _+_, _≤_, _<_}
 use native.Mathlib.Omega.{arith}
 use lib.IntN.{ℤ, pos}
 use lib.ListN.{length}
@@ -22,7 +22,7 @@ module _ (G : Given) (inC : Bool) where
 
   literal-read : {c : ℕ} {r : Reader} {t : Token} {rest : List Token} (ws : List ℤ) (e : ℕ) → At G r c (t ∷ rest) → (t .code ≡ nameCode → ⊥) → Plain (t .code)
       → literal (G .text) t ≡ got ws → outside (G .text) t ≡ false → e ≡ c + length ws → e ≤ mostWords
-      → Done G (operand (G .text) inC r) (r .at) e rest ws (everywhere (G .text) (t .place) ws) 1
+      → Done G (operand (G .text) inC r) (r .at) e rest ws (everywhere (t .place) ws) 1
   unfolding operand literalAt
   literal-read {c} {r} {t} {rest} ws e a n p l o q h = by (plain G (length ws) b p)
     where
@@ -30,7 +30,7 @@ module _ (G : Given) (inC : Bool) where
       b = unpassing G (outside (G .text) (peek (G .text) r)) (rw (peek-next G a) o) a
 
       by : At G (taken G (length ws) (passing (outside (G .text) (peek (G .text) r)) r)) (c + length ws) rest × (r .at < peek (G .text) (passing (outside (G .text) (peek (G .text) r)) r) .end)
-          → Done G (operand (G .text) inC r) (r .at) e rest ws (everywhere (G .text) (t .place) ws) 1
+          → Done G (operand (G .text) inC r) (r .at) e rest ws (everywhere (t .place) ws) 1
       by (d, g) = let m : literal (G .text) (peek (G .text) r) ≡ got ws = rw (peek-next G a) l in let f : c + length ws ≤ mostWords = omega arith in record {
         depth = 1;
         reader = taken G (length ws) (passing (outside (G .text) (peek (G .text) r)) r);

@@ -1,6 +1,6 @@
 -- One operator with its right operand, and a closing bracket: how a reader behind an operand goes on. Assumes nothing.
 use mathlib.Core.Path.{_≡_, refl, sym, ap, _∙_}
-use mathlib.Core.Bool.{Bool, true, false, cond, _&&_}
+use mathlib.Core.Bool.{Bool, true, false, cond}
 use mathlib.Core.List.{List, _∷_, _++_}
 use Prim.Native.Nat.{ℕ, zero, suc, _+_, _-_, _≤_, _<_}
 use native.Mathlib.Omega.{arith}
@@ -9,14 +9,15 @@ use lib.Dec.{ltb}
 use lib.IntN.{ℤ, pos}
 use lib.ListN.{length}
 use Rattle.words.specs.Answer.{Answer}
-use Rattle.tables.proofs.SearchLaws.{cases}
+use Rattle.tables.proofs.SearchLaws.{cases, and-false}
 use Rattle.program.specs.Forms.{mostWords}
 use Rattle.program.specs.Grammar.{Expression as Of}
 use Rattle.tokens.specs.declared.Token.{Token}
 use Rattle.tokens.specs.Codes.{dotCode, colonCode, identicalCode, closeBracketCode}
 use Rattle.text.specs.Grammar.{Level, Expression}
 use Rattle.text.specs.Reading.{Fault, Reader, Form, passing, peek, is, levelOf, isOperator, joins, onwards}
-use Rattle.text.proofs.Taken.{and-false, Given, At, next, taken, takes, plain, peek-next, is-so, is-not, unpassing}
+use Rattle.text.proofs.ExpressionLaws.{deeper}
+use Rattle.text.proofs.Taken.{Given, At, next, taken, takes, plain, peek-next, is-so, is-not, unpassing}
 use Rattle.text.proofs.PathsRead.{M, Done, made}
 
 pub level-of : {k l : ℕ} → Level k l → (levelOf k ≡ l) × ((1 ≤ k) × ((k ≤ 11) × (1 ≤ l)))
@@ -60,9 +61,6 @@ module _ (text : List ℕ) where
   operator-joins : {k l : ℕ} (low b : ℕ) (t : Token) → t .code ≡ 40 + k → Level k l → (b ≡ 0 → low ≤ l) → joins text (cond (ltb 0 b) 1 low) t ≡ true
   operator-joins {k} {l} low zero t e v h = let i = is-operator t e v in rw (i .0, i .1 .0) (le-leb low l (h refl))
   operator-joins {k} {l} low (suc b) t e v h = let i = is-operator t e v in rw (lt-ltb 0 (suc b) (omega arith), i .0, i .1 .0) (le-leb 1 l (level-of v .1 .1 .1))
-
-deeper : (a b e : ℕ) → a ≤ e → b ≤ e → suc (cond (ltb a b) b a) ≤ suc e
-deeper a b e h k = cases (ltb a b) (λ c. rw c (omega arith)) (λ c. rw c (omega arith))
 
 module _ (G : Given) (inC : Bool) (left : ℕ) (go : ℕ → Reader → Answer Fault (Form × Reader)) where
   -- `go` reads what the grammar yields, nested at most `left` deep
@@ -116,7 +114,7 @@ module _ (G : Given) (inC : Bool) (left : ℕ) (go : ℕ → Reader → Answer F
           record {
             depth = a .depth;
             reader = a .reader;
-            answer = rw (and-false (is (G .text) (a .reader) closeBracketCode), onwards, x) at q;
+            answer = rw (and-false (is (G .text) (a .reader) closeBracketCode) false refl, onwards, x) at q;
             shallow = a .shallow;
             behind = a .behind;
             on = a .on;
@@ -159,7 +157,7 @@ module _ (G : Given) (inC : Bool) (left : ℕ) (go : ℕ → Reader → Answer F
         reader = i .reader;
         answer = rw (shut, onwards, join, takes G 2 at x, level, i .answer, code, place) at w;
         room = omega (arith, i .on);
-        shallow = deeper (a .depth) (i .depth) e (a .shallow) (i .shallow);
+        shallow = deeper e (a .depth) (i .depth) (a .shallow) (i .shallow);
         behind = i .behind;
         on = omega (arith, a .on, i .on);
       }

@@ -25,7 +25,8 @@ use Rattle.text.specs.Reading.{steps, path, literal, literalAt, outside,
 use Rattle.text.specs.Claims.{meaning}
 use Rattle.text.proofs.NameLaws.{Extends, names-extend}
 use Rattle.text.proofs.TookLaws.{spot, total, Fine, Took, took-none, took-on, Later, before}
-use Rattle.text.proofs.TakenLaws.{TokenLaws, One, take-one, take-number, Variable, variable-one, Dotted, dotted, label-passed, by-take}
+use Rattle.text.proofs.TakenLaws.{TokenLaws, One, take-one, take-number, Variable, variable-one, Dotted, dotted, by-take}
+use Rattle.text.proofs.AnswerSteps.{passing-one, label-never}
 
 -- a test that decides between two ways
 pub either-way {ℓ} : {E A : Type 0} {X : Type ℓ} {x : A} (c : Bool) (a b : Answer E A) → cond c a b ≡ got x → (c ≡ true → a ≡ got x → X) → (c ≡ false → b ≡ got x → X) → X
@@ -96,12 +97,8 @@ module _ {text : List ℕ} (L : TokenLaws text) where
       (λ t e1.
       step (take text 0 r) _ e1 λ s e2 e3.
       step (label text [] (passing true s)) _ e3 λ y e4 e5.
-      label-passed text [] (passing true s) y e4 (or-true (s .passed)))
+      label-never text [] (passing true s) y (passing-one s) e4)
       (λ t e1. no-steps zero r x f e1)
-    where
-      or-true : (b : Bool) → b || true ≡ true
-      or-true true = refl
-      or-true false = refl
   steps-sound (suc n) r x f e =
       either-way (is text r dotCode) _ _ e
       (λ t e1.
@@ -150,9 +147,9 @@ module _ {text : List ℕ} (L : TokenLaws text) where
   -- ---- operands
 
   literal-is : (inC : Bool) (ws : List ℤ) (r : Reader) (x : Form × Reader)
-      → (take text (length ws) (passing (outside text (peek text r)) r) >>= λ s. got (form ws (everywhere text (peek text r .place) ws), s)) ≡ got x
+      → (take text (length ws) (passing (outside text (peek text r)) r) >>= λ s. got (form ws (everywhere (peek text r .place) ws), s)) ≡ got x
       → ((s : Reader) → take text (length ws) (passing (outside text (peek text r)) r) ≡ got s → One text (length ws) (passing (outside text (peek text r)) r) s)
-      → ((vs ls : List Named) → Expression (meaning text vs ls) inC 6 (peek text r ∷ []) ws (everywhere text (peek text r .place) ws))
+      → ((vs ls : List Named) → Expression (meaning text vs ls) inC 6 (peek text r ∷ []) ws (everywhere (peek text r .place) ws))
       → ((d : ℕ) → Limits.Expression inC (suc d) ws) → Operand text inC r (x .1) 0 (x .0)
   unfolding peek
   literal-is inC ws r x e one y l =

@@ -1,5 +1,5 @@
 -- Request W1's text, and the short texts of docs/DECISIONS.md 74 to 97, as they are read and as their tokens are judged. Every definition is opened here. Assumes nothing.
-use Prim.Native.Nat.{ℕ, _-_}
+use Prim.Native.Nat.{ℕ}
 use mathlib.Core.Path.{_≡_, refl}
 use mathlib.Core.List.{List, [], _∷_}
 use lib.IntN.{ℤ, pos}

@@ -1,16 +1,16 @@
 -- Tokens taken one by one: what a reader that stands before known tokens sees, takes and names. Assumes nothing.
 use mathlib.Core.Path.{_≡_, refl, sym, ap, _∙_}
-use mathlib.Core.Bool.{Bool, true, false, _&&_}
-use mathlib.Core.List.{List, [], _∷_, _++_, append-nil, append-assoc}
-use Prim.Native.Nat.{ℕ, suc, _+_, _-_, _≤_, _<_}
+use mathlib.Core.Bool.{Bool, true, false}
+use mathlib.Core.List.{List, [], _∷_, _++_}
+use Prim.Native.Nat.{ℕ, _+_, _-_, _≤_, _<_}
 use native.Mathlib.Omega.{arith}
-use borrow.Author.Tests.{ltb-true, ltb-false, le-leb, lt-ltb, eq-eqb, ne-eqb}
-use lib.Dec.{eqb, ltb}
+use borrow.Author.Tests.{le-leb, lt-ltb, eq-eqb, ne-eqb}
+use lib.Dec.{ltb}
 use lib.ListN.{length, length-append}
 use Rattle.words.specs.Answer.{got}
 use Rattle.words.specs.Range.{fits}
 use Rattle.tables.specs.Sizes.{variables, labels}
-use Rattle.tables.proofs.SearchLaws.{cases}
+use Rattle.tables.proofs.SearchLaws.{cases, and-false}
 use Rattle.program.specs.Forms.{mostWords}
 use Rattle.program.specs.Reading.{among}
 use Rattle.tokens.specs.declared.Token.{Token}
@@ -21,6 +21,7 @@ use Rattle.tokens.specs.Tokens.{tokenFrom}
 use Rattle.tokens.specs.Claims.{Makes, MakesUp}
 use Rattle.text.specs.Reading.{Named, Reader, owing, passing, dueAfter, peek, is, take, need, numberIn, known, withName, roomFor, variable, label}
 use Rattle.text.specs.Claims.{TokensOf, NamesAre, Sorted, NumbersFit}
+use Rattle.text.proofs.NameLaws.{Extends, extends-same, names-extend, number-stays}
 
 -- bytes are the same as themselves, where they are there
 abbrev pub SameSelf : Type 0
@@ -40,69 +41,22 @@ moves makes-up text last at h e l = by (tokenFrom (dueAfter last) text at) (make
     by t (Makes.end a q c) e l = absurd (e (ap (λ (t : Token). t .code) q))
     by t (Makes.longer a q) e l = absurd (l (ap (λ (t : Token). t .code) q))
 
-pub and-false : (b : Bool) → (b && false) ≡ false
-and-false true = refl
-and-false false = refl
-
 -- ---- numbers of names
 
 module _ (text : List ℕ) where
-  number-most : (ns : List Named) (t : Token) → numberIn text ns t ≤ length ns
-  unfolding numberIn
-  number-most [] t = omega arith
-  number-most (n ∷ ns) t =
-      cases (eqb (n .length) (t .end - t .place) && sameIn text (n .place) (t .place) (n .length)) (λ c. rw c (omega arith)) (λ c. rw c (omega (arith, number-most ns t)))
-
-  number-among : (ns ms : List Named) (t : Token) → numberIn text ns t < length ns → numberIn text (ns ++ ms) t ≡ numberIn text ns t
-  unfolding numberIn
-  number-among [] ms t h = absurd (omega arith)
-  number-among (n ∷ ns) ms t h =
-      cases (eqb (n .length) (t .end - t .place) && sameIn text (n .place) (t .place) (n .length)) (λ c. rw c refl) (λ c. rw c (ap suc (number-among ns ms t (omega (arith, rw (c, numberIn) at h)))))
-
-  number-new : (ns ms : List Named) (n : Named) (t : Token) → (eqb (n .length) (t .end - t .place) && sameIn text (n .place) (t .place) (n .length)) ≡ true
-      → length ns ≤ numberIn text ns t → numberIn text (ns ++ n ∷ ms) t ≡ length ns
-  unfolding numberIn
-  number-new [] ms n t s h = rw s refl
-  number-new (m ∷ ns) ms n t s h =
-      cases (eqb (m .length) (t .end - t .place) && sameIn text (m .place) (t .place) (m .length)) (λ c. absurd (omega (arith, rw (c, numberIn) at h)))
-      (λ c. rw c (ap suc (number-new ns ms n t s (omega (arith, rw (c, numberIn) at h)))))
-
-  with-more : (ns : List Named) (t : Token) → (xs : List Named) × (withName text ns t ≡ ns ++ xs)
-  unfolding withName
-  with-more ns t =
-      cases (known text ns t) (λ c. ([], rw c (sym (append-nil ns)))) (λ c. (record { place = t .place; length = t .end - t .place } ∷ [], rw c refl))
-
-  -- the names of later tokens come behind those that are there
-  pub names-grow : {ns ms : List Named} {ts : List Token} → NamesAre text ns ts ms → (xs : List Named) × (ms ≡ ns ++ xs)
-  names-grow {ns} NamesAre.none = ([], sym (append-nil ns))
-  names-grow {ns} (NamesAre.more {t = t} h) =
-      let a = with-more ns t in let b = names-grow h in
-      (a .0 ++ b .0, b .1 ∙ ap (λ (x : List Named). x ++ b .0) (a .1) ∙ append-assoc ns (a .0) (b .0))
-
   -- a token's number is that which it has among all names, and there is room for it where these are few
-  module _ (same-self : SameSelf) (ns xs : List Named) (t : Token) {ms : List Named} (q : ms ≡ withName text ns t ++ xs) (p : t .place < t .end) (e : t .end ≤ length text) where
-    number-stays : numberIn text ns t ≡ numberIn text ms t
-    unfolding withName known
-    number-stays =
-        cases (ltb (numberIn text ns t) (length ns))
-        (λ c. rw (q, c) (sym (number-among ns xs t (ltb-true (numberIn text ns t) (length ns) c))))
-        (λ c. rw (q, c, append-assoc ns (record { place = t .place; length = t .end - t .place } ∷ []) xs)
-        (eq-of (number-most ns t) (ltb-false (numberIn text ns t) (length ns) c) ∙ sym (number-new ns xs (record { place = t .place; length = t .end - t .place }) t itself (ltb-false (numberIn text ns t) (length ns) c))))
-      where
-        eq-of : {a b : ℕ} → a ≤ b → b ≤ a → a ≡ b
-        eq-of h k = omega arith
-
-        itself : (eqb (t .end - t .place) (t .end - t .place) && sameIn text (t .place) (t .place) (t .end - t .place)) ≡ true
-        itself = rw (eq-eqb (t .end - t .place) (t .end - t .place) refl) (same-self text (t .place) (t .end - t .place) (omega arith))
+  module _ (same-self : SameSelf) (ns : List Named) (t : Token) {ms : List Named} (x : Extends (withName text ns t) ms) (p : t .place < t .end) (e : t .end ≤ length text) where
+    number-same : numberIn text ns t ≡ numberIn text ms t
+    number-same = sym (number-stays text ns t ms (same-self text (t .place) (t .end - t .place) (omega arith)) x)
 
     room-for : (most : ℕ) → length ms ≤ most → roomFor text most ns t ≡ true
     unfolding withName known roomFor
     room-for most h =
         cases (ltb (numberIn text ns t) (length ns)) (λ c. rw c refl)
-        (λ c. rw (c, lt-ltb (length ns) most (longer (rw (c, withName, known) at q))) refl)
+        (λ c. rw (c, lt-ltb (length ns) most (longer (rw (c, withName, known) at (x .split)))) refl)
       where
-        longer : ms ≡ (ns ++ record { place = t .place; length = t .end - t .place } ∷ []) ++ xs → length ns < most
-        longer q = let l : length ms ≡ length ns + 1 + length xs = rw (q, length-append (ns ++ record { place = t .place; length = t .end - t .place } ∷ []) xs, length-append ns (record { place = t .place; length = t .end - t .place } ∷ [])) refl in omega arith
+        longer : ms ≡ (ns ++ record { place = t .place; length = t .end - t .place } ∷ []) ++ x .behind → length ns < most
+        longer q = let l : length ms ≡ length ns + 1 + length (x .behind) = rw (q, length-append (ns ++ record { place = t .place; length = t .end - t .place } ∷ []) (x .behind), length-append ns (record { place = t .place; length = t .end - t .place } ∷ [])) refl in omega arith
 
 -- ---- what is known of a first token
 
@@ -287,7 +241,7 @@ module _ (G : Given) where
   takes-variable {r} {c} {t} {ts} k a n d e h =
       by (onward a (λ z. absurd (omega arith)) (λ z. absurd (omega arith))) (sorted-variable (a .sorted) (headed ts .1) d n e)
     where
-      to : (xs : List Token) (g : (zs : List Named) × (G .vs ≡ withName (G .text) (r .variables) t ++ zs)) → NamesAre (G .text) (withName (G .text) (r .variables) t) xs (G .vs)
+      to : (xs : List Token) (g : Extends (withName (G .text) (r .variables) t) (G .vs)) → NamesAre (G .text) (withName (G .text) (r .variables) t) xs (G .vs)
           → Sorted (t .code) (ts ++ ending ∷ []) xs (a .label-tokens) → t .place < t .end → t .end ≤ length (G .text) → r .at < t .end
           → (s : Reader) × ((variable (G .text) k r ≡ got (numberIn (G .text) (G .vs) t, s)) × (At s (c + k) ts × (r .at < s .at)))
       to xs g ns so p q o = (
@@ -296,10 +250,10 @@ module _ (G : Given) where
           rw (
             is-so nameCode a n,
             peek-next a,
-            room-for (G .text) (G .same-self) (r .variables) (g .0) t (g .1) p q variables (G .few-variables),
+            room-for (G .text) (G .same-self) (r .variables) t g p q variables (G .few-variables),
             takes k a h,
             peek-next a,
-            number-stays (G .text) (G .same-self) (r .variables) (g .0) t (g .1) p q,
+            number-same (G .text) (G .same-self) (r .variables) t g p q,
           ) refl,
           (
             record {
@@ -321,27 +275,27 @@ module _ (G : Given) where
 
       by : (t .place < t .end) × ((t .end ≤ length (G .text)) × (r .at < t .end)) → (xs : List Token) × ((a .variable-tokens ≡ t ∷ xs) × Sorted (t .code) (ts ++ ending ∷ []) xs (a .label-tokens))
           → (s : Reader) × ((variable (G .text) k r ≡ got (numberIn (G .text) (G .vs) t, s)) × (At s (c + k) ts × (r .at < s .at)))
-      by o (xs, (q, so)) = let ns : NamesAre (G .text) (withName (G .text) (r .variables) t) xs (G .vs) = names-on (rw q at (a .variable-names)) in to xs (names-grow (G .text) ns) ns so (o .0) (o .1 .0) (o .1 .1)
+      by o (xs, (q, so)) = let ns : NamesAre (G .text) (withName (G .text) (r .variables) t) xs (G .vs) = names-on (rw q at (a .variable-names)) in to xs (names-extend (G .text) ns) ns so (o .0) (o .1 .0) (o .1 .1)
 
   -- its number among the names up to it
   pub variable-number : {r : Reader} {c : ℕ} {t : Token} {ts : List Token} → At r c (t ∷ ts) → t .code ≡ nameCode → (r .last ≡ dotCode → ⊥) → (next ts .code ≡ colonCode → ⊥)
       → numberIn (G .text) (withName (G .text) (r .variables) t) t ≡ numberIn (G .text) (G .vs) t
   variable-number {r} {c} {t} {ts} a n d e = by (onward a (λ z. absurd (omega arith)) (λ z. absurd (omega arith))) (sorted-variable (a .sorted) (headed ts .1) d n e)
     where
-      to : (g : (zs : List Named) × (G .vs ≡ withName (G .text) (r .variables) t ++ zs)) → t .place < t .end → t .end ≤ length (G .text) → numberIn (G .text) (withName (G .text) (r .variables) t) t ≡ numberIn (G .text) (G .vs) t
+      to : (g : Extends (withName (G .text) (r .variables) t) (G .vs)) → t .place < t .end → t .end ≤ length (G .text) → numberIn (G .text) (withName (G .text) (r .variables) t) t ≡ numberIn (G .text) (G .vs) t
       to g p q =
-          sym (number-stays (G .text) (G .same-self) (r .variables) [] t (sym (append-nil (withName (G .text) (r .variables) t))) p q)
-          ∙ number-stays (G .text) (G .same-self) (r .variables) (g .0) t (g .1) p q
+          sym (number-same (G .text) (G .same-self) (r .variables) t (extends-same (withName (G .text) (r .variables) t)) p q)
+          ∙ number-same (G .text) (G .same-self) (r .variables) t g p q
 
       by : (t .place < t .end) × ((t .end ≤ length (G .text)) × (r .at < t .end)) → (xs : List Token) × ((a .variable-tokens ≡ t ∷ xs) × Sorted (t .code) (ts ++ ending ∷ []) xs (a .label-tokens))
           → numberIn (G .text) (withName (G .text) (r .variables) t) t ≡ numberIn (G .text) (G .vs) t
-      by o (xs, (q, so)) = let ns : NamesAre (G .text) (withName (G .text) (r .variables) t) xs (G .vs) = names-on (rw q at (a .variable-names)) in to (names-grow (G .text) ns) (o .0) (o .1 .0)
+      by o (xs, (q, so)) = let ns : NamesAre (G .text) (withName (G .text) (r .variables) t) xs (G .vs) = names-on (rw q at (a .variable-names)) in to (names-extend (G .text) ns) (o .0) (o .1 .0)
 
   module _ {r : Reader} {c : ℕ} {t : Token} {ts : List Token} (seen : List ℕ) (a : At r c (t ∷ ts)) (n : t .code ≡ nameCode) (f : among (numberIn (G .text) (G .ls) t) seen ≡ false) (h : c + 1 ≤ mostWords) where
     abbrev pub Label : Type 0
     Label = (s : Reader) × ((label (G .text) seen r ≡ got (numberIn (G .text) (G .ls) t, s)) × (At s (c + 1) ts × (r .at < s .at)))
 
-    label-to : (xs : List Token) (g : (zs : List Named) × (G .ls ≡ withName (G .text) (r .labels) t ++ zs)) → NamesAre (G .text) (withName (G .text) (r .labels) t) xs (G .ls)
+    label-to : (xs : List Token) (g : Extends (withName (G .text) (r .labels) t) (G .ls)) → NamesAre (G .text) (withName (G .text) (r .labels) t) xs (G .ls)
         → Sorted (t .code) (ts ++ ending ∷ []) (a .variable-tokens) xs → t .place < t .end → t .end ≤ length (G .text) → r .at < t .end → Label
     unfolding label
     label-to xs g ns so p q o = (
@@ -350,10 +304,10 @@ module _ (G : Given) where
         rw (
           is-so nameCode a n,
           peek-next a,
-          number-stays (G .text) (G .same-self) (r .labels) (g .0) t (g .1) p q,
+          number-same (G .text) (G .same-self) (r .labels) t g p q,
           f,
-          and-false (known (G .text) (r .labels) t),
-          room-for (G .text) (G .same-self) (r .labels) (g .0) t (g .1) p q labels (G .few-labels),
+          and-false (known (G .text) (r .labels) t) false refl,
+          room-for (G .text) (G .same-self) (r .labels) t g p q labels (G .few-labels),
           takes 1 a h,
           peek-next a,
         ) refl,
@@ -379,7 +333,7 @@ module _ (G : Given) where
     label-by (xs, (q, so)) =
         let o = onward a (λ z. absurd (omega arith)) (λ z. absurd (omega arith)) in
         let ns : NamesAre (G .text) (withName (G .text) (r .labels) t) xs (G .ls) = names-on (rw q at (a .label-names)) in
-        label-to xs (names-grow (G .text) ns) ns so (o .0) (o .1 .0) (o .1 .1)
+        label-to xs (names-extend (G .text) ns) ns so (o .0) (o .1 .0) (o .1 .1)
 
     pub takes-label : r .last ≡ dotCode → Label
     takes-label d = label-by (sorted-label (a .sorted) d n)

@@ -18,7 +18,7 @@ use Rattle.program.proofs.AmongLaws.{among-none, among-on}
 use Rattle.tokens.specs.declared.Token.{Token}
 use Rattle.tokens.specs.Codes.{nameCode, numberCode, colonCode, dotCode}
 use Rattle.tokens.specs.Bytes.{part, sameIn}
-use Rattle.tokens.specs.Tokens.{token, tokenFrom}
+use Rattle.tokens.specs.Tokens.{tokenFrom}
 use Rattle.tokens.specs.Numbers.{integerOf}
 use Rattle.tokens.specs.Claims.{Makes}
 use Rattle.text.specs.Reading.{Named, Reader, dueAfter, peek, refusal, take, need, numberIn, known, withName, roomFor, variable, label, is, fault}
@@ -94,14 +94,6 @@ module _ (text : List ℕ) where
     pub took : Took text (spot r) (spot (x .1)) (peek text r ∷ peek text s ∷ [])
     pub label : Label (peek text s) [] (s .labels) (x .0) (spot (x .1))
     pub sum : total (x .1) ≡ total r + 1
-
-  pub label-passed {ℓ} : {X : Type ℓ} (seen : List ℕ) (r : Reader) (x : ℕ × Reader) → label text seen r ≡ got x → r .passed ≡ true → X
-  unfolding label
-  label-passed seen r x e p =
-      tested (refusal text (peek text r)) (is text r nameCode && not (known text (r .labels) (peek text r) && among (numberIn text (r .labels) (peek text r)) seen)) _ e λ t e1.
-      tested (fault 21 (peek text r .place)) (roomFor text labels (r .labels) (peek text r)) _ e1 λ m e2.
-      step (take text 1 r) _ e2 λ s e3 e4.
-      by-take 1 r s e3 λ u h g. absurd (let z : true ≡ false = sym p ∙ u in let y : _≡_ {A = ℕ} 0 1 = cc in omega arith)
 
   -- the label of a field and its `:`
   pub record Field (seen : List ℕ) (r : Reader) (x : ℕ × Reader) (s : Reader) : Type 0 where

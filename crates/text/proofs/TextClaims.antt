@@ -1,5 +1,4 @@
 -- What is claimed of texts holds. Assumes nothing.
-use mathlib.Core.Path.{_≡_}
 use Rattle.tokens.proofs.TextRules.{makes-up}
 use Rattle.tokens.proofs.SameLaws.{same-itself}
 use Rattle.text.specs.Claims.{AcceptedExactly, Reads}

@@ -1,22 +1,23 @@
 -- What the code's reader is after each step, as the definitions have it. Assumes nothing.
 use mathlib.Core.Path.{_≡_, refl, sym, ap, _∙_}
-use mathlib.Core.Bool.{Bool, true, false, not, cond, _&&_, _||_}
+use mathlib.Core.Bool.{Bool, true, false, not, cond, _&&_}
 use mathlib.Core.List.{List}
-use Prim.Native.Nat.{ℕ, suc, _+_, _*_, _≤_, _<_}
+use Prim.Native.Nat.{ℕ, _+_, _≤_, _<_}
 use native.Mathlib.Omega.{arith}
-use borrow.Author.Tests.{lt-ltb, le-ltb, lt-leb, le-leb, leb-true, eq-eqb, ne-eqb}
+use borrow.Author.Tests.{lt-leb, leb-true, eq-eqb, ne-eqb}
 use lib.Dec.{eqb, ltb, leb}
 use lib.ListN.{length}
-use Rattle.words.specs.Answer.{Answer, got, stop, _>>=_, want}
+use Rattle.words.specs.Answer.{Answer, got, stop}
 use Rattle.tables.proofs.SearchLaws.{cases}
 use Rattle.program.specs.Forms.{mostWords}
 use Rattle.program.specs.Reading.{among}
 use Rattle.tokens.specs.declared.Token.{Token}
 use Rattle.text.specs.declared.Reader.{Reader as Carried}
-use Rattle.text.specs.Reading.{Fault, fault, Named, Reader, peek, refusal, take, need, variable, label, numberIn, known, withName, roomFor}
+use Rattle.text.specs.Reading.{Fault, Named, Reader, peek, refusal, take, need, variable, label, numberIn, known, withName}
 use Rattle.text.specs.Told.{namesFrom, tableWith, countWith, atMost, readerOf, readingOf, numberedOf}
 use Rattle.text.specs.Told.{refusedAt, refusedBy, roomWith, behind, takenBy, namedVariable, namedLabel, Peeks, Follows, Numbers}
-use Rattle.text.proofs.NamingLaws.{most-small, room-full, room-there, is-known, count-most, length-names, number-within, other-names, names-with}
+use Rattle.text.proofs.NameLaws.{number-most}
+use Rattle.text.proofs.NamingLaws.{most-small, room-full, room-there, is-known, count-most, length-names, other-names, names-with}
 
 -- ---- a reader that is stopped stays
 
@@ -54,7 +55,7 @@ module _ (r : Carried) (k : ℕ) where
 -- ---- a reader that goes on
 
 module _ (r : Carried) (z : r .number ≡ 0) where
-  goes-on : (names : List ℕ) → readingOf names r ≡ got (readerOf names r)
+  pub goes-on : (names : List ℕ) → readingOf names r ≡ got (readerOf names r)
   unfolding readingOf
   goes-on names = rw (eq-eqb (r .number) 0 z)
 
@@ -74,15 +75,15 @@ taken-depth : (t : Token) (k : ℕ) (r : Carried) → takenBy t k r .depth ≡ r
 unfolding takenBy
 taken-depth t k r = cases (roomWith k r) (λ e. rw e) (λ e. rw e)
 
-refused-written : (t : Token) (r : Carried) → refusedBy t r .written ≡ r .written
+pub refused-written : (t : Token) (r : Carried) → refusedBy t r .written ≡ r .written
 unfolding refusedBy
 refused-written t r = cases (eqb (t .code) 4) (λ e. rw e) (λ e. rw e)
 
-refused-depth : (t : Token) (r : Carried) → refusedBy t r .depth ≡ r .depth
+pub refused-depth : (t : Token) (r : Carried) → refusedBy t r .depth ≡ r .depth
 unfolding refusedBy
 refused-depth t r = cases (eqb (t .code) 4) (λ e. rw e) (λ e. rw e)
 
-refused-reads : (text names : List ℕ) (t : Token) (r : Carried) → readingOf names (refusedBy t r) ≡ stop (refusal text t)
+pub refused-reads : (text names : List ℕ) (t : Token) (r : Carried) → readingOf names (refusedBy t r) ≡ stop (refusal text t)
 unfolding readingOf refusedBy refusal
 refused-reads text names t r = cases (eqb (t .code) 4) (λ e. rw e) (λ e. rw e)
 
@@ -207,7 +208,7 @@ module _ (text names : List ℕ) (r : Carried) (t : Token) (z : r .number ≡ 0)
           record {
             reads = λ long.
                 let a : namesFrom after 0 (atMost 64 grown) ≡ withName text vs t =
-                rw (more, count-most 64 count n v-count (omega (arith, number, number-within text (namesFrom names 0 count) t, length-names names 0 count)) h, table)
+                rw (more, count-most 64 count n v-count (omega (arith, number, number-most text (namesFrom names 0 count) t, length-names names 0 count)) h, table)
                 (names-with text names 0 count n t (λ l. omega arith) number ∙ rw counted refl) in
                 let b : namesFrom after 128 (atMost 32 (r .labels)) ≡ namesFrom names 128 (atMost 32 (r .labels)) =
                 rw table (other-names names 0 count n t 128 (atMost 32 (r .labels)) (λ l m. omega arith)) in
@@ -291,7 +292,7 @@ module _ (text names : List ℕ) (r : Carried) (t : Token) (z : r .number ≡ 0)
               record {
                 reads = λ long.
                     let a : namesFrom after 128 (atMost 32 grown) ≡ withName text ls t =
-                    rw (more, count-most 32 count n l-count (omega (arith, number, number-within text (namesFrom names 128 count) t, length-names names 128 count)) h, table)
+                    rw (more, count-most 32 count n l-count (omega (arith, number, number-most text (namesFrom names 128 count) t, length-names names 128 count)) h, table)
                     (names-with text names 128 count n t (λ l. omega arith) number ∙ rw counted refl) in
                     let b : namesFrom after 0 (atMost 64 (r .variables)) ≡ namesFrom names 0 (atMost 64 (r .variables)) =
                     rw table (other-names names 128 count n t 0 (atMost 64 (r .variables)) (λ l m. omega (arith, most-small 64 (r .variables)))) in

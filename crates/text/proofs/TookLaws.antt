@@ -8,8 +8,7 @@ use lib.ListN.{length}
 use Rattle.tables.specs.Sizes.{variables, labels}
 use Rattle.tokens.specs.declared.Token.{Token}
 use Rattle.tokens.specs.Codes.{colonCode, dotCode}
-use Rattle.tokens.specs.Tokens.{token}
-use Rattle.text.specs.Reading.{Named, Reader, is}
+use Rattle.text.specs.Reading.{Named, Reader}
 use Rattle.text.specs.Claims.{TokensOf, NamesAre, Sorted, NumbersFit}
 use Rattle.text.proofs.NameLaws.{Extends, names-extend, extends-on, extends-same}
 

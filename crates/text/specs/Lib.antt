@@ -1,6 +1,9 @@
 pub mod Grammar
 pub mod Reading
 pub mod Claims
+pub mod Names
 pub mod Judge
 pub mod Told
 pub mod Written
+pub mod Pieces
+pub mod Whole

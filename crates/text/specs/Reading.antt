@@ -67,6 +67,11 @@ andThen a b = form (a .words ++ b .words) (a .origins ++ b .origins)
 abbrev pub empty : Form
 empty = form [] []
 
+-- the same place for each word
+abbrev pub everywhere : ℕ → List ℤ → List ℕ
+everywhere p [] = []
+everywhere p (w ∷ ws) = p ∷ everywhere p ws
+
 -- "an operand is due": behind `:=`, `:`, `(`, `/\`, an operator, always, once, a priority, if and while
 unfoldable pub dueAfter : ℕ → Bool
 dueAfter c = (leb 40 c && leb c 51) || eqb c becomesCode || eqb c colonCode || eqb c openBracketCode || (leb alwaysCode c && leb c ifCode) || eqb c whileCode
@@ -162,10 +167,6 @@ module _ (text : List ℕ) where
   -- "a number outside 32 bits (its sign counts)"
   unfoldable pub outside : Token → Bool
   outside t = eqb (t .code) numberCode && not (fits (integerOf (part text (t .place) (t .end))))
-
-  abbrev pub everywhere : ℕ → List ℤ → List ℕ
-  everywhere p [] = []
-  everywhere p (w ∷ ws) = p ∷ everywhere p ws
 
   unfoldable pub literalAt : Reader → Answer (Unit {0}) (List ℤ) → Answer Fault (Form × Reader)
   literalAt r (got ws) = take (length ws) (passing (outside (peek r)) r) >>= λ s. got (form ws (everywhere (peek r .place) ws), s)

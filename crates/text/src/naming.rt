@@ -10,7 +10,7 @@ ghost use Rattle.text.specs.Reading.{numberIn};
 ghost use Rattle.text.specs.Told.{nameAt, isName, namesFrom, atMost, tableWith, countWith};
 
 // The word at i, 0 past the end.
-fn word(names: &[usize], i: usize) -> usize
+pub(crate) fn word(names: &[usize], i: usize) -> usize
     ensures { λ r. ⌜ r ≡ getD (now (names .entry)) i 0 ⌝ }
 {
     if i < names.len() { names[i] } else { 0 }
@@ -26,7 +26,7 @@ pub(crate) fn put(names: &mut [usize], i: usize, w: usize)
 }
 
 // n, or the most that there may be.
-pub fn at_most(most: usize, n: usize) -> usize
+pub(crate) fn at_most(most: usize, n: usize) -> usize
     ensures { λ r. ⌜ r ≡ atMost most n ⌝ }
 {
     if most < n {

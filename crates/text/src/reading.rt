@@ -25,7 +25,7 @@ fn due_after(code: usize) -> bool
 }
 
 // The token to be judged.
-pub fn peek(text: &[u8], r: Reader) -> Token
+pub(crate) fn peek(text: &[u8], r: Reader) -> Token
     ensures { λ t. ⌜ Peeks (now (text .entry)) r t ⌝ }
 {
     tokens::scanning::token(text, r.at, due_after(r.last))
@@ -104,7 +104,7 @@ pub(crate) fn taken(r: Reader, t: Token, k: usize) -> Reader
 }
 
 // Takes the token, with k words and those that are owed.
-pub fn take(text: &[u8], r: Reader, k: usize) -> Reader
+pub(crate) fn take(text: &[u8], r: Reader, k: usize) -> Reader
     ensures { λ s. ⌜ Follows r (λ q. takeBy (now (text .entry)) k q) s ⌝ }
 {
     if r.number != 0 {
@@ -114,7 +114,7 @@ pub fn take(text: &[u8], r: Reader, k: usize) -> Reader
 }
 
 // Takes the token where its code is c.
-pub fn need(text: &[u8], r: Reader, c: usize, k: usize) -> Reader
+pub(crate) fn need(text: &[u8], r: Reader, c: usize, k: usize) -> Reader
     ensures { λ s. ⌜ Follows r (λ q. needBy (now (text .entry)) c k q) s ⌝ }
 {
     if r.number != 0 {

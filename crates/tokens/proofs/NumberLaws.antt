@@ -129,3 +129,8 @@ module _ (s : List ℕ) {n : ℕ} {r : Ranged} where
   pub value-positive : (getD s 0 0 ≡ 45 → ⊥) → n ≡ capped (digitsFrom 0 s) → r ≡ ranged (pos n) → r ≡ valueOf s
   unfolding valueOf integerOf
   value-positive h e g = rw (ne-eqb (getD s 0 0) 45 h) (g ∙ ap (λ m. ranged (pos m)) e ∙ capped-positive (digitsFrom 0 s))
+
+-- what a number comes to: its integer, if that fits 32 bits
+pub value-is : (s : List ℕ) → valueOf s ≡ ranged (integerOf s)
+unfolding valueOf
+value-is s = refl

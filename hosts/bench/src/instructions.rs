@@ -3,6 +3,7 @@
 use crate::cases::{self, Case};
 use crate::measured::{self, Answer, Side};
 use crate::times;
+use crate::typed::{self, Lent, Typed};
 use cordbasin::Tables;
 use std::path::Path;
 use std::process::Command;
@@ -17,27 +18,46 @@ pub fn print() -> Result<(), String> {
     for case in cases::all() {
         let steps = run(&case, Side::Proved, &mut case.tables.clone()).2;
         let (unit, units) = times::unit(&case, steps);
-        let here = count(&case, Side::Proved)? / units;
-        let there = count(&case, Side::Independent)? / units;
-        let (title, ratio) = (case.title, there / here);
-        println!("| {title} | {unit} | {here:.0} | {there:.0} | {ratio:.2} |");
+        row(case.name, case.title, unit, units)?;
+    }
+    for text in typed::all() {
+        row(text.name, text.title, "byte", text.text.len() as f64)?;
     }
     println!("\nLoops end after {MOST_STEPS} steps.");
     Ok(())
 }
 
-/// Runs a case once or twice, for valgrind.
+fn row(name: &str, title: &str, unit: &str, units: f64) -> Result<(), String> {
+    let here = count(name, Side::Proved)? / units;
+    let there = count(name, Side::Independent)? / units;
+    let ratio = there / here;
+    println!("| {title} | {unit} | {here:.0} | {there:.0} | {ratio:.2} |");
+    Ok(())
+}
+
+/// Runs a case or reads a text once or twice, for valgrind.
 pub fn some(name: &str, side: &str, runs: usize) -> Result<(), String> {
+    let side = Side::BOTH.into_iter().find(|own| own.name() == side);
+    let side = side.ok_or("there is no such program")?;
+    if let Some(text) = typed::all().iter().find(|text| text.name == name) {
+        some_read(text, side, runs);
+        return Ok(());
+    }
     let mut cases = cases::all().into_iter();
     let case = cases.find(|case| case.name == name);
     let case = case.ok_or(format!("there is no case {name}"))?;
-    let side = Side::BOTH.into_iter().find(|own| own.name() == side);
-    let side = side.ok_or("there is no such program")?;
     let mut tables = vec![case.tables.clone(); 2];
     for tables in tables.iter_mut().take(runs) {
         std::hint::black_box(run(&case, side, tables));
     }
     Ok(())
+}
+
+fn some_read(text: &Typed, side: Side, runs: usize) {
+    let mut lent = vec![Lent::fresh(); 2];
+    for lent in lent.iter_mut().take(runs) {
+        std::hint::black_box(typed::read(side, text, lent));
+    }
 }
 
 fn run(case: &Case, side: Side, tables: &mut Tables) -> Answer {
@@ -47,25 +67,25 @@ fn run(case: &Case, side: Side, tables: &mut Tables) -> Answer {
 /// The instructions of one run: what a process of two has more than one of one.
 /// Callgrind does not see every return on every machine, so that whole
 /// processes are counted and not the call.
-fn count(case: &Case, side: Side) -> Result<f64, String> {
-    Ok(process(case, side, 2)? - process(case, side, 1)?)
+fn count(name: &str, side: Side) -> Result<f64, String> {
+    Ok(process(name, side, 2)? - process(name, side, 1)?)
 }
 
 /// The instructions of a process, from the summary of callgrind's file.
-fn process(case: &Case, side: Side, runs: usize) -> Result<f64, String> {
+fn process(case: &str, side: Side, runs: usize) -> Result<f64, String> {
     let own = std::env::current_exe().map_err(|error| error.to_string())?;
-    let name = format!("callgrind-{}-{}-{runs}.out", case.name, side.name());
+    let name = format!("callgrind-{case}-{}-{runs}.out", side.name());
     let file = own.parent().unwrap_or(Path::new(".")).join(name);
     let output = Command::new("valgrind")
         .arg("--tool=callgrind")
         .arg(format!("--callgrind-out-file={}", file.display()))
         .arg(&own)
-        .args(["some", case.name, side.name(), &runs.to_string()])
+        .args(["some", case, side.name(), &runs.to_string()])
         .output()
         .map_err(|error| format!("valgrind: {error}"))?;
     if !output.status.success() {
         let said = String::from_utf8_lossy(&output.stderr);
-        return Err(format!("valgrind on {}: {said}", case.name));
+        return Err(format!("valgrind on {case}: {said}"));
     }
     let text = std::fs::read_to_string(&file).map_err(|error| error.to_string())?;
     let mut lines = text.lines();

@@ -5,6 +5,7 @@ mod clock;
 mod instructions;
 mod measured;
 mod times;
+mod typed;
 mod written;
 
 use std::process::ExitCode;

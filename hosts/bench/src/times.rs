@@ -2,34 +2,47 @@
 
 use crate::cases::{self, Case};
 use crate::measured::{self, Side};
+use crate::typed;
 
 /// Times each case on both programs in turn, as often as said, and prints the
 /// medians.
 pub fn print(repetitions: usize) -> Result<(), String> {
-    let cases = cases::all();
+    let (cases, texts) = (cases::all(), typed::all());
     cases.iter().try_for_each(measured::agree)?;
-    let mut seen = vec![[Vec::new(), Vec::new()]; cases.len()];
-    for repetition in 0..repetitions {
-        for (case, seen) in cases.iter().zip(&mut seen) {
-            // Each program goes first every other time.
-            for turn in [repetition % 2, 1 - repetition % 2] {
-                seen[turn].push(measured::time(Side::BOTH[turn], case));
-            }
-        }
-    }
+    texts.iter().try_for_each(typed::agree)?;
+    let seen = timed(&cases, repetitions, measured::time);
+    let read = timed(&texts, repetitions, typed::time);
     println!("| Case | Unit | Here, ns | reference/, ns | Ratio |");
     println!("|---|---|---:|---:|---:|");
-    for (case, [proved, independent]) in cases.iter().zip(seen) {
+    for (case, seen) in cases.iter().zip(seen) {
         let (unit, units) = unit(case, case.steps);
-        let (here, there) = (median(proved) / units, median(independent) / units);
-        let ratio = there / here;
-        println!(
-            "| {} | {unit} | {here:.1} | {there:.1} | {ratio:.2} |",
-            case.title
-        );
+        row(case.title, unit, units, seen);
+    }
+    for (text, seen) in texts.iter().zip(read) {
+        row(text.title, "byte", text.text.len() as f64, seen);
     }
     println!("\nMedians of {repetitions} repetitions.");
     Ok(())
+}
+
+/// The times of each case on both programs, of which each goes first every
+/// other time.
+fn timed<T>(cases: &[T], repetitions: usize, time: fn(Side, &T) -> f64) -> Vec<[Vec<f64>; 2]> {
+    let mut seen = vec![[Vec::new(), Vec::new()]; cases.len()];
+    for repetition in 0..repetitions {
+        for (case, seen) in cases.iter().zip(&mut seen) {
+            for turn in [repetition % 2, 1 - repetition % 2] {
+                seen[turn].push(time(Side::BOTH[turn], case));
+            }
+        }
+    }
+    seen
+}
+
+fn row(title: &str, unit: &str, units: f64, [proved, independent]: [Vec<f64>; 2]) {
+    let (here, there) = (median(proved) / units, median(independent) / units);
+    let ratio = there / here;
+    println!("| {title} | {unit} | {here:.1} | {there:.1} | {ratio:.2} |");
 }
 
 /// What is counted, and how many there are in a run of so many steps.

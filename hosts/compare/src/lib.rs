@@ -9,6 +9,7 @@ pub mod independent;
 pub mod limits;
 pub mod lister;
 pub mod lists;
+pub mod notation;
 pub mod proved;
 pub mod sheets;
 pub mod tables;

@@ -1,12 +1,12 @@
 //! The command line of the comparison.
 
 use compare::comparison::{self, Stop};
-use compare::{expressions, lister, sheets};
+use compare::{expressions, lister, notation, sheets};
 use std::fmt::Display;
 use std::process::ExitCode;
 use std::time::Instant;
 
-const USAGE: &str = "usage: compare reader|expressions|sheets|lister SEED COUNT";
+const USAGE: &str = "usage: compare reader|expressions|sheets|lister|notation SEED COUNT";
 
 fn main() -> ExitCode {
     let arguments: Vec<String> = std::env::args_os()
@@ -20,6 +20,7 @@ fn main() -> ExitCode {
             ("expressions", Ok(seed), Ok(count)) => report(|| expressions::compare(seed, count)),
             ("sheets", Ok(seed), Ok(count)) => report(|| sheets::compare(seed, count)),
             ("lister", Ok(seed), Ok(count)) => report(|| lister::compare(seed, count)),
+            ("notation", Ok(seed), Ok(count)) => report(|| notation::compare(seed, count)),
             _ => usage(),
         },
         _ => usage(),

@@ -22,7 +22,8 @@ pub struct Answer<'p> {
     pub unread: &'p [i32],
 }
 
-/// How a run ended, under document 01's numbers. Prints as what it says.
+/// How a run ended, under document 01's numbers, or how a text was read, which
+/// is 0, 1 or 20 to 22. Prints as what it says.
 ///
 /// 1 to 4 are tried in their order; they cost no steps, accept no proposal and
 /// change no table. From 5 on the place is the word of the refused statement
@@ -74,11 +75,18 @@ pub enum Outcome {
     NeedlessChange = 18,
     /// A required part is not met after the proposal.
     RequiredUnmet = 19,
+    /// A text's token may not stand there, or begins no token. The place of
+    /// this and of the next two is the token's first byte.
+    UnfitText = 20,
+    /// A text's name is the 65th variable or the 33rd label.
+    TooManyNames = 21,
+    /// A text's token passes a limit, or byte 65,536.
+    OverLimit = 22,
 }
 
 impl Outcome {
     /// Every outcome, each at its number.
-    pub const ALL: [Outcome; 20] = [
+    pub const ALL: [Outcome; 23] = [
         Outcome::Finished,
         Outcome::WrongSize,
         Outcome::UnfitProgram,
@@ -99,20 +107,23 @@ impl Outcome {
         Outcome::UnfitEntry,
         Outcome::NeedlessChange,
         Outcome::RequiredUnmet,
+        Outcome::UnfitText,
+        Outcome::TooManyNames,
+        Outcome::OverLimit,
     ];
 
-    /// Document 01's number, 0 to 19.
+    /// Its number, 0 to 22.
     pub fn number(self) -> i32 {
         self as i32
     }
 
-    /// The outcome of a number from 0 to 19.
+    /// The outcome of a number from 0 to 22.
     pub fn of_number(number: i32) -> Option<Outcome> {
         let place = usize::try_from(number).ok()?;
         Outcome::ALL.get(place).copied()
     }
 
-    /// What document 01 says of it.
+    /// What the documents say of it.
     pub fn says(self) -> &'static str {
         match self {
             Outcome::Finished => "finished",
@@ -139,6 +150,9 @@ impl Outcome {
             Outcome::UnfitEntry => "an entry names a cell or payload it may not",
             Outcome::NeedlessChange => "needless change",
             Outcome::RequiredUnmet => "a required part is not met",
+            Outcome::UnfitText => "text unfit",
+            Outcome::TooManyNames => "too many names",
+            Outcome::OverLimit => "over 64 KiB or a limit",
         }
     }
 }

@@ -1,4 +1,4 @@
-//! The call of libcordbasin.a, made safe.
+//! The calls of libcordbasin.a, made safe.
 
 use crate::answer::{Answer, Outcome};
 use crate::tables::Tables;
@@ -8,6 +8,9 @@ pub const LARGEST_BUDGET: i32 = 1_000_000;
 
 /// The most words that a program may have.
 pub const LONGEST_PROGRAM: usize = 4096;
+
+/// Words of a table of names: place and length of 64 variables and 32 labels.
+pub const NAMES_WORDS: usize = 192;
 
 extern "C" {
     fn cordbasin_run(
@@ -22,6 +25,18 @@ extern "C" {
         proposals: *const i32,
         proposals_words: usize,
         budget: i32,
+        answer: *mut [i32; 4],
+    ) -> usize;
+
+    fn cordbasin_read(
+        text: *const u8,
+        text_bytes: usize,
+        program: *mut i32,
+        program_words: usize,
+        origins: *mut i32,
+        origins_words: usize,
+        names: *mut i32,
+        names_words: usize,
         answer: *mut [i32; 4],
     ) -> usize;
 }
@@ -94,5 +109,63 @@ fn typed(
         steps: u32::try_from(steps).ok()?,
         accepted: u32::try_from(accepted).ok()?,
         unread: proposals.get(read..)?,
+    })
+}
+
+/// What reading a text gives beside the slices that it writes.
+#[derive(Clone, Copy, Debug, PartialEq, Eq)]
+pub struct Reading {
+    /// How the text was read.
+    pub outcome: Outcome,
+    /// The text's length, or the byte at which it was refused.
+    pub place: usize,
+    /// How many words the program has.
+    pub words: usize,
+    /// How many variables have names.
+    pub variables: usize,
+    /// How many labels have names.
+    pub labels: usize,
+}
+
+/// Reads a text into slices that the host keeps: the program's words, for each
+/// the place of the token that it comes from, and the table of names. A slice
+/// of another length than 4,096, 4,096 and 192 words is refused with
+/// [`Outcome::WrongSize`]. No refusal writes to them.
+///
+/// [`Program::read`](crate::Program::read) keeps them itself.
+pub fn read_words(
+    text: &[u8],
+    program: &mut [i32],
+    origins: &mut [i32],
+    names: &mut [i32],
+) -> Reading {
+    let mut answer = [-1; 4];
+    // SAFETY: as in `run_words`.
+    let words = unsafe {
+        cordbasin_read(
+            text.as_ptr(),
+            text.len(),
+            program.as_mut_ptr(),
+            program.len(),
+            origins.as_mut_ptr(),
+            origins.len(),
+            names.as_mut_ptr(),
+            names.len(),
+            &mut answer,
+        )
+    };
+    match told(answer, words) {
+        Some(reading) => reading,
+        None => panic!("libcordbasin.a gave {answer:?} and {words} words"),
+    }
+}
+
+fn told([outcome, place, variables, labels]: [i32; 4], words: usize) -> Option<Reading> {
+    Some(Reading {
+        outcome: Outcome::of_number(outcome)?,
+        place: usize::try_from(place).ok()?,
+        words: Some(words).filter(|words| *words <= LONGEST_PROGRAM)?,
+        variables: usize::try_from(variables).ok()?,
+        labels: usize::try_from(labels).ok()?,
     })
 }

@@ -3,50 +3,55 @@
 //! move the others; a proposal is taken only where every required constraint
 //! holds afterwards.
 //!
-//! [`run`] takes a program, [`Tables`], proposals and a budget, and gives an
-//! [`Answer`]. The work is done by `libcordbasin.a`, each function of which is
-//! proved to meet its contract; this crate is not proved. It links that
-//! archive, which `tools/native cordbasin` writes, and has no dependencies.
-//! A run allocates nothing and keeps nothing, so that two threads may run on
-//! tables of their own.
+//! [`Program::read`] reads a sheet as it is typed. [`run`] takes a program's
+//! words, [`Tables`], proposals and a budget, and gives an [`Answer`]. The work
+//! is done by `libcordbasin.a`, each function of which is proved to meet its
+//! contract; this crate is not proved. It links that archive, which
+//! `tools/native cordbasin` writes, and has no dependencies. A call allocates
+//! nothing and keeps nothing, so that two threads may run on tables of their
+//! own.
 //!
 //! # Example
 //!
-//! The sheet
-//!
-//! ```text
-//! x := new {bytes: 64, samples: 16}
-//! always required x.bytes = 4 * x.samples
-//! x.samples := 32
 //! ```
+//! use cordbasin::{run, Outcome, Program, Tables, Value};
 //!
-//! with `x` variable 0, `bytes` label 0 and `samples` label 1:
-//!
-//! ```
-//! use cordbasin::{run, Outcome, Tables, Value};
-//!
-//! let program = [
-//!     3, // statements
-//!     2, 0, 2, 0, 23, 64, 1, 23, 16, // new
-//!     3, 1, 3, 25, 6, 24, 0, 1, 0, 25, 3, 23, 4, 24, 0, 1, 1, // always
-//!     1, 0, 1, 1, 23, 32, // assign
-//! ];
+//! let program = Program::read(
+//!     "x := new {bytes: 64, samples: 16};
+//!      always required x.bytes = 4 * x.samples;
+//!      x.samples := 32",
+//! )?;
 //! // No change, no change, and 128 for location 64, the first field of record 0.
 //! let proposals = [0, 0, 1, 64, 128];
 //! let mut tables = Tables::fresh();
 //!
-//! let answer = run(&program, &mut tables, &proposals, 100);
+//! let answer = run(program.words(), &mut tables, &proposals, 100);
 //!
 //! assert_eq!(answer.outcome, Outcome::Finished);
 //! assert_eq!((answer.steps, answer.accepted), (3, 3));
 //! assert!(answer.unread.is_empty());
+//! // x is variable 0, bytes label 0 and samples label 1: by first appearance.
+//! assert_eq!(program.variable("x"), Some(0));
 //! assert_eq!(tables.variable(0), Some(Value::Ref(0)));
 //! assert_eq!(tables.field(0, 1), Some(Value::Int(32)));
 //! assert_eq!(tables.at(0, &[0]), Some(Value::Int(128)));
 //! assert_eq!(tables.to_string(), "v0=ref 0\nr0=2\nr0.0=int 128\nr0.1=int 32\nc0=10\n");
+//! # Ok::<(), cordbasin::Refusal>(())
 //! ```
 //!
-//! A refusal names the statement and says what was the matter. The tables
+//! A text that is no program is refused with a place, and prints so that the
+//! typist sees it:
+//!
+//! ```
+//! let refusal = cordbasin::Program::read("x := 1;\nx := new {a: 1;}").unwrap_err();
+//!
+//! assert_eq!(refusal.outcome, cordbasin::Outcome::UnfitText);
+//! assert_eq!(refusal.to_string(), "20 at line 2, column 15: text unfit
+//! x := new {a: 1;}
+//!               ^");
+//! ```
+//!
+//! A run's refusal names the statement and says what was the matter. The tables
 //! hold what the last accepted statement left, and the proposal that was
 //! turned down is unread:
 //!
@@ -67,8 +72,11 @@
 
 mod answer;
 mod call;
+mod program;
 mod tables;
 
 pub use answer::{Answer, Outcome};
-pub use call::{run, run_words, LARGEST_BUDGET, LONGEST_PROGRAM};
+pub use call::{read_words, run, run_words, Reading};
+pub use call::{LARGEST_BUDGET, LONGEST_PROGRAM, NAMES_WORDS};
+pub use program::{Program, Refusal, Spot};
 pub use tables::{Tables, Value, CONSTRAINTS_WORDS, ENVIRONMENT_WORDS, HEAP_WORDS};

@@ -1,4 +1,3 @@
-use borrow.Author.Needs.{needs}
 use borrow.Author.Tests.{lt-ltb, le-ltb}
 use Rattle.text.specs.Told.{atMost}
 use Rattle.text.proofs.naming.at_most.Statement.{statement}

@@ -1,6 +1,4 @@
-use mathlib.Core.Path.{sym, _∙_}
 use Prim.Native.Nat.{_-_}
-use native.Mathlib.Omega.{arith}
 use borrow.Author.Needs.{needs}
 use borrow.Author.Tests.{lt-ltb, le-ltb}
 use lib.ListN.{length}
@@ -34,7 +32,10 @@ shared-slice-read-if2 c = search needs
 
 -- src/naming.rt:101:13
 returns-2 : tie.Need-returns-2 Inv-loop μ-loop
-returns-2 c = rw (lt-ltb (c .before .before .before .before .before .args .number) (c .before .before .before .before .before .args .count) (c .before .before .before .before .if1 .left)) (among-hits (c .before .before .before .loop .inv) (c .before .before .loop-test .taken) (c .if2 .taken))
+returns-2 c =
+    let b = c .before .before .before .before in
+    let a = b .before .args in
+    rw (lt-ltb (a .number) (a .count) (b .if1 .left)) (among-hits (c .before .before .before .loop .inv) (c .before .before .loop-test .taken) (c .if2 .taken))
 
 -- src/naming.rt:103:9
 add-i : tie.Need-add-i Inv-loop μ-loop

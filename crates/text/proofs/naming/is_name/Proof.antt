@@ -22,7 +22,9 @@ less-requires c κs = search needs
 
 -- src/naming.rt:45:9
 returns : tie.Need-returns
-returns c = other-name (c .before .before .before .before .before .args .text .now) (c .before .before .before .before .before .args .names .now) (c .before .before .before .before .before .args .i) (c .before .before .before .before .before .args .t) (c .before .before .word .ensures) (c .before .less .ensures) (c .if1 .taken)
+returns c =
+    let a = c .before .before .before .before .before .args in
+    other-name (a .text .now) (a .names .now) (a .i) (a .t) (c .before .before .word .ensures) (c .before .less .ensures) (c .if1 .taken)
 
 -- src/naming.rt:47:31
 word-requires-2 : tie.Need-word-requires-2
@@ -34,7 +36,11 @@ same-requires c κs = search needs
 
 -- src/naming.rt:39:1
 returns-2 : tie.Need-returns-2
-returns-2 c = that-name (c .before .before .before .before .before .before .before .args .text .now) (c .before .before .before .before .before .before .before .args .names .now) (c .before .before .before .before .before .before .before .args .i) (c .before .before .before .before .before .before .before .args .t) (c .before .before .before .before .word .ensures) (c .before .before .before .less .ensures) (c .before .before .if1 .left) (c .before .word2 .ensures) (c .same .ensures)
+returns-2 c =
+    let b = c .before .before .before .before in
+    let a = b .before .before .before .args in
+    that-name (a .text .now) (a .names .now) (a .i) (a .t) (b .word .ensures) (c .before .before .before .less .ensures) (c .before .before .if1 .left) (c .before .word2 .ensures)
+    (c .same .ensures)
 
 pub is-name-spec : {M : Type 1} → statement M
 is-name-spec =

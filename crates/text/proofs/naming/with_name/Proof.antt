@@ -44,7 +44,11 @@ same-length c = search needs
 
 -- src/naming.rt:67:1
 returns-2 : tie.Need-returns-2
-returns-2 c = table-with (c .before .before .before .before .before .before .before .before .before .before .before .args .names .now) (c .before .before .before .before .before .before .before .before .before .before .before .args .from) (c .before .before .before .before .before .before .before .before .before .before .before .args .count) (c .before .before .before .before .before .before .before .before .before .before .before .args .number) (c .before .before .before .before .before .before .before .before .before .before .before .args .t) (c .before .before .before .before .before .before .before .before .before .if1 .left) (c .before .before .before .before .before .before .before .put .ensures) (c .before .before .before .less .ensures) (c .before .before .put2 .ensures)
+returns-2 c =
+    let b = c .before .before .before .before .before .before .before in
+    let a = b .before .before .before .before .args in
+    table-with (a .names .now) (a .from) (a .count) (a .number) (a .t) (b .before .before .if1 .left) (b .put .ensures) (c .before .before .before .less .ensures)
+    (c .before .before .put2 .ensures)
 
 pub with-name-spec : {M : Type 1} → statement M
 with-name-spec =

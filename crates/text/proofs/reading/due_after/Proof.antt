@@ -1,4 +1,3 @@
-use borrow.Author.Needs.{needs}
 use mathlib.Core.Path.{refl}
 use Rattle.text.specs.Reading.{dueAfter}
 use Rattle.text.proofs.reading.due_after.Statement.{statement}

@@ -1,5 +1,4 @@
 use native.Mathlib.Omega.{arith}
-use mathlib.Core.Path.{_≡_}
 use Rattle.text.proofs.ToldLaws.{room-passed, room-is, room-none}
 use borrow.Author.Needs.{needs}
 use Rattle.text.proofs.reading.has_room.Statement.{statement}
@@ -33,7 +32,10 @@ add-result-2 c = search needs
 
 -- src/reading.rt:65:1
 returns-5 : tie.Need-returns-5
-returns-5 c = room-is (c .before .before .before .before .before .before .before .args .r) (c .before .before .before .before .before .before .before .args .k) (c .before .before .before .before .before .before .if1 .left)
+returns-5 c =
+    let b = c .before .before .before .before .before .before in
+    let a = b .before .args in
+    room-is (a .r) (a .k) (b .if1 .left)
 
 pub has-room-spec : {M : Type 1} → statement M
 has-room-spec =

@@ -32,7 +32,11 @@ refused-requires c κs = search needs
 
 -- src/reading.rt:202:9
 returns-2 : tie.Need-returns-2
-returns-2 c = label-unnamed (c .before .before .before .before .before .before .before .before .before .args .text .now) (c .before .before .before .before .before .before .before .before .before .args .names .now) (c .before .before .before .before .before .before .before .before .before .args .r) (c .before .before .before .peek .result) (c .before .before .before .before .if1 .left) (c .before .before .before .peek .ensures) (c .before .before .before .before .before .before .before .before .before .args .seen .now) (c .before .if2 .taken) (c .refused .ensures)
+returns-2 c =
+    let b = c .before .before .before .before in
+    let a = b .before .before .before .before .before .args in
+    label-unnamed (a .text .now) (a .names .now) (a .r) (c .before .before .before .peek .result) (b .if1 .left) (c .before .before .before .peek .ensures) (a .seen .now)
+    (c .before .if2 .taken) (c .refused .ensures)
 
 -- src/reading.rt:204:9
 at-most-requires : tie.Need-at-most-requires
@@ -56,7 +60,12 @@ same-length c = search needs
 
 -- src/reading.rt:207:9
 returns-3 : tie.Need-returns-3
-returns-3 c = label-seen (c .before .before .before .before .before .before .before .before .before .before .before .before .before .before .args .text .now) (c .before .before .before .before .before .before .before .before .before .before .before .before .before .before .args .names .now) (c .before .before .before .before .before .before .before .before .before .before .before .before .before .before .args .r) (c .before .before .before .before .before .before .before .before .peek .result) (c .before .before .before .before .before .before .before .before .before .if1 .left) (c .before .before .before .before .before .before .before .before .peek .ensures) (c .before .before .before .before .before .before .if2 .left) (c .before .before .before .before .before .at-most .ensures) (c .before .before .before .number-in .ensures) (c .before .before .before .before .before .before .before .before .before .before .before .before .before .before .args .seen .now) (sym (c .before .before .is-among .ensures) ∙ c .before .if3 .taken) (c .refused2 .ensures)
+returns-3 c =
+    let b = c .before .before .before .before .before in
+    let d = b .before .before .before .before in
+    let a = d .before .before .before .before .before .args in
+    label-seen (a .text .now) (a .names .now) (a .r) (b .before .before .before .peek .result) (d .if1 .left) (b .before .before .before .peek .ensures) (b .before .if2 .left)
+    (b .at-most .ensures) (c .before .before .before .number-in .ensures) (a .seen .now) (sym (c .before .before .is-among .ensures) ∙ c .before .if3 .taken) (c .refused2 .ensures)
 
 -- src/reading.rt:210:9
 refused-at-requires : tie.Need-refused-at-requires
@@ -68,7 +77,12 @@ same-length-2 c = search needs
 
 -- src/reading.rt:210:9
 returns-4 : tie.Need-returns-4
-returns-4 c = label-full (c .before .before .before .before .before .before .before .before .before .before .before .before .before .before .before .args .text .now) (c .before .before .before .before .before .before .before .before .before .before .before .before .before .before .before .args .names .now) (c .before .before .before .before .before .before .before .before .before .before .before .before .before .before .before .args .r) (c .before .before .before .before .before .before .before .before .before .peek .result) (c .before .before .before .before .before .before .before .before .before .before .if1 .left) (c .before .before .before .before .before .before .before .before .before .peek .ensures) (c .before .before .before .before .before .before .before .if2 .left) (c .before .before .before .before .before .before .at-most .ensures) (c .before .before .before .before .number-in .ensures) (c .before .before .before .before .before .before .before .before .before .before .before .before .before .before .before .args .seen .now) (sym (c .before .before .before .is-among .ensures) ∙ c .before .before .if3 .left) (c .before .if4 .taken) (c .refused-at .ensures)
+returns-4 c =
+    let b = c .before .before .before .before in
+    let d = b .before .before .before .before .before in
+    let a = d .before .before .before .before .before .before .args in
+    label-full (a .text .now) (a .names .now) (a .r) (d .peek .result) (d .before .if1 .left) (d .peek .ensures) (b .before .before .before .if2 .left) (b .before .before .at-most .ensures)
+    (b .number-in .ensures) (a .seen .now) (sym (c .before .before .before .is-among .ensures) ∙ c .before .before .if3 .left) (c .before .if4 .taken) (c .refused-at .ensures)
 
 -- src/reading.rt:212:9
 taken-requires : tie.Need-taken-requires
@@ -80,15 +94,28 @@ same-length-3 c = search needs
 
 -- src/reading.rt:214:9
 returns-5 : tie.Need-returns-5
-returns-5 c = label-stopped (c .before .before .before .before .before .before .before .before .before .before .before .before .before .before .before .before .before .args .text .now) (c .before .before .before .before .before .before .before .before .before .before .before .before .before .before .before .before .before .args .names .now) (c .before .before .before .before .before .before .before .before .before .before .before .before .before .before .before .before .before .args .r) (c .before .before .before .before .before .before .before .before .before .before .before .peek .result) (c .before .before .before .before .before .before .before .before .before .before .before .before .if1 .left) (c .before .before .before .before .before .before .before .before .before .before .before .peek .ensures) (c .before .before .before .before .before .before .before .before .before .if2 .left) (c .before .before .before .before .before .before .before .before .at-most .ensures) (c .before .before .before .before .before .before .number-in .ensures) (c .before .before .before .before .before .before .before .before .before .before .before .before .before .before .before .before .before .args .seen .now) (sym (c .before .before .before .before .before .is-among .ensures) ∙ c .before .before .before .before .if3 .left) (c .before .before .before .if4 .left) (c .before .before .taken .ensures) (c .if5 .taken)
+returns-5 c =
+    let b = c .before .before .before .before in
+    let d = b .before .before .before .before in
+    let e = d .before .before .before .before in
+    let a = e .before .before .before .before .before .args in
+    label-stopped (a .text .now) (a .names .now) (a .r) (d .before .before .before .peek .result) (e .if1 .left) (d .before .before .before .peek .ensures) (d .before .if2 .left)
+    (d .at-most .ensures) (b .before .before .number-in .ensures) (a .seen .now) (sym (b .before .is-among .ensures) ∙ b .if3 .left) (c .before .before .before .if4 .left)
+    (c .before .before .taken .ensures) (c .if5 .taken)
 
 -- src/reading.rt:216:5
 with-name-requires : tie.Need-with-name-requires
-with-name-requires c κs = (omega arith, omega (arith, c .before .before .before .before .before .before .before .before .before .at-most .ensures, most-small 32 (c .before .before .before .before .before .before .before .before .before .before .before .before .before .before .before .before .before .before .args .r .labels)))
+with-name-requires c κs =
+    let b = c .before .before .before .before .before .before .before .before .before in
+    let a = b .before .before .before .before .before .before .before .before .before .args in
+    (omega arith, omega (arith, b .at-most .ensures, most-small 32 (a .r .labels)))
 
 -- src/reading.rt:217:20
 count-with-requires : tie.Need-count-with-requires
-count-with-requires c κs = omega (arith, c .before .before .before .before .before .before .before .before .before .before .before .before .at-most .ensures, most-small 32 (c .before .before .before .before .before .before .before .before .before .before .before .before .before .before .before .before .before .before .before .before .before .args .r .labels))
+count-with-requires c κs =
+    let b = c .before .before .before .before .before .before .before .before .before .before .before .before in
+    let a = b .before .before .before .before .before .before .before .before .before .args in
+    omega (arith, b .at-most .ensures, most-small 32 (a .r .labels))
 
 -- src/reading.rt:217:5
 named-label-requires : tie.Need-named-label-requires
@@ -100,7 +127,15 @@ same-length-4 c = search needs
 
 -- src/reading.rt:194:1
 returns-6 : tie.Need-returns-6
-returns-6 c = label-named (c .before .before .before .before .before .before .before .before .before .before .before .before .before .before .before .before .before .before .before .before .before .before .before .args .text .now) (c .before .before .before .before .before .before .before .before .before .before .before .before .before .before .before .before .before .before .before .before .before .before .before .args .names .now) (c .before .before .before .before .before .before .before .before .before .before .before .before .before .before .before .before .before .before .before .before .before .before .before .args .r) (c .before .before .before .before .before .before .before .before .before .before .before .before .before .before .before .before .before .peek .result) (c .before .before .before .before .before .before .before .before .before .before .before .before .before .before .before .before .before .before .if1 .left) (c .before .before .before .before .before .before .before .before .before .before .before .before .before .before .before .before .before .peek .ensures) (c .before .before .before .before .before .before .before .before .before .before .before .before .before .before .before .if2 .left) (c .before .before .before .before .before .before .before .before .before .before .before .before .before .before .at-most .ensures) (c .before .before .before .before .before .before .before .before .before .before .before .before .number-in .ensures) (c .before .before .before .before .before .before .before .before .before .before .before .before .before .before .before .before .before .before .before .before .before .before .before .args .seen .now) (sym (c .before .before .before .before .before .before .before .before .before .before .before .is-among .ensures) ∙ c .before .before .before .before .before .before .before .before .before .before .if3 .left) (c .before .before .before .before .before .before .before .before .before .if4 .left) (c .before .before .before .before .before .before .before .before .taken .ensures) (c .before .before .before .before .before .before .if5 .left) (c .before .before .before .before .with-name .ensures) (c .before .count-with .ensures) (c .named-label .ensures)
+returns-6 c =
+    let b = c .before .before .before .before in
+    let d = b .before .before .before .before in
+    let e = d .before .before .before .before in
+    let f = e .before .before .before .before .before in
+    let a = f .before .before .before .before .before .before .args in
+    label-named (a .text .now) (a .names .now) (a .r) (f .peek .result) (f .before .if1 .left) (f .peek .ensures) (e .before .before .before .if2 .left) (e .before .before .at-most .ensures)
+    (e .number-in .ensures) (a .seen .now) (sym (d .before .before .before .is-among .ensures) ∙ d .before .before .if3 .left) (d .before .if4 .left) (d .taken .ensures)
+    (b .before .before .if5 .left) (b .with-name .ensures) (c .before .count-with .ensures) (c .named-label .ensures)
 
 pub label-spec : {M : Type 1} → statement M
 label-spec =

@@ -22,7 +22,11 @@ refused-requires c κs = search needs
 
 -- src/reading.rt:125:9
 returns-2 : tie.Need-returns-2
-returns-2 c = need-refused (c .before .before .before .before .before .before .before .args .text .now) (c .before .before .before .before .before .before .before .args .r) (c .before .before .before .peek .result) (c .before .before .before .before .before .before .before .args .k) (c .before .before .before .before .if1 .left) (c .before .before .before .peek .ensures) (c .before .before .before .before .before .before .before .args .c) (c .before .if2 .taken) (c .refused .ensures)
+returns-2 c =
+    let b = c .before .before .before .before in
+    let a = b .before .before .before .args in
+    need-refused (a .text .now) (a .r) (c .before .before .before .peek .result) (a .k) (b .if1 .left) (c .before .before .before .peek .ensures) (a .c) (c .before .if2 .taken)
+    (c .refused .ensures)
 
 -- src/reading.rt:127:5
 taken-requires : tie.Need-taken-requires
@@ -30,7 +34,11 @@ taken-requires c κs = search needs
 
 -- src/reading.rt:117:1
 returns-3 : tie.Need-returns-3
-returns-3 c = need-taken (c .before .before .before .before .before .before .before .args .text .now) (c .before .before .before .before .before .before .before .args .r) (c .before .before .before .peek .result) (c .before .before .before .before .before .before .before .args .k) (c .before .before .before .before .if1 .left) (c .before .before .before .peek .ensures) (c .before .before .before .before .before .before .before .args .c) (c .before .if2 .left) (c .taken .ensures)
+returns-3 c =
+    let b = c .before .before .before .before in
+    let a = b .before .before .before .args in
+    need-taken (a .text .now) (a .r) (c .before .before .before .peek .result) (a .k) (b .if1 .left) (c .before .before .before .peek .ensures) (a .c) (c .before .if2 .left)
+    (c .taken .ensures)
 
 pub need-spec : {M : Type 1} → statement M
 need-spec =

@@ -21,7 +21,9 @@ taken-requires c κs = search needs
 
 -- src/reading.rt:107:1
 returns-2 : tie.Need-returns-2
-returns-2 c = take-follows (c .before .before .before .before .before .args .text .now) (c .before .before .before .before .before .args .r) (c .before .peek .result) (c .before .before .before .before .before .args .k) (c .before .before .if1 .left) (c .before .peek .ensures) (c .taken .ensures)
+returns-2 c =
+    let a = c .before .before .before .before .before .args in
+    take-follows (a .text .now) (a .r) (c .before .peek .result) (a .k) (c .before .before .if1 .left) (c .before .peek .ensures) (c .taken .ensures)
 
 pub take-spec : {M : Type 1} → statement M
 take-spec = tie.close (tie.spec returns peek-requires taken-requires returns-2)

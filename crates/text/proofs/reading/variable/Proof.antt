@@ -30,7 +30,11 @@ refused-requires c κs = search needs
 
 -- src/reading.rt:138:9
 returns-2 : tie.Need-returns-2
-returns-2 c = variable-unnamed (c .before .before .before .before .before .before .before .before .args .text .now) (c .before .before .before .before .before .before .before .before .args .names .now) (c .before .before .before .before .before .before .before .before .args .r) (c .before .before .before .peek .result) (c .before .before .before .before .if1 .left) (c .before .before .before .peek .ensures) (c .before .before .before .before .before .before .before .before .args .k) (c .before .if2 .taken) (c .refused .ensures)
+returns-2 c =
+    let b = c .before .before .before .before in
+    let a = b .before .before .before .before .args in
+    variable-unnamed (a .text .now) (a .names .now) (a .r) (c .before .before .before .peek .result) (b .if1 .left) (c .before .before .before .peek .ensures) (a .k) (c .before .if2 .taken)
+    (c .refused .ensures)
 
 -- src/reading.rt:140:9
 at-most-requires : tie.Need-at-most-requires
@@ -50,7 +54,12 @@ same-length c = search needs
 
 -- src/reading.rt:143:9
 returns-3 : tie.Need-returns-3
-returns-3 c = variable-full (c .before .before .before .before .before .before .before .before .before .before .before .before .args .text .now) (c .before .before .before .before .before .before .before .before .before .before .before .before .args .names .now) (c .before .before .before .before .before .before .before .before .before .before .before .before .args .r) (c .before .before .before .before .before .before .before .peek .result) (c .before .before .before .before .before .before .before .before .if1 .left) (c .before .before .before .before .before .before .before .peek .ensures) (c .before .before .before .before .before .if2 .left) (c .before .before .before .before .at-most .ensures) (c .before .before .number-in .ensures) (c .before .before .before .before .before .before .before .before .before .before .before .before .args .k) (c .before .if3 .taken) (c .refused-at .ensures)
+returns-3 c =
+    let b = c .before .before .before .before in
+    let d = b .before .before .before .before in
+    let a = d .before .before .before .before .args in
+    variable-full (a .text .now) (a .names .now) (a .r) (b .before .before .before .peek .result) (d .if1 .left) (b .before .before .before .peek .ensures) (b .before .if2 .left)
+    (b .at-most .ensures) (c .before .before .number-in .ensures) (a .k) (c .before .if3 .taken) (c .refused-at .ensures)
 
 -- src/reading.rt:145:9
 taken-requires : tie.Need-taken-requires
@@ -62,15 +71,26 @@ same-length-2 c = search needs
 
 -- src/reading.rt:147:9
 returns-4 : tie.Need-returns-4
-returns-4 c = variable-stopped (c .before .before .before .before .before .before .before .before .before .before .before .before .before .before .args .text .now) (c .before .before .before .before .before .before .before .before .before .before .before .before .before .before .args .names .now) (c .before .before .before .before .before .before .before .before .before .before .before .before .before .before .args .r) (c .before .before .before .before .before .before .before .before .before .peek .result) (c .before .before .before .before .before .before .before .before .before .before .if1 .left) (c .before .before .before .before .before .before .before .before .before .peek .ensures) (c .before .before .before .before .before .before .before .if2 .left) (c .before .before .before .before .before .before .at-most .ensures) (c .before .before .before .before .number-in .ensures) (c .before .before .before .before .before .before .before .before .before .before .before .before .before .before .args .k) (c .before .before .before .if3 .left) (c .before .before .taken .ensures) (c .if4 .taken)
+returns-4 c =
+    let b = c .before .before .before .before in
+    let d = b .before .before .before .before .before in
+    let a = d .before .before .before .before .before .args in
+    variable-stopped (a .text .now) (a .names .now) (a .r) (d .peek .result) (d .before .if1 .left) (d .peek .ensures) (b .before .before .before .if2 .left)
+    (b .before .before .at-most .ensures) (b .number-in .ensures) (a .k) (c .before .before .before .if3 .left) (c .before .before .taken .ensures) (c .if4 .taken)
 
 -- src/reading.rt:149:5
 with-name-requires : tie.Need-with-name-requires
-with-name-requires c κs = (omega arith, omega (arith, c .before .before .before .before .before .before .before .at-most .ensures, most-small 64 (c .before .before .before .before .before .before .before .before .before .before .before .before .before .before .before .args .r .variables)))
+with-name-requires c κs =
+    let b = c .before .before .before .before .before .before .before in
+    let a = b .before .before .before .before .before .before .before .before .args in
+    (omega arith, omega (arith, b .at-most .ensures, most-small 64 (a .r .variables)))
 
 -- src/reading.rt:150:23
 count-with-requires : tie.Need-count-with-requires
-count-with-requires c κs = omega (arith, c .before .before .before .before .before .before .before .before .before .before .at-most .ensures, most-small 64 (c .before .before .before .before .before .before .before .before .before .before .before .before .before .before .before .before .before .before .args .r .variables))
+count-with-requires c κs =
+    let b = c .before .before .before .before .before .before .before .before .before .before in
+    let a = b .before .before .before .before .before .before .before .before .args in
+    omega (arith, b .at-most .ensures, most-small 64 (a .r .variables))
 
 -- src/reading.rt:150:5
 named-variable-requires : tie.Need-named-variable-requires
@@ -82,7 +102,15 @@ same-length-3 c = search needs
 
 -- src/reading.rt:130:1
 returns-5 : tie.Need-returns-5
-returns-5 c = variable-named (c .before .before .before .before .before .before .before .before .before .before .before .before .before .before .before .before .before .before .before .before .args .text .now) (c .before .before .before .before .before .before .before .before .before .before .before .before .before .before .before .before .before .before .before .before .args .names .now) (c .before .before .before .before .before .before .before .before .before .before .before .before .before .before .before .before .before .before .before .before .args .r) (c .before .before .before .before .before .before .before .before .before .before .before .before .before .before .before .peek .result) (c .before .before .before .before .before .before .before .before .before .before .before .before .before .before .before .before .if1 .left) (c .before .before .before .before .before .before .before .before .before .before .before .before .before .before .before .peek .ensures) (c .before .before .before .before .before .before .before .before .before .before .before .before .before .if2 .left) (c .before .before .before .before .before .before .before .before .before .before .before .before .at-most .ensures) (c .before .before .before .before .before .before .before .before .before .before .number-in .ensures) (c .before .before .before .before .before .before .before .before .before .before .before .before .before .before .before .before .before .before .before .before .args .k) (c .before .before .before .before .before .before .before .before .before .if3 .left) (c .before .before .before .before .before .before .before .before .taken .ensures) (c .before .before .before .before .before .before .if4 .left) (c .before .before .before .before .with-name .ensures) (c .before .count-with .ensures) (c .named-variable .ensures)
+returns-5 c =
+    let b = c .before .before .before .before in
+    let d = b .before .before .before .before in
+    let e = d .before .before .before .before in
+    let f = e .before .before .before .before in
+    let a = f .before .before .before .before .args in
+    variable-named (a .text .now) (a .names .now) (a .r) (e .before .before .before .peek .result) (f .if1 .left) (e .before .before .before .peek .ensures) (e .before .if2 .left)
+    (e .at-most .ensures) (d .before .before .number-in .ensures) (a .k) (d .before .if3 .left) (d .taken .ensures) (b .before .before .if4 .left) (b .with-name .ensures)
+    (c .before .count-with .ensures) (c .named-variable .ensures)
 
 pub variable-spec : {M : Type 1} → statement M
 variable-spec =

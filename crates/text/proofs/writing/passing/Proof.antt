@@ -1,4 +1,3 @@
-use borrow.Author.Needs.{needs}
 use mathlib.Core.Path.{refl}
 use Rattle.text.proofs.WrittenLaws.{passes}
 use Rattle.text.proofs.writing.passing.Statement.{statement}

@@ -1,4 +1,4 @@
-use mathlib.Core.Path.{refl, _∙_}
+use mathlib.Core.Path.{refl}
 use borrow.Author.Tests.{lt-ltb, le-ltb}
 use Rattle.words.proofs.Signed.{back32}
 use Rattle.text.specs.Written.{with1, wroteOne}
@@ -13,7 +13,7 @@ use Rattle.words.proofs.store.Reads as store-reads
 -- src/writing.rt:15:9
 returns : tie.Need-returns
 unfolding with1 wroteOne
-returns c = rw (le-ltb (c .before .before .args .r .written) 4096 (c .if1 .taken)) (refl, (refl, refl))
+returns c = rw (le-ltb (c .before .before .args .r .written) 4100 (c .if1 .taken)) (refl, (refl, refl))
 
 -- src/writing.rt:17:5
 store-requires : tie.Need-store-requires
@@ -38,7 +38,11 @@ same-length-2 c = search needs
 -- src/writing.rt:8:1
 returns-2 : tie.Need-returns-2
 unfolding with1 wroteOne
-returns-2 c = rw (lt-ltb (c .before .before .before .before .before .before .before .before .before .args .r .written) 4096 (c .before .before .before .before .before .before .before .if1 .left)) (rw (back32 (c .before .before .before .before .before .before .before .before .before .args .w) (c .before .before .before .before .before .before .before .before .before .fits .w)) at (c .before .before .before .before .before .store .ensures), (c .before .before .put .ensures, refl))
+returns-2 c =
+    let b = c .before .before .before .before .before in
+    let d = b .before .before .before .before in
+    let a = d .args in
+    rw (lt-ltb (a .r .written) 4100 (b .before .before .if1 .left)) (rw (back32 (a .w) (d .fits .w)) at (b .store .ensures), (c .before .before .put .ensures, refl))
 
 pub write-spec : {M : Type 1} → statement M
 write-spec =

@@ -1,0 +1,130 @@
+// A text: its words, the places that they come from and its names, or a refusal.
+use super::blocks::statements;
+use super::naming::at_most;
+use super::naming::word;
+use super::reading::need;
+use super::reading::peek;
+use super::writing::write;
+use crate::Reader;
+ghost use mathlib.Core.Path.{_≡_};
+ghost use mathlib.Core.List.{[], _∷_};
+ghost use Prim.Native.Nat.{_*_, _≤_, _<_};
+ghost use Rattle.words.specs.Words.{wordOf, cleared};
+ghost use Rattle.text.specs.Pieces.{lent, firstCarried, Whole};
+ghost use Rattle.text.specs.Whole.{answered, toldFrom, sized, read as readBy};
+
+// The reader before the first token, with the outermost n.
+fn first_reader() -> Reader
+    ensures { λ r. ⌜ r ≡ firstCarried ⌝ }
+{
+    Reader {
+        number: 0,
+        place: 0,
+        at: 0,
+        last: tokens::SEMICOLON,
+        certain: 1,
+        owed: 0,
+        passed: false,
+        variables: 0,
+        labels: 0,
+        named: 0,
+        written: 0,
+        depth: 1,
+    }
+}
+
+// The whole text.
+fn text_at(text: &[u8], names: &mut [usize], words: &mut [i32], origins: &mut [usize]) -> Reader
+    ensures { λ s. ⌜ Whole (now (text .entry)) (lent (now (names .entry)) (now (words .entry)) (now (origins .entry))) (lent (now (names .exit)) (now (words .exit)) (now (origins .exit))) s ⌝ }
+{
+    let s = write(words, origins, first_reader(), 0, 0);
+    if peek(text, s).code == tokens::END {
+        return s;
+    }
+    let u = statements(
+        text,
+        names,
+        words,
+        origins,
+        s,
+        0,
+        0,
+        program::BLOCK_DEPTH - 1,
+    );
+    need(text, u, tokens::END, 0)
+}
+
+// The n places from one on, as words.
+fn tell(out: &mut [i32], places: &[usize], at: usize, n: usize)
+    requires { ⌜ at < 8192 ⌝ }
+    requires { ⌜ n < 8192 ⌝ }
+    ensures { λ _. ⌜ now (out .exit) ≡ toldFrom (now (places .entry)) at n (now (out .entry)) ⌝ }
+{
+    let mut i: usize = 0;
+    while i < n {
+        words::store(out, at + i, words::word_of(word(places, at + i)));
+        i += 1;
+    }
+}
+
+// The names of so many variables and labels, as words; the rest is 0.
+fn tell_names(out: &mut [i32], names: &[usize], variables: usize, labels: usize)
+    requires { ⌜ variables ≤ 64 ⌝ }
+    requires { ⌜ labels ≤ 32 ⌝ }
+    ensures { λ _. ⌜ now (out .exit) ≡ toldFrom (now (names .entry)) 128 (2 * labels) (toldFrom (now (names .entry)) 0 (2 * variables) (cleared 0 192 (now (out .entry)))) ⌝ }
+{
+    words::clear(out, 0, crate::NAME_WORDS);
+    tell(out, names, 0, 2 * variables);
+    tell(out, names, crate::FIRST_LABEL, 2 * labels);
+}
+
+// The four words of an answer.
+fn answer_with(answer: &mut [i32; 4], outcome: usize, place: usize, variables: usize, labels: usize)
+    ensures { λ _. ⌜ now (answer .exit) ≡ wordOf outcome ∷ wordOf place ∷ wordOf variables ∷ wordOf labels ∷ [] ⌝ }
+{
+    let a = words::word_of(outcome);
+    let b = words::word_of(place);
+    let c = words::word_of(variables);
+    let d = words::word_of(labels);
+    *answer = [a, b, c, d];
+}
+
+// Program, origins and names have their lengths.
+fn are_sized(program: &[i32], origins: &[i32], names: &[i32]) -> bool
+    ensures { λ r. ⌜ r ≡ sized (now (program .entry)) (now (origins .entry)) (now (names .entry)) ⌝ }
+{
+    let words = (program.len() == crate::MOST_WORDS) & (origins.len() == crate::MOST_WORDS);
+    words & (names.len() == crate::NAME_WORDS)
+}
+
+// Reads a text: the answer is outcome, place, and how many variables and labels have names; it returns how many words the program has.
+pub fn read(
+    text: &[u8],
+    program: &mut [i32],
+    origins: &mut [i32],
+    names: &mut [i32],
+    answer: &mut [i32; 4],
+) -> usize
+    ensures { λ n. ⌜ answered (now (program .exit)) (now (origins .exit)) (now (names .exit)) (now (answer .exit)) n ≡ readBy (now (text .entry)) (now (program .entry)) (now (origins .entry)) (now (names .entry)) ⌝ }
+{
+    if !are_sized(program, origins, names) {
+        answer_with(answer, 1, 0, 0, 0);
+        return 0;
+    }
+    let mut table = [0usize; crate::NAME_WORDS];
+    let mut row = [0i32; crate::ROW];
+    let mut places = [0usize; crate::ROW];
+    let r = text_at(text, &mut table, &mut row, &mut places);
+    if r.number != 0 {
+        answer_with(answer, r.number, r.place, 0, 0);
+        return 0;
+    }
+    let n = at_most(crate::MOST_WORDS, r.written);
+    let variables = at_most(crate::VARIABLES, r.variables);
+    let labels = at_most(crate::LABELS, r.labels);
+    words::copy(program, 0, &row, n);
+    tell(origins, &places, 0, n);
+    tell_names(names, &table, variables, labels);
+    answer_with(answer, 0, text.len(), variables, labels);
+    n
+}

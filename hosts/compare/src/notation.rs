@@ -1,0 +1,158 @@
+//! The papers' notation: what the C call and the independent program read from
+//! the same text.
+
+use crate::comparison::Stop;
+use reference::generator::texts;
+use reference::text::{self, NAME_WORDS, PROGRAM_WORDS};
+use std::collections::BTreeMap;
+use std::fmt;
+
+/// What the lent words hold before a text is read.
+const BEFORE: i32 = -77;
+
+/// In a table of names the labels follow so many variables.
+const VARIABLES: usize = 64;
+
+/// How many texts were compared, all of them the same, by outcome.
+#[derive(Debug, Default)]
+pub struct Tally {
+    pub outcomes: BTreeMap<i32, u64>,
+    pub bytes: usize,
+    pub words: usize,
+}
+
+/// All that a reading leaves.
+#[derive(Debug, PartialEq, Eq)]
+struct Left {
+    outcome: i32,
+    place: usize,
+    variables: usize,
+    labels: usize,
+    words: usize,
+    program: Vec<i32>,
+    origins: Vec<i32>,
+    names: Vec<i32>,
+}
+
+pub fn compare(seed: u64, count: u64) -> Result<Tally, Stop> {
+    let mut tally = Tally::default();
+    for index in 0..count {
+        let text = texts::text(seed, index);
+        let (outcome, words) = compare_text(&text).map_err(|difference| {
+            Stop::Difference(format!("text {index} of seed {seed}\n{difference}"))
+        })?;
+        *tally.outcomes.entry(outcome).or_default() += 1;
+        tally.bytes += text.len();
+        tally.words += words;
+    }
+    Ok(tally)
+}
+
+/// Outcome and number of words, where both leave the same: in words of the
+/// right lengths, and in some of another length.
+pub fn compare_text(text: &[u8]) -> Result<(i32, usize), String> {
+    let lengths = [PROGRAM_WORDS, PROGRAM_WORDS, NAME_WORDS];
+    let read = compare_lent(text, lengths)?;
+    let wrong = lengths.get(text.len() % 3).copied().unwrap_or_default();
+    compare_lent(text, lengths.map(|n| if n == wrong { n - 1 } else { n }))?;
+    Ok(read)
+}
+
+/// The whole answer of the C call in the lines of a `.read` of sheets/notation.
+pub fn answer(text: &[u8]) -> String {
+    let left = call(text, [PROGRAM_WORDS, PROGRAM_WORDS, NAME_WORDS]);
+    let mut lines = vec![
+        format!("outcome={}", left.outcome),
+        format!("place={}", left.place),
+        format!("variables={}", left.variables),
+        format!("labels={}", left.labels),
+    ];
+    if left.outcome == 0 {
+        let used = |words: &[i32]| list(words.get(..left.words).unwrap_or(words));
+        lines.push(format!("words={}", used(&left.program)));
+        lines.push(format!("origins={}", used(&left.origins)));
+        let names = left.names.chunks(2).enumerate();
+        lines.extend(names.filter(|(_, name)| *name != [0, 0]).map(named));
+    }
+    lines.join("\n") + "\n"
+}
+
+fn list(words: &[i32]) -> String {
+    let words: Vec<String> = words.iter().map(i32::to_string).collect();
+    words.join(" ")
+}
+
+/// `v` and `l` with their numbers, and the place and length of the name.
+fn named((number, name): (usize, &[i32])) -> String {
+    match number.checked_sub(VARIABLES) {
+        None => format!("v{number}={}", list(name)),
+        Some(label) => format!("l{label}={}", list(name)),
+    }
+}
+
+fn compare_lent(text: &[u8], lengths: [usize; 3]) -> Result<(i32, usize), String> {
+    let (proved, independent) = (call(text, lengths), read(text, lengths));
+    if proved == independent {
+        return Ok((proved.outcome, proved.words));
+    }
+    Err(format!(
+        "{}\nproved: {proved:?}\nindependent: {independent:?}",
+        text.escape_ascii()
+            .take(2000)
+            .map(char::from)
+            .collect::<String>()
+    ))
+}
+
+fn lent([program, origins, names]: [usize; 3]) -> (Vec<i32>, Vec<i32>, Vec<i32>) {
+    (
+        vec![BEFORE; program],
+        vec![BEFORE; origins],
+        vec![BEFORE; names],
+    )
+}
+
+fn call(text: &[u8], lengths: [usize; 3]) -> Left {
+    let (mut program, mut origins, mut names) = lent(lengths);
+    let reading = cordbasin::read_words(text, &mut program, &mut origins, &mut names);
+    Left {
+        outcome: reading.outcome.number(),
+        place: reading.place,
+        variables: reading.variables,
+        labels: reading.labels,
+        words: reading.words,
+        program,
+        origins,
+        names,
+    }
+}
+
+fn read(text: &[u8], lengths: [usize; 3]) -> Left {
+    let (mut program, mut origins, mut names) = lent(lengths);
+    let answer = text::read_into(text, &mut program, &mut origins, &mut names);
+    Left {
+        outcome: answer.outcome,
+        place: answer.place,
+        variables: answer.variables,
+        labels: answer.labels,
+        words: answer.words,
+        program,
+        origins,
+        names,
+    }
+}
+
+impl fmt::Display for Tally {
+    fn fmt(&self, out: &mut fmt::Formatter<'_>) -> fmt::Result {
+        let texts: u64 = self.outcomes.values().sum();
+        write!(
+            out,
+            "{texts} texts the same, {} bytes, {} words;",
+            self.bytes, self.words
+        )?;
+        for (outcome, texts) in &self.outcomes {
+            write!(out, " {outcome}: {texts}")?;
+        }
+        Ok(())
+    }
+}

@@ -1,0 +1,175 @@
+//! A program that was typed: its words, its names, and where each word stands
+//! in the text.
+
+use crate::answer::Outcome;
+use crate::call::{read_words, LONGEST_PROGRAM, NAMES_WORDS};
+use core::fmt;
+
+const FIRST_LABEL: usize = 128;
+
+/// A program that was read from a text in the papers' notation.
+#[derive(Clone, Debug)]
+pub struct Program<'t> {
+    text: &'t str,
+    words: [i32; LONGEST_PROGRAM],
+    origins: [i32; LONGEST_PROGRAM],
+    names: [i32; NAMES_WORDS],
+    count: usize,
+    variables: usize,
+    labels: usize,
+}
+
+/// A text that is no program: the number, and the byte at which it is refused.
+///
+/// Prints the number and what it says with line and column, then the text's
+/// line, and a mark under the place.
+#[derive(Clone, Copy, Debug, PartialEq, Eq)]
+pub struct Refusal<'t> {
+    /// 20 to 22.
+    pub outcome: Outcome,
+    /// Where the text is refused.
+    pub spot: Spot<'t>,
+}
+
+/// A place in a text.
+///
+/// Prints the line that it is in, and a mark under it.
+#[derive(Clone, Copy, Debug, PartialEq, Eq)]
+pub struct Spot<'t> {
+    /// The byte, from 0.
+    pub place: usize,
+    /// The line, from 1.
+    pub line: usize,
+    /// The column, from 1, in characters.
+    pub column: usize,
+    /// The line's text.
+    pub shown: &'t str,
+}
+
+impl<'t> Program<'t> {
+    /// Reads a text. `docs/NOTATION.md` has the notation on a page.
+    pub fn read(text: &'t str) -> Result<Program<'t>, Refusal<'t>> {
+        let mut program = Program {
+            text,
+            words: [0; LONGEST_PROGRAM],
+            origins: [0; LONGEST_PROGRAM],
+            names: [0; NAMES_WORDS],
+            count: 0,
+            variables: 0,
+            labels: 0,
+        };
+        let reading = read_words(
+            text.as_bytes(),
+            &mut program.words,
+            &mut program.origins,
+            &mut program.names,
+        );
+        if reading.outcome != Outcome::Finished {
+            return Err(Refusal {
+                outcome: reading.outcome,
+                spot: Spot::of(text, reading.place),
+            });
+        }
+        program.count = reading.words;
+        program.variables = reading.variables;
+        program.labels = reading.labels;
+        Ok(program)
+    }
+
+    /// The words that [`run`](crate::run) takes.
+    pub fn words(&self) -> &[i32] {
+        self.words.get(..self.count).unwrap_or_default()
+    }
+
+    /// The names of the variables, each at its number.
+    pub fn variables(&self) -> impl Iterator<Item = &'t str> + '_ {
+        (0..self.variables).map(|number| self.name(2 * number))
+    }
+
+    /// The names of the labels, each at its number.
+    pub fn labels(&self) -> impl Iterator<Item = &'t str> + '_ {
+        (0..self.labels).map(|number| self.name(FIRST_LABEL + 2 * number))
+    }
+
+    /// The number of the variable with this name.
+    pub fn variable(&self, name: &str) -> Option<usize> {
+        self.variables().position(|other| other == name)
+    }
+
+    /// The number of the label with this name.
+    pub fn label(&self, name: &str) -> Option<usize> {
+        self.labels().position(|other| other == name)
+    }
+
+    /// Where the token stands that a word of the program comes from; for the
+    /// program's length the text's end. So the place of an answer is shown in
+    /// the text that was typed.
+    pub fn spot(&self, word: usize) -> Option<Spot<'t>> {
+        if word == self.count {
+            return Some(Spot::of(self.text, self.text.len()));
+        }
+        let origins = self.origins.get(..self.count)?;
+        let place = usize::try_from(*origins.get(word)?).ok()?;
+        Some(Spot::of(self.text, place))
+    }
+
+    /// The name whose place and length begin at a word of the table.
+    fn name(&self, at: usize) -> &'t str {
+        let word = |at: usize| usize::try_from(*self.names.get(at)?).ok();
+        let part = |from: usize, length: usize| self.text.get(from..from.checked_add(length)?);
+        let name = word(at).zip(word(at + 1));
+        name.and_then(|(from, length)| part(from, length))
+            .unwrap_or_default()
+    }
+}
+
+impl<'t> Spot<'t> {
+    /// A byte of a text, with the line that it is in. A byte inside a character
+    /// is taken for the character's first.
+    pub fn of(text: &'t str, place: usize) -> Spot<'t> {
+        let place = place.min(text.len());
+        let near = (0..=place).rev().find(|byte| text.is_char_boundary(*byte));
+        let (before, after) = text.split_at(near.unwrap_or(0));
+        let start = before.rfind('\n').map_or(0, |newline| newline + 1);
+        let end = after
+            .find('\n')
+            .map_or(text.len(), |more| before.len() + more);
+        let shown = text.get(start..end).unwrap_or_default();
+        Spot {
+            place,
+            line: before.matches('\n').count() + 1,
+            column: text
+                .get(start..before.len())
+                .map_or(0, |line| line.chars().count())
+                + 1,
+            shown: shown.strip_suffix('\r').unwrap_or(shown),
+        }
+    }
+}
+
+impl fmt::Display for Spot<'_> {
+    fn fmt(&self, out: &mut fmt::Formatter<'_>) -> fmt::Result {
+        writeln!(out, "{}", self.shown)?;
+        let before = self.shown.chars().chain(core::iter::repeat(' '));
+        for character in before.take(self.column.saturating_sub(1)) {
+            let blank = if character == '\t' { '\t' } else { ' ' };
+            write!(out, "{blank}")?;
+        }
+        write!(out, "^")
+    }
+}
+
+impl fmt::Display for Refusal<'_> {
+    fn fmt(&self, out: &mut fmt::Formatter<'_>) -> fmt::Result {
+        let (line, column) = (self.spot.line, self.spot.column);
+        let number = self.outcome.number();
+        writeln!(
+            out,
+            "{number} at line {line}, column {column}: {}",
+            self.outcome
+        )?;
+        write!(out, "{}", self.spot)
+    }
+}
+
+impl core::error::Error for Refusal<'_> {}
