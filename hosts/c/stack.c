@@ -83,12 +83,14 @@ static void put(const char *part, int times) {
     }
 }
 
+/* A mark follows the last bracket, however many there are: it is looked for in the deepest frame, which is written whole for a mark alone. */
 static size_t bracketed(const char *what, int brackets) {
     bytes = 0;
     put("x := ", 1);
     put("(", brackets);
     put("7", 1);
     put(")", brackets);
+    put("; skip", 1);
     return taken(what, read_text);
 }
 

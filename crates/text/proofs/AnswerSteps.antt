@@ -16,9 +16,8 @@ use Rattle.tables.proofs.SearchLaws.{cases}
 use Rattle.program.specs.Reading.{among}
 use Rattle.tokens.specs.declared.Token.{Token}
 use Rattle.tokens.specs.Codes.{nameCode}
-use Rattle.text.specs.declared.Reader.{Reader as Carried}
 use Rattle.text.specs.Reading.{Fault, fault, Reader, Form, form, wordThen, andThen, passing, peek, is, refusal, take, need, numberIn, known, roomFor, variable, label, fieldAt}
-use Rattle.text.specs.Told.{readerOf, readingOf, refusedBy, Follows}
+use Rattle.text.specs.Told.{Carried, readerOf, readingOf, refusedBy, Follows}
 use Rattle.text.specs.Pieces.{behindFirst}
 
 -- ---- a piece beside a reader

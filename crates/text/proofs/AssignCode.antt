@@ -20,10 +20,9 @@ use Rattle.tokens.specs.Tokens.{token, mostBytes, tokenAt, tokenFrom, restFrom}
 use Rattle.tokens.proofs.SameLaws.{same-itself}
 use Rattle.tokens.proofs.TokenLaws.{token-past, token-in}
 use Rattle.tokens.proofs.TokenRules.{end-inside}
-use Rattle.text.specs.declared.Reader.{Reader as Carried}
 use Rattle.text.specs.Reading.{fault, Reader, Form, form, wordThen, andThen, owing, dueAfter, peek, is, refusal, take, need, numberIn, withName, roomFor}
 use Rattle.text.specs.Reading.{variable, steps, path, expression, fieldAt, fieldsOn, fieldsAt, assignment}
-use Rattle.text.specs.Told.{readerOf, Peeks, Follows}
+use Rattle.text.specs.Told.{Carried, readerOf, Peeks, Follows}
 use Rattle.text.specs.Written.{with1, wroteOne, Owes}
 use Rattle.text.specs.Pieces.{Lent, lent, formOf, Fit, Does, Piece, Expression, behindFirst, fieldsBy, fieldsAtBy}
 use Rattle.text.proofs.NameLaws.{extends-same, number-stays}

@@ -15,15 +15,16 @@ use Rattle.words.proofs.Laws.{word-is}
 use Rattle.tables.proofs.SearchLaws.{cases}
 use Rattle.tokens.specs.declared.Token.{Token}
 use Rattle.tokens.specs.Codes.{endCode, semicolonCode, openBraceCode, closeBraceCode}
-use Rattle.text.specs.declared.Reader.{Reader as Carried}
 use Rattle.text.specs.Reading.{Fault, Reader, Form, form, empty, wordThen, andThen, passing, is, peek, take, need, statementAt, rowAt, blockAt, firstReader, textAt}
-use Rattle.text.specs.Told.{namesFrom, atMost, readerOf, Peeks, Follows}
-use Rattle.text.specs.Written.{with1, wroteOne, Passes}
+use Rattle.text.specs.Told.{Carried, namesFrom, atMost, nextOf, readerOf, lookedBy, Peeks, Ahead, Follows}
+use Rattle.text.specs.Written.{with1, wroteOne, passBy, Passes}
 use Rattle.text.specs.Pieces.{Lent, lent, formOf, pieceOf, Fit, Does, Piece, Onward, behindFirst, firstCarried, rowBy, Whole}
 use Rattle.text.proofs.RowsLaws.{fit-room, fit-here, wrote-number, wrote-more}
 use Rattle.text.proofs.AnswerSteps.{behind-first, passing-none, passing-one, need-never}
 use Rattle.text.proofs.DoesLaws.{Program, ended, does-then, does-as, does-stops, does-take, does-need, does-pass, does-word, does-first, does-piece, does-got, form-length}
 use Rattle.text.proofs.StepLaws.{does-given, does-went, does-halted, does-answered, form-empty}
+use Rattle.text.proofs.WrittenLaws.{passes}
+use Rattle.text.proofs.AheadLaws.{ahead-looked, ahead-wrote, ahead-passed}
 use Rattle.text.proofs.StatementCode.{statement-never}
 
 module _ (text : List ℕ) where
@@ -101,11 +102,8 @@ module _ (text : List ℕ) where
 
   pub record Turn (d p from : ℕ) (a₀ : Lent) (s₀ : Carried) (a : Lent) (s : Carried) (n : ℕ) : Type 0 where
     pub goes : (s₀ .number ≡ 0 → from < s₀ .written) → Fit 0 0 from a₀ s₀ → Going d p from a₀ s₀ a s n
-    pub names : length (a .names) ≡ length (a₀ .names)
-    pub words : length (a .words) ≡ length (a₀ .words)
-    pub origins : length (a .origins) ≡ length (a₀ .origins)
 
-  pub turn-starts : {d p from : ℕ} {a : Lent} {s : Carried} → Turn d p from a s a s 0
+  turn-starts : {d p from : ℕ} {a : Lent} {s : Carried} → Turn d p from a s a s 0
   turn-starts {d = d} {p = p} {from = from} {a = a} {s = s} =
       record {
         goes = λ pre fit. record {
@@ -114,17 +112,14 @@ module _ (text : List ℕ) where
           above = pre;
           onward = λ c u x. does-as x λ _ _. rest-whole (λ v. blockAt text d v) p (formOf false from a s) (readerOf (a .names) s);
         };
-        names = refl;
-        words = refl;
-        origins = refl;
       }
 
   -- after 255 statements none is accepted
-  pub turn-over : {d p from n : ℕ} {a₀ a : Lent} {s₀ s : Carried} → Turn d p from a₀ s₀ a s n → 255 < n
+  turn-over : {d p from n : ℕ} {a₀ a : Lent} {s₀ s : Carried} → Turn d p from a₀ s₀ a s n → 255 < n
       → (s₀ .number ≡ 0 → from < s₀ .written) → Onward false 0 3 from a₀ s₀ (λ f q. rowBy text d p (behindFirst f) q) a s
   turn-over inv h pre = does-given λ fit. absurd (omega (arith, inv .goes pre fit .within))
 
-  module _ {d p from n : ℕ} {a₀ a b : Lent} {s₀ s u v : Carried} (inv : Turn d p from a₀ s₀ a s n) (passes : Passes (eqb n 255) s u)
+  module _ {d p from n : ℕ} {a₀ a b : Lent} {s₀ s u v : Carried} (inv : Turn d p from a₀ s₀ a s n) (passed : Passes (eqb n 255) s u)
       (reads : Piece 0 3 a u (λ q. statementAt text (λ v. blockAt text d v) q) b v) where
     abbrev block : Reader → Answer Fault (Form × Reader)
     block q = blockAt text d q
@@ -133,9 +128,9 @@ module _ (text : List ℕ) where
     oneBy f q = statementAt text block (passing (eqb n 255) q) >>= λ x. got (andThen f (x .0), x .1)
 
     one : Does false 0 0 3 0 from a s (λ f q. oneBy f q) b v
-    one = does-then (does-pass text (eqb n 255) passes) (does-piece reads)
+    one = does-then (does-pass text (eqb n 255) passed) (does-piece reads)
 
-    pub turn-halts : (v .number ≡ 0 → ⊥) → (s₀ .number ≡ 0 → from < s₀ .written) → Onward false 0 3 from a₀ s₀ (λ f q. rowBy text d p (behindFirst f) q) b v
+    turn-halts : (v .number ≡ 0 → ⊥) → (s₀ .number ≡ 0 → from < s₀ .written) → Onward false 0 3 from a₀ s₀ (λ f q. rowBy text d p (behindFirst f) q) b v
     turn-halts n0 pre =
         does-given λ fit.
         let g = inv .goes pre fit in
@@ -156,8 +151,8 @@ module _ (text : List ℕ) where
 
       grown : s .written ≤ v .written
       grown =
-          let x : Does false 0 0 0 0 from a s (λ f q. got (f, passing (eqb n 255) q)) a u = does-pass text (eqb n 255) passes in
-          omega (arith, passes .written, reads .fit (fit-here (x .fit (going .fit))) .begins)
+          let x : Does false 0 0 0 0 from a s (λ f q. got (f, passing (eqb n 255) q)) a u = does-pass text (eqb n 255) passed in
+          omega (arith, passed .written, reads .fit (fit-here (x .fit (going .fit))) .begins)
 
       -- what the definition reads here
       abbrev q : Reader
@@ -175,7 +170,7 @@ module _ (text : List ℕ) where
       read-as {ℓ} : {X : Type ℓ} → ((y : Form × Reader) → statementAt text block (passing (eqb n 255) q) ≡ got y → y .1 ≡ readerOf (b .names) v → X) → X
       read-as k = step (statementAt text block (passing (eqb n 255) q)) _ (does-got one (going .fit) began goes) λ y e1 e2. k y e1 (ap (λ x. x .1) (got-inj e2))
 
-    pub turn-ends : {names : List ℕ} {ws vs : List ℤ} {os us : List ℕ} {t : Token} {w : ℤ} → v .number ≡ 0 → Peeks text v t → (t .code ≡ semicolonCode → ⊥)
+    turn-ends : {names : List ℕ} {ws vs : List ℤ} {os us : List ℕ} {t : Token} {w : ℤ} → v .number ≡ 0 → Peeks text v t → (t .code ≡ semicolonCode → ⊥)
         → b ≡ lent names ws os → w ≡ wordOf (n + 1) → vs ≡ set ws from w → us ≡ set os from p
         → (s₀ .number ≡ 0 → from < s₀ .written) → Onward false 0 3 from a₀ s₀ (λ f q. rowBy text d p (behindFirst f) q) (lent names vs us) v
     turn-ends {names = names} {ws = ws} {vs = vs} {os = os} {us = us} {t = t} {w = w} goes peeks last rows e e1 e2 pre =
@@ -188,9 +183,9 @@ module _ (text : List ℕ) where
         let l = long goes pre fit in
         rw (e3, e) (rest-ends block p n (g .within) (formOf false from a s) (readerOf (a .names) s) y e3 (l .0) (l .1) (rw (e4, ← peeks (b .names)) (ne-eqb (t .code) semicolonCode last))))
 
-    pub turn-goes-on : {t : Token} {w : Carried} → v .number ≡ 0 → Peeks text v t → t .code ≡ semicolonCode → Follows v (λ q. take text 0 q) w
-        → length (b .names) ≡ length (a .names) → length (b .words) ≡ length (a .words) → length (b .origins) ≡ length (a .origins) → Turn d p from a₀ s₀ b w (n + 1)
-    turn-goes-on {t = t} {w = w} goes peeks more takes l1 l2 l3 =
+    turn-goes-on : {t : Token} {w : Carried} → v .number ≡ 0 → Peeks text v t → t .code ≡ semicolonCode → Follows v (λ q. take text 0 q) w
+        → Turn d p from a₀ s₀ b w (n + 1)
+    turn-goes-on {t = t} {w = w} goes peeks more takes =
         record {
           goes = λ pre fit.
               let g = inv .goes pre fit in
@@ -205,6 +200,46 @@ module _ (text : List ℕ) where
                     rw (e3, ← rest-goes-on block p n (g .within) (formOf false from a s) (readerOf (a .names) s) y e3 (l .0) (l .1) (rw (e4, ← peeks (b .names)) (eq-eqb (t .code) semicolonCode more)))
                     (either (take text 0 (y .1)) (λ x k. rw k) (λ x k. rw k)));
               };
+        }
+
+  -- the same of a reader that has the token which stands there, and keeps it
+  pub record Round (d p from : ℕ) (a₀ : Lent) (s₀ : Carried) (a : Lent) (s : Carried) (n : ℕ) : Type 0 where
+    pub turn : Ahead text s₀ → Turn d p from a₀ s₀ a s n
+    pub ahead : Ahead text s₀ → Ahead text s
+    pub names : length (a .names) ≡ length (a₀ .names)
+    pub words : length (a .words) ≡ length (a₀ .words)
+    pub origins : length (a .origins) ≡ length (a₀ .origins)
+
+  -- what the row promises
+  abbrev pub Rows : ℕ → ℕ → ℕ → Lent → Carried → Lent → Carried → Type 0
+  Rows d p from a r b s =
+      (Ahead text r → (r .number ≡ 0 → from < r .written) → Onward false 0 3 from a r (λ f q. rowBy text d p (behindFirst f) q) b s) × (Ahead text r → Ahead text s)
+
+  pub round-starts : {d p from : ℕ} {a : Lent} {s : Carried} → Round d p from a s a s 0
+  round-starts = record { turn = λ _. turn-starts; ahead = λ h. h; names = refl; words = refl; origins = refl }
+
+  pub round-over : {d p from n : ℕ} {a₀ a : Lent} {s₀ s : Carried} → Round d p from a₀ s₀ a s n → 255 < n → Rows d p from a₀ s₀ a s
+  round-over inv h = (λ e pre. turn-over (inv .turn e) h pre, inv .ahead)
+
+  module _ {d p from n : ℕ} {a₀ a b : Lent} {s₀ s u v : Carried} (inv : Round d p from a₀ s₀ a s n) (passed : u ≡ passBy (eqb n 255) s)
+      (reads : Ahead text u → Piece 0 3 a u (λ q. statementAt text (λ v. blockAt text d v) q) b v) (keeps : Ahead text u → Ahead text v) where
+    met : Ahead text s₀ → Ahead text u
+    met h = ahead-passed text s (eqb n 255) passed (inv .ahead h)
+
+    pub round-halts : (v .number ≡ 0 → ⊥) → Rows d p from a₀ s₀ b v
+    round-halts n0 = (λ h pre. turn-halts (inv .turn h) (passes (eqb n 255) s passed) (reads (met h)) n0 pre, λ h. keeps (met h))
+
+    pub round-ends : {names : List ℕ} {ws vs : List ℤ} {os us : List ℕ} {w : ℤ} → v .number ≡ 0 → (v .code ≡ semicolonCode → ⊥)
+        → b ≡ lent names ws os → w ≡ wordOf (n + 1) → vs ≡ set ws from w → us ≡ set os from p → Rows d p from a₀ s₀ (lent names vs us) v
+    round-ends goes last rows e e1 e2 =
+        (λ h pre. turn-ends (inv .turn h) (passes (eqb n 255) s passed) (reads (met h)) goes (keeps (met h)) last rows e e1 e2 pre, λ h. keeps (met h))
+
+    pub round-goes-on : {w : Carried} → v .number ≡ 0 → v .code ≡ semicolonCode → (Ahead text v → Follows v (λ q. take text 0 q) w) → (Ahead text v → Ahead text w)
+        → length (b .names) ≡ length (a .names) → length (b .words) ≡ length (a .words) → length (b .origins) ≡ length (a .origins) → Round d p from a₀ s₀ b w (n + 1)
+    round-goes-on goes more takes on l1 l2 l3 =
+        record {
+          turn = λ h. turn-goes-on (inv .turn h) (passes (eqb n 255) s passed) (reads (met h)) goes (keeps (met h)) more (takes (keeps (met h)));
+          ahead = λ h. on (keeps (met h));
           names = l1 ∙ inv .names;
           words = l2 ∙ inv .words;
           origins = l3 ∙ inv .origins;
@@ -222,9 +257,9 @@ module _ (text : List ℕ) where
   block-is zero q h = absurd (h refl)
   block-is (suc d) q h = let e : suc d - 1 ≡ d = omega arith in rw e
 
-  module _ (d : ℕ) {r u s : Carried} {t : Token} (peeks : Peeks text r t) (passes : Passes (eqb d 0) r u) (needs : Follows u (λ q. need text openBraceCode 1 q) s) where
+  module _ (d : ℕ) {r u s : Carried} {t : Token} (peeks : Peeks text r t) (passed : Passes (eqb d 0) r u) (needs : Follows u (λ q. need text openBraceCode 1 q) s) where
     entered : (a : Lent) → Does false 0 0 0 1 (r .written) a r (λ f q. need text openBraceCode 1 (passing (eqb d 0) q) >>= λ v. got (f, v)) a s
-    entered a = does-then (does-pass text (eqb d 0) passes) (does-need text openBraceCode 1 needs)
+    entered a = does-then (does-pass text (eqb d 0) passed) (does-need text openBraceCode 1 needs)
 
     -- on depth 9 none is accepted
     pub block-deep : {a : Lent} → d ≡ 0 → Piece 0 0 a r (λ q. blockAt text d q) a s
@@ -282,38 +317,45 @@ module _ (text : List ℕ) where
 
   -- ---- a whole text
 
-  first-is : (names : List ℕ) → readerOf names firstCarried ≡ firstReader text
+  -- the reader that has the first token
+  abbrev looked : Carried
+  looked = lookedBy text firstCarried
+
+  first-is : (names : List ℕ) → readerOf names looked ≡ firstReader text
   unfolding readerOf atMost namesFrom
   first-is names = refl
 
-  written-is : (names : List ℕ) → readerOf names (wroteOne firstCarried) ≡ firstReader text
+  written-is : (names : List ℕ) → readerOf names (wroteOne looked) ≡ firstReader text
   unfolding readerOf atMost namesFrom wroteOne
   written-is names = refl
 
-  module _ (names : List ℕ) (ws : List ℤ) (os : List ℕ) {vs : List ℤ} {us : List ℕ} {r s : Carried} {t : Token}
-      (first : r ≡ firstCarried) (e1 : vs ≡ with1 ws r (pos 0)) (e2 : us ≡ with1 os r 0) (e3 : s ≡ wroteOne r) (peeks : Peeks text s t) where
-    zero-first : Does false 0 1 0 0 0 (lent names ws os) firstCarried (λ f q. got (ended f (pos 0) 0, q)) (lent names vs us) s
+  module _ (names : List ℕ) (ws : List ℤ) (os : List ℕ) {vs : List ℤ} {us : List ℕ} {r s : Carried}
+      (first : r ≡ looked) (e1 : vs ≡ with1 ws r (pos 0)) (e2 : us ≡ with1 os r 0) (e3 : s ≡ wroteOne r) where
+    zero-first : Does false 0 1 0 0 0 (lent names ws os) looked (λ f q. got (ended f (pos 0) 0, q)) (lent names vs us) s
     zero-first = does-word (pos 0) 0 (omega arith) (rw (← first) e1) (rw (← first) e2) (rw (← first) e3)
 
-    first-token : peek text (firstReader text) ≡ t
-    first-token = sym (peeks names ∙ rw (e3, first) (ap (peek text) (written-is names)))
+    pub text-ahead : Ahead text s
+    text-ahead = ahead-wrote text r e3 (ahead-looked text firstCarried first)
 
-    whole-does : {m k : ℕ} {c : Lent} {x : Carried} {p : Program} → Does false 0 1 m k 0 (lent names ws os) firstCarried p c x → p empty (firstReader text) ≡ textAt text → Whole text (lent names ws os) c x
+    first-token : peek text (firstReader text) ≡ nextOf s
+    first-token = sym (text-ahead names ∙ rw (e3, first) (ap (peek text) (written-is names)))
+
+    whole-does : {m k : ℕ} {c : Lent} {x : Carried} {p : Program} → Does false 0 1 m k 0 (lent names ws os) looked p c x → p empty (firstReader text) ≡ textAt text → Whole text (lent names ws os) c x
     unfolding pieceOf
     whole-does {p = p} d e a b c =
-        let fit : Fit 0 1 0 (lent names ws os) firstCarried =
+        let fit : Fit 0 1 0 (lent names ws os) looked =
         record { names = a; words = b; origins = c; begins = omega arith; counts = λ _. refl; certain = λ _. omega arith; owed = λ _. omega arith } in
-        d .reads fit ∙ rw (form-empty (lent names ws os) firstCarried, first-is names) e
+        d .reads fit ∙ rw (form-empty (lent names ws os) looked, first-is names) e
 
-    pub text-empty : t .code ≡ endCode → Whole text (lent names ws os) (lent names vs us) s
+    pub text-empty : s .code ≡ endCode → Whole text (lent names ws os) (lent names vs us) s
     unfolding textAt
-    text-empty h = whole-does zero-first (rw (first-token, eq-eqb (t .code) endCode h))
+    text-empty h = whole-does zero-first (rw (first-token, eq-eqb (s .code) endCode h))
 
-    pub text-row : {c : Lent} {v x : Carried} → (t .code ≡ endCode → ⊥)
+    pub text-row : {c : Lent} {v x : Carried} → (s .code ≡ endCode → ⊥)
         → ((s .number ≡ 0 → 0 < s .written) → Onward false 0 3 0 (lent names vs us) s (λ f q. rowBy text 7 0 (behindFirst f) q) c v)
         → Follows v (λ q. need text endCode 0 q) x → Whole text (lent names ws os) c x
     unfolding textAt behindFirst wroteOne
     text-row h row ends =
         whole-does (does-then (does-then zero-first (row λ _. rw (e3, first) (omega arith))) (does-need text endCode 0 ends))
-        (rw (first-token, ne-eqb (t .code) endCode h)
+        (rw (first-token, ne-eqb (s .code) endCode h)
         (either (rowAt text (λ v. blockAt text 7 v) 254 (firstReader text)) (λ g j. rw j (either (need text endCode 0 (g .1 .1)) (λ y i. rw i) (λ y i. rw i))) (λ g j. rw j)))

@@ -13,10 +13,9 @@ use Rattle.words.proofs.AnswerLaws.{got-inj}
 use Rattle.words.proofs.Laws.{word-is}
 use Rattle.tables.proofs.SearchLaws.{cases, and-right}
 use Rattle.tokens.specs.declared.Token.{Token}
-use Rattle.text.specs.declared.Reader.{Reader as Carried}
 use Rattle.text.specs.Reading.{Fault, fault, Reader, Form, andThen, passing, levelOf, isOperator, opened, operand, enough, over, onwards, climb}
 use Rattle.text.specs.Reading.{take as takeBy}
-use Rattle.text.specs.Told.{readerOf, readingOf, numberedOf, refusedBy, Peeks, Follows}
+use Rattle.text.specs.Told.{Carried, readerOf, readingOf, numberedOf, refusedBy, Peeks, Follows}
 use Rattle.text.specs.Written.{since, deepBy, Passes}
 use Rattle.text.specs.Pieces.{Lent, lent, formOf, pieceOf, Fit, Does, Piece, Expression, Onward, Inserts, Opens, inserted, joinedBy}
 use Rattle.text.proofs.ExpressionLaws.{deeper}

@@ -12,10 +12,9 @@ use Rattle.words.proofs.Laws.{word-is}
 use Rattle.words.proofs.AnswerLaws.{stop≢got, got-inj}
 use Rattle.words.specs.Words.{wordOf}
 use Rattle.tokens.specs.declared.Token.{Token}
-use Rattle.text.specs.declared.Reader.{Reader as Carried}
 use Rattle.text.specs.Reading.{Fault, Reader, Form, form, wordThen, andThen, peek, refusal, need, variable, label, opened, enough, passing, owing}
 use Rattle.text.specs.Reading.{take as takeBy}
-use Rattle.text.specs.Told.{readerOf, refusedBy, Peeks, Follows, Numbers}
+use Rattle.text.specs.Told.{Carried, readerOf, refusedBy, Peeks, Follows, Numbers}
 use Rattle.text.specs.Written.{since, with1, wroteOne, deepBy, Passes, Owes}
 use Rattle.text.specs.Pieces.{Lent, lent, formOf, pieceOf, Fit, Does, Piece, Expression, behindFirst, Opens}
 use Rattle.text.proofs.WrittenLaws.{with-before}

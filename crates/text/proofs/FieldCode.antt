@@ -17,17 +17,18 @@ use Rattle.words.proofs.Laws.{word-is}
 use Rattle.tokens.specs.declared.Token.{Token}
 use Rattle.tokens.proofs.ByteLaws.{from-part}
 use Rattle.tokens.specs.Codes.{colonCode, commaCode, closeBraceCode}
-use Rattle.text.specs.declared.Reader.{Reader as Carried}
 use Rattle.text.specs.Reading.{Fault, Reader, Form, wordThen, andThen, passing, peek, is, need, label, expression, fieldAt, fieldsOn}
 use Rattle.text.specs.Reading.{take as takeBy}
-use Rattle.text.specs.Told.{readerOf, Peeks, Follows, Numbers}
-use Rattle.text.specs.Written.{with1, wroteOne, Passes}
+use Rattle.text.specs.Told.{Carried, nextOf, readerOf, Peeks, Ahead, Follows, Numbers}
+use Rattle.text.specs.Written.{with1, wroteOne, passBy, Passes}
 use Rattle.text.specs.Pieces.{Lent, lent, formOf, Fit, Does, Expression, behindFirst, fieldsBy}
 use Rattle.text.proofs.RowsLaws.{bind-assoc, going, numbered-stopped, fit-here}
 use Rattle.text.proofs.AnswerSteps.{behind-first, follows-is, passing-none, passing-one, field-never}
 use Rattle.text.proofs.DoesLaws.{does-then, does-as, does-wider, does-stopped, does-take, does-need, does-pass, does-label, does-first}
 use Rattle.text.proofs.DoesLaws.{label-is, does-piece, expression-piece, does-got, form-length}
 use Rattle.text.proofs.StepLaws.{does-given, does-went}
+use Rattle.text.proofs.WrittenLaws.{passes}
+use Rattle.text.proofs.AheadLaws.{ahead-wrote, ahead-passed}
 
 -- where a label is read, its number is the one that the reader has
 label-read : (text seen : List ℕ) {before after : List ℕ} {r s : Carried} (x : ℕ × Reader)
@@ -43,7 +44,7 @@ pub record Turn (text seen : List ℕ) (b : Bool) (a : Lent) (s : Carried) (l : 
   pub named : 192 ≤ length (a .names) → s .number ≡ 0 → (x : ℕ × Reader) → label text seen (passing b (readerOf (a .names) s)) ≡ got x → x .0 ≡ l
 
 module _ (text seen : List ℕ) (b : Bool) {names names1 names2 : List ℕ} {words words1 words2 : List ℤ} {origins origins1 origins2 : List ℕ} {s s1 u v w e : Carried} {t : Token} {x : ℤ} where
-  pub turn : Peeks text s t → Passes b s s1 → length names1 ≡ length names → Numbers names s1 (λ q. label text seen q) names1 u
+  turn : Peeks text s t → Passes b s s1 → length names1 ≡ length names → Numbers names s1 (λ q. label text seen q) names1 u
       → x ≡ wordOf (u .named) → words1 ≡ with1 words u x → origins1 ≡ with1 origins u (t .place) → v ≡ wroteOne u
       → Follows v (λ q. need text colonCode 0 q) w
       → Expression 2 0 (lent names1 words1 origins1) w (λ q. expression text false q) (lent names2 words2 origins2) e
@@ -144,18 +145,12 @@ pub record Left (text : List ℕ) (from p : ℕ) (a₀ : Lent) (r : Carried) (a 
       → Does false 0 0 0 0 from a₀ r (λ f q. fieldsBy text p (behindFirst f) q) c e
 
 pub record Fields (text : List ℕ) (from p : ℕ) (a₀ : Lent) (r : Carried) (a : Lent) (seen : List ℕ) (s : Carried) (n : ℕ) : Type 0 where
-  pub names : length (a .names) ≡ length (a₀ .names)
-  pub words : length (a .words) ≡ length (a₀ .words)
-  pub origins : length (a .origins) ≡ length (a₀ .origins)
   pub size : length seen ≡ 8
   pub rest : from < r .written → Fit 0 0 from a₀ r → Left text from p a₀ r a seen s n
 
 pub fields-start : {text : List ℕ} {from p : ℕ} {a : Lent} {r : Carried} {seen : List ℕ} → length seen ≡ 8 → Fields text from p a r a seen r 0
 fields-start {text = text} {p = p} {a = a} {r = r} {seen = seen} size =
     record {
-      names = refl;
-      words = refl;
-      origins = refl;
       size = size;
       rest = λ h F. record {
         few = omega arith;
@@ -202,11 +197,39 @@ module _ {text : List ℕ} {from p : ℕ} {a₀ : Lent} {r : Carried} {a : Lent}
       field-never text _ (passing true (readerOf (a .names) s)) x (passing-one (readerOf (a .names) s)) (rw h at i)
 
 -- the labels before it, as the code finds them
-pub turn-at : {text : List ℕ} {from p : ℕ} {a₀ : Lent} {r : Carried} {a : Lent} {seen : List ℕ} {s : Carried} {n free l : ℕ} {c : Lent} {e : Carried}
+turn-at : {text : List ℕ} {from p : ℕ} {a₀ : Lent} {r : Carried} {a : Lent} {seen : List ℕ} {s : Carried} {n free l : ℕ} {c : Lent} {e : Carried}
     → Fields text from p a₀ r a seen s n → free ≡ 8 - n → Turn text (take (8 - free) (drop free seen)) (eqb free 0) a s l c e → Turn text (drop (8 - n) seen) (eqb (8 - n) 0) a s l c e
 turn-at {seen = seen} {free = free} inv is T =
     let y : take (8 - free) (drop free seen) ≡ drop free seen = rw (← inv .size) (from-part seen free) in
     rw (y, is) at T
+
+-- What the code's loop keeps, with the token that stands there.
+pub record Turns (text : List ℕ) (from p : ℕ) (a₀ : Lent) (r : Carried) (a : Lent) (seen : List ℕ) (s : Carried) (n : ℕ) : Type 0 where
+  pub names : length (a .names) ≡ length (a₀ .names)
+  pub words : length (a .words) ≡ length (a₀ .words)
+  pub origins : length (a .origins) ≡ length (a₀ .origins)
+  pub size : length seen ≡ 8
+  pub ahead : Ahead text r → Ahead text s
+  pub fields : Ahead text r → Fields text from p a₀ r a seen s n
+
+-- one turn, and the token behind it
+pub turn-ahead : {text : List ℕ} {from p : ℕ} {a₀ : Lent} {r : Carried} {names names1 names2 : List ℕ} {words words1 words2 : List ℤ} {origins origins1 origins2 seen : List ℕ}
+    {s s1 u v w e : Carried} {x : ℤ} {n free : ℕ}
+    → Turns text from p a₀ r (lent names words origins) seen s n → free ≡ 8 - n → s1 ≡ passBy (eqb free 0) s → length names1 ≡ length names
+    → (Ahead text s1 → Numbers names s1 (λ q. label text (take (8 - free) (drop free seen)) q) names1 u) → (Ahead text s1 → Ahead text u)
+    → x ≡ wordOf (u .named) → words1 ≡ with1 words u x → origins1 ≡ with1 origins u (s .start) → v ≡ wroteOne u
+    → (Ahead text v → Follows v (λ q. need text colonCode 0 q) w) → (Ahead text v → Ahead text w)
+    → (Ahead text w → Expression 2 0 (lent names1 words1 origins1) w (λ q. expression text false q) (lent names2 words2 origins2) e) → (Ahead text w → Ahead text e)
+    → Ahead text r → Turn text (drop (8 - n) seen) (eqb (8 - n) 0) (lent names words origins) s (u .named) (lent names2 words2 origins2) e × Ahead text e
+turn-ahead {text = text} {seen = seen} {s = s} {s1 = s1} {u = u} {v = v} {w = w} {free = free} inv is pass long read read-on number ws os wrote colon colon-on value value-on ahead =
+    let look : Ahead text s = inv .ahead ahead in
+    let look1 : Ahead text s1 = ahead-passed text s (eqb free 0) pass look in
+    let look2 : Ahead text v = ahead-wrote text u wrote (read-on look1) in
+    let look3 : Ahead text w = colon-on look2 in (
+      turn-at (inv .fields ahead) is
+          (turn text (take (8 - free) (drop free seen)) (eqb free 0) {t = nextOf s} look (passes (eqb free 0) s pass) long (read look1) number ws os wrote (colon look2) (value look3)),
+      value-on look3,
+    )
 
 module _ {text : List ℕ} {from p : ℕ} {a₀ : Lent} {r : Carried} {a : Lent} {seen : List ℕ} {s : Carried} {n : ℕ} {l : ℕ} {names : List ℕ} {words : List ℤ} {origins : List ℕ} {e : Carried}
     (inv : Fields text from p a₀ r a seen s n) (T : Turn text (drop (8 - n) seen) (eqb (8 - n) 0) a s l (lent names words origins) e) where
@@ -233,14 +256,11 @@ module _ {text : List ℕ} {from p : ℕ} {a₀ : Lent} {r : Carried} {a : Lent}
         (rw (← look names) (ne-eqb (t .code) commaCode other)))))))
 
     -- a comma, and more
-    pub fields-more : {e' : Carried} {seen' : List ℕ} → length names ≡ length (a .names) → length words ≡ length (a .words) → length origins ≡ length (a .origins)
+    pub fields-more : {e' : Carried} {seen' : List ℕ}
         → t .code ≡ commaCode → seen' ≡ set seen (8 - n - 1) l → Follows e (λ q. takeBy text 0 q) e' → Fields text from p a₀ r (lent names words origins) seen' e' (n + 1)
     unfolding tailBy
-    fields-more {e' = e'} {seen' = seen'} ns ws os comma put next =
+    fields-more {e' = e'} {seen' = seen'} comma put next =
         record {
-          names = ns ∙ inv .names;
-          words = ws ∙ inv .words;
-          origins = os ∙ inv .origins;
           size = rw put (simp length-set (inv .size));
           rest = λ i F.
               let L = inv .rest i F in

@@ -14,6 +14,7 @@ pub mod JudgePaths
 pub mod JudgeStatements
 pub mod Leads
 pub mod Sheets
+pub mod StateLaws
 pub mod NamingLaws
 pub mod ToldLaws
 pub mod WrittenLaws
@@ -21,7 +22,9 @@ pub mod RowsLaws
 pub mod AnswerSteps
 pub mod DoesLaws
 pub mod StepLaws
+pub mod AheadLaws
 pub mod RaisedLaws
+pub mod WritingCode
 pub mod LiteralCode
 pub mod PathCode
 pub mod OperandCode

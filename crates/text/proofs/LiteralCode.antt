@@ -20,10 +20,9 @@ use Rattle.tokens.specs.declared.Token.{Token}
 use Rattle.tokens.specs.Bytes.{part}
 use Rattle.tokens.specs.Numbers.{integerOf, valueOf}
 use Rattle.tokens.proofs.NumberLaws.{value-is}
-use Rattle.text.specs.declared.Reader.{Reader as Carried}
 use Rattle.text.specs.Reading.{Fault, fault, Reader, Form, form, peek, passing, opened, enough, literal, literalAt, outside}
 use Rattle.text.specs.Reading.{take as takeBy}
-use Rattle.text.specs.Told.{readerOf, readingOf, numberedOf, refusedBy, Peeks, Follows}
+use Rattle.text.specs.Told.{Carried, readerOf, readingOf, numberedOf, refusedBy, Peeks, Follows}
 use Rattle.text.specs.Written.{with1, wroteOne, numberedBy, Passes}
 use Rattle.text.specs.Pieces.{Lent, lent, formOf, Does, Piece, Opens, numberBy, constantBy}
 use Rattle.text.proofs.ToldLaws.{goes-on}

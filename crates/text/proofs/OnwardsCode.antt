@@ -10,10 +10,9 @@ use lib.IntN.{ℤ}
 use lib.ListN.{length}
 use Rattle.words.specs.Answer.{Answer, got, stop, _>>=_}
 use Rattle.tokens.specs.declared.Token.{Token}
-use Rattle.text.specs.declared.Reader.{Reader as Carried}
 use Rattle.text.specs.Reading.{Fault, Reader, Form, passing, peek, refusal, levelOf, isOperator, enough, over, onwards, climb}
 use Rattle.text.specs.Reading.{take as takeBy}
-use Rattle.text.specs.Told.{readerOf, refusedBy, Peeks, Follows}
+use Rattle.text.specs.Told.{Carried, readerOf, refusedBy, Peeks, Follows}
 use Rattle.text.specs.Pieces.{Lent, lent, formOf, Onward, joinedBy}
 use Rattle.text.proofs.AnswerSteps.{beside, bind-pair}
 use Rattle.text.proofs.DoesLaws.{Program, does-then, does-as, does-wider, does-nothing, does-stopped, does-refused, does-take}

@@ -10,10 +10,9 @@ use lib.ListN.{set}
 use Rattle.words.specs.Answer.{Answer, got, stop, _>>=_}
 use Rattle.words.proofs.AnswerLaws.{stop≢got, got-inj, stop-inj, either}
 use Rattle.tokens.specs.declared.Token.{Token}
-use Rattle.text.specs.declared.Reader.{Reader as Carried}
 use Rattle.text.specs.Reading.{Fault, fault, Reader, Form, wordThen, peek, variable, owing, path, pathOrSame, literal, literalAt, operand}
 use Rattle.text.specs.Reading.{take as takeBy}
-use Rattle.text.specs.Told.{readerOf, Peeks, Follows}
+use Rattle.text.specs.Told.{Carried, readerOf, Peeks, Follows}
 use Rattle.text.specs.Written.{with1, wroteOne, Owes}
 use Rattle.text.specs.Pieces.{Lent, lent, Fit, Does, Piece, behindFirst}
 use Rattle.text.proofs.RowsLaws.{fit-room, wrote-more}

@@ -14,10 +14,9 @@ use Rattle.words.proofs.AnswerLaws.{stop≢got, got-inj, stop-inj, either}
 use Rattle.words.proofs.Laws.{word-is}
 use Rattle.tables.proofs.SearchLaws.{cases}
 use Rattle.tokens.specs.declared.Token.{Token}
-use Rattle.text.specs.declared.Reader.{Reader as Carried}
 use Rattle.text.specs.Reading.{Fault, fault, Reader, Form, form, wordThen, andThen, peek, is, passing, variable, label, steps, path}
 use Rattle.text.specs.Reading.{take as takeBy}
-use Rattle.text.specs.Told.{readerOf, readingOf, numberedOf, Peeks, Follows, Numbers}
+use Rattle.text.specs.Told.{Carried, readerOf, readingOf, numberedOf, Peeks, Follows, Numbers}
 use Rattle.text.specs.Written.{with1, wroteOne, Passes}
 use Rattle.text.specs.Pieces.{Lent, lent, formOf, Fit, Does, Piece, behindFirst}
 use Rattle.text.proofs.ToldLaws.{goes-on}

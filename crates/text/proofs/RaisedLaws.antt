@@ -10,9 +10,8 @@ use lib.IntN.{ℤ, pos}
 use lib.ListN.{length, getD, set, take, drop, length-set, length-drop}
 use lib.Seq.{take-set-le, take-suc, getD-set-same, getD-set-other, getD-drop, drop-set-add, drop-cons, length-take-le, drop-at, take-append-add, sets, sets-eq}
 use Rattle.tables.proofs.SearchLaws.{cases}
-use Rattle.text.specs.declared.Reader.{Reader as Carried}
 use Rattle.text.specs.Reading.{everywhere}
-use Rattle.text.specs.Told.{readerOf}
+use Rattle.text.specs.Told.{Carried, readerOf}
 use Rattle.text.specs.Written.{since, raised, filled}
 use Rattle.text.specs.Pieces.{formOf, pieceOf, Inserts}
 use Rattle.text.proofs.RowsLaws.{fit-room}
@@ -174,6 +173,9 @@ grownBy k r = record {
   named = r .named;
   written = r .written + k;
   depth = r .depth;
+  code = r .code;
+  start = r .start;
+  end = r .end;
 }
 
 module _ (from p : ℕ) (gap ws : List ℤ) (os : List ℕ) (r : Carried) where

@@ -18,10 +18,9 @@ use Rattle.program.specs.Forms.{mostWords}
 use Rattle.program.specs.Reading.{among}
 use Rattle.tokens.specs.declared.Token.{Token}
 use Rattle.tokens.specs.Codes.{nameCode}
-use Rattle.text.specs.declared.Reader.{Reader as Carried}
 use Rattle.text.specs.Reading.{Fault, fault, Reader, Form, form, andThen, Named, peek, is, refusal, need, roomFor, known, numberIn, variable, label}
 use Rattle.text.specs.Reading.{take as takeBy}
-use Rattle.text.specs.Told.{atMost, readerOf, readingOf, numberedOf, refusedBy, Peeks, Follows}
+use Rattle.text.specs.Told.{Carried, atMost, readerOf, readingOf, numberedOf, refusedBy, Peeks, Follows}
 use Rattle.text.specs.Written.{since, with1, wroteOne}
 use Rattle.text.specs.Pieces.{Lent, lent, formOf, pieceOf, Fit}
 use Rattle.text.proofs.NamingLaws.{most-small, length-names, room-full}

@@ -11,9 +11,8 @@ use Rattle.words.specs.Answer.{Answer, got, stop, _>>=_}
 use Rattle.words.specs.Words.{wordOf}
 use Rattle.words.proofs.Laws.{word-is}
 use Rattle.tokens.specs.declared.Token.{Token}
-use Rattle.text.specs.declared.Reader.{Reader as Carried}
 use Rattle.text.specs.Reading.{Fault, Reader, Form, form, wordThen, andThen, owing, peek, take, path, enough, onwards, climb, expressionOn, partAt, constraintOn, statedOn, stated}
-use Rattle.text.specs.Told.{readerOf, Peeks, Follows}
+use Rattle.text.specs.Told.{Carried, readerOf, Peeks, Follows}
 use Rattle.text.specs.Written.{with1, wroteOne, deepBy, Owes}
 use Rattle.text.specs.Pieces.{Lent, lent, formOf, Fit, Does, Piece, Onward, inserted, Inserts, behindFirst, statedFrom}
 use Rattle.text.proofs.RowsLaws.{fit-room, fit-from, wrote-reader, wrote-more}

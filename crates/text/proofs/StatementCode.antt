@@ -10,11 +10,10 @@ use Rattle.words.specs.Answer.{Answer, got, stop, _>>=_}
 use Rattle.words.proofs.AnswerLaws.{stop≢got, step, either}
 use Rattle.tokens.specs.declared.Token.{Token}
 use Rattle.tokens.specs.Codes.{nameCode, skipCode, alwaysCode, onceCode, ifCode, thenCode, elseCode, whileCode, doCode}
-use Rattle.text.specs.declared.Reader.{Reader as Carried}
 use Rattle.text.specs.Reading.{Fault, Reader, Form, form, wordThen, andThen, owing, is, peek, refusal, take, need, variable, path, expression, assignment, statementAt, blockAt}
-use Rattle.text.specs.Told.{readerOf, refusedBy, Peeks, Follows}
+use Rattle.text.specs.Told.{Carried, readerOf, refusedBy, Peeks, Follows}
 use Rattle.text.specs.Written.{with1, wroteOne}
-use Rattle.text.specs.Pieces.{Lent, lent, Does, Piece, Expression, nextCode, statedFrom}
+use Rattle.text.specs.Pieces.{Lent, lent, Does, Piece, Expression, constantBy, nextCode, statedFrom}
 use Rattle.text.proofs.DoesLaws.{does-then, does-as, does-wider, does-refused, does-need, does-piece, expression-piece}
 use Rattle.text.proofs.PieceLaws.{either-way}
 use Rattle.text.proofs.AnswerSteps.{take-never, variable-never}
@@ -98,6 +97,9 @@ module _ (text : List ℕ) where
       pub code-name : {a b : Lent} {s : Carried} → t .code ≡ nameCode → Piece 0 0 a r (λ q. assignment text q) b s → Piece 0 3 a r (λ q. reads q) b s
       code-name {a = a} e x = does-wider (omega arith) (omega arith) (does-as x λ _ _. statement-name (λ v. blockAt text d v) (readerOf (a .names) r) (token-is (a .names) e))
 
+      pub code-skip : {a b : Lent} {s : Carried} → t .code ≡ skipCode → Piece 3 0 a r (λ q. constantBy text (pos 0) q) b s → Piece 0 3 a r (λ q. reads q) b s
+      code-skip {a = a} e x = does-wider (omega arith) (omega arith) (does-as x λ _ _. statement-skip (λ v. blockAt text d v) (readerOf (a .names) r) (token-is (a .names) e))
+
       pub code-always : {a b : Lent} {s : Carried} → t .code ≡ alwaysCode → Piece 0 3 a r (λ q. statedFrom text 3 q) b s → Piece 0 3 a r (λ q. reads q) b s
       code-always {a = a} e x = does-as x λ _ _. statement-always (λ v. blockAt text d v) (readerOf (a .names) r) (token-is (a .names) e)
 
@@ -117,9 +119,6 @@ module _ (text : List ℕ) where
         begun : (w : ℤ) → vs ≡ with1 ws u w → us ≡ with1 os u (t .place) → s ≡ wroteOne u
             → Does false 0 0 0 0 (r .written) (lent names ws os) r (λ f q. take text 1 q >>= λ v. got (form (w ∷ []) (peek text q .place ∷ []), v)) (lent names vs us) s
         begun w e1 e2 e3 = does-wider (omega arith) (omega arith) (constant-does text names p w taken e1 e2 e3)
-
-        pub code-skip : t .code ≡ skipCode → vs ≡ with1 ws u (pos 0) → us ≡ with1 os u (t .place) → s ≡ wroteOne u → Piece 0 3 (lent names ws os) r (λ q. reads q) (lent names vs us) s
-        code-skip e e1 e2 e3 = does-wider (omega arith) (omega arith) (does-as (begun (pos 0) e1 e2 e3) λ _ _. statement-skip (λ v. blockAt text d v) (readerOf names r) (token-is names e))
 
         -- a test behind the first word, and the keyword behind it
         tested-then : {c : Lent} {e v : Carried} (w : ℤ) (k : ℕ) → vs ≡ with1 ws u w → us ≡ with1 os u (t .place) → s ≡ wroteOne u

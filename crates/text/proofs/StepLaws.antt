@@ -10,9 +10,8 @@ use lib.ListN.{length, set, length-set}
 use lib.Seq.{take-set-le}
 use Rattle.words.specs.Answer.{Answer, got, stop}
 use Rattle.words.proofs.AnswerLaws.{stop≢got, got-inj}
-use Rattle.text.specs.declared.Reader.{Reader as Carried}
 use Rattle.text.specs.Reading.{Fault, fault, Reader, Form, form}
-use Rattle.text.specs.Told.{readerOf}
+use Rattle.text.specs.Told.{Carried, readerOf}
 use Rattle.text.specs.Pieces.{Lent, lent, formOf, pieceOf, Fit, Does, Piece}
 use Rattle.text.proofs.RowsLaws.{going, fit-room, fit-stops, fit-names, fit-here}
 use Rattle.text.proofs.DoesLaws.{Program, does-stopped, does-got, form-none}

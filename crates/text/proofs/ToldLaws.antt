@@ -12,9 +12,8 @@ use Rattle.tables.proofs.SearchLaws.{cases}
 use Rattle.program.specs.Forms.{mostWords}
 use Rattle.program.specs.Reading.{among}
 use Rattle.tokens.specs.declared.Token.{Token}
-use Rattle.text.specs.declared.Reader.{Reader as Carried}
 use Rattle.text.specs.Reading.{Fault, Named, Reader, peek, refusal, take, need, variable, label, numberIn, known, withName}
-use Rattle.text.specs.Told.{namesFrom, tableWith, countWith, atMost, readerOf, readingOf, numberedOf}
+use Rattle.text.specs.Told.{Carried, namesFrom, tableWith, countWith, atMost, readerOf, readingOf, numberedOf}
 use Rattle.text.specs.Told.{refusedAt, refusedBy, roomWith, behind, takenBy, namedVariable, namedLabel, Peeks, Follows, Numbers}
 use Rattle.text.proofs.NameLaws.{number-most}
 use Rattle.text.proofs.NamingLaws.{most-small, room-full, room-there, is-known, count-most, length-names, other-names, names-with}

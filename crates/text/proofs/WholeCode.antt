@@ -13,15 +13,17 @@ use lib.Seq.{length-take-le, take-all}
 use Rattle.words.specs.Answer.{got, stop}
 use Rattle.words.specs.Words.{wordOf, copied, cleared}
 use Rattle.tables.proofs.SearchLaws.{and-left, and-right}
-use Rattle.text.specs.declared.Reader.{Reader as Carried}
 use Rattle.text.specs.Reading.{fault, textAt}
-use Rattle.text.specs.Told.{atMost, readerOf}
+use Rattle.text.specs.Told.{Carried, atMost, readerOf}
 use Rattle.text.specs.Written.{since}
 use Rattle.text.specs.Pieces.{Lent, lent, formOf, pieceOf}
 use Rattle.text.specs.Whole.{answered, sized, read, toldFrom}
 use Rattle.text.proofs.AcceptedSound.{accepted-sound}
 use Rattle.text.proofs.NamingLaws.{most-small, most-is, length-names}
 use Rattle.text.proofs.ToldNames.{copied-over, told-over, names-told}
+
+pub most-of : (most x : ℕ) {n : ℕ} → n ≡ atMost most x → n ≤ most
+most-of most x e = rw e (most-small most x)
 
 -- what is written from the first word on
 module _ {A : Type 0} (ws : List A) (s : Carried) where

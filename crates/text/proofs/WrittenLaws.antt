@@ -9,8 +9,7 @@ use lib.Dec.{eqb, ltb}
 use lib.ListN.{length, set, take, drop, length-drop}
 use lib.Seq.{take-set-le}
 use Rattle.tables.proofs.SearchLaws.{cases}
-use Rattle.text.specs.declared.Reader.{Reader as Carried}
-use Rattle.text.specs.Told.{readerOf, readingOf}
+use Rattle.text.specs.Told.{Carried, readerOf, readingOf}
 use Rattle.text.proofs.ToldLaws.{follows-stopped}
 use Rattle.text.specs.Written.{since, with1, wroteOne, Passes, Owes}
 
@@ -52,6 +51,9 @@ pub passes : (b : Bool) (r : Carried) {s : Carried}
       named = r .named;
       written = r .written;
       depth = r .depth;
+      code = r .code;
+      start = r .start;
+      end = r .end;
     }
     → Passes b r s
 unfolding readingOf readerOf
@@ -71,6 +73,9 @@ pub owes-more : (k : ℕ) (r : Carried) {s : Carried}
       named = r .named;
       written = r .written;
       depth = r .depth;
+      code = r .code;
+      start = r .start;
+      end = r .end;
     }
     → Owes k r s
 unfolding readingOf readerOf

@@ -15,10 +15,9 @@ use Rattle.tokens.specs.Bytes.{part}
 use Rattle.tokens.specs.Codes.{semicolonCode, closeBraceCode}
 use Rattle.tokens.specs.Numbers.{integerOf}
 use Rattle.tokens.specs.Tokens.{tokenFrom}
-use Rattle.text.specs.declared.Reader.{Reader as Carried}
 use Rattle.text.specs.Reading.{Fault, Reader, Form, form, wordThen, andThen, everywhere, passing, dueAfter, levelOf, enough, peek, need, opened, over, climb, stated, fieldAt, fieldsOn, fieldsAt, rowAt, blockAt, textAt}
 use Rattle.text.specs.Reading.{take as takeBy}
-use Rattle.text.specs.Told.{readerOf, readingOf, numberedOf, unlessStopped}
+use Rattle.text.specs.Told.{Carried, readerOf, readingOf, numberedOf, unlessStopped}
 use Rattle.text.specs.Written.{since, row}
 
 -- the table of names, and the two rows that are written to
@@ -95,6 +94,9 @@ firstCarried = record {
   named = 0;
   written = 0;
   depth = 1;
+  code = 0;
+  start = 0;
+  end = 0;
 }
 
 module _ (text : List ℕ) where

@@ -10,8 +10,51 @@ use Rattle.program.specs.Forms.{mostWords}
 use Rattle.tokens.specs.declared.Token.{Token}
 use Rattle.tokens.specs.Bytes.{sameIn}
 use Rattle.tokens.specs.Codes.{tooLong}
-use Rattle.text.specs.declared.Reader.{Reader as Carried}
-use Rattle.text.specs.Reading.{Fault, fault, Named, Reader, peek}
+use Rattle.tokens.specs.Tokens.{tokenFrom}
+use Rattle.text.specs.Reading.{Fault, fault, Named, Reader, dueAfter, peek}
+
+-- what the code carries: number and place of a refusal (0 while it goes on), how far the text is read, the number of the name or how many brackets were read last, how many words are
+-- written, the depth of the expression read last, and the token to be judged
+pub record Carried : Type 0 where
+  pub number : ℕ
+  pub place : ℕ
+  pub at : ℕ
+  pub last : ℕ
+  pub certain : ℕ
+  pub owed : ℕ
+  pub passed : Bool
+  pub variables : ℕ
+  pub labels : ℕ
+  pub named : ℕ
+  pub written : ℕ
+  pub depth : ℕ
+  pub code : ℕ
+  pub start : ℕ
+  pub end : ℕ
+
+-- it stands in a row of words
+unfoldable pub carried : List ℕ → Carried
+carried s = record {
+  number = getD s 0 0;
+  place = getD s 1 0;
+  at = getD s 2 0;
+  last = getD s 3 0;
+  certain = getD s 4 0;
+  owed = getD s 5 0;
+  passed = ltb 0 (getD s 6 0);
+  variables = getD s 7 0;
+  labels = getD s 8 0;
+  named = getD s 9 0;
+  written = getD s 10 0;
+  depth = getD s 11 0;
+  code = getD s 12 0;
+  start = getD s 13 0;
+  end = getD s 14 0;
+}
+
+-- the token to be judged
+abbrev pub nextOf : Carried → Token
+nextOf r = record { code = r .code; place = r .start; end = r .end }
 
 -- ---- the table of names
 
@@ -78,6 +121,9 @@ refusedAt n p r = record {
   named = r .named;
   written = r .written;
   depth = r .depth;
+  code = r .code;
+  start = r .start;
+  end = r .end;
 }
 
 unfoldable pub refusedBy : Token → Carried → Carried
@@ -102,6 +148,9 @@ behind t k r = record {
   named = r .named;
   written = r .written;
   depth = r .depth;
+  code = r .code;
+  start = r .start;
+  end = r .end;
 }
 
 unfoldable pub takenBy : Token → ℕ → Carried → Carried
@@ -122,6 +171,9 @@ namedVariable count n r = record {
   named = n;
   written = r .written;
   depth = r .depth;
+  code = r .code;
+  start = r .start;
+  end = r .end;
 }
 
 abbrev pub namedLabel : ℕ → ℕ → Carried → Carried
@@ -138,13 +190,44 @@ namedLabel count n r = record {
   named = n;
   written = r .written;
   depth = r .depth;
+  code = r .code;
+  start = r .start;
+  end = r .end;
 }
+
+-- the same reader, with the token that stands there
+abbrev pub lookedBy : List ℕ → Carried → Carried
+lookedBy text r = record {
+  number = r .number;
+  place = r .place;
+  at = r .at;
+  last = r .last;
+  certain = r .certain;
+  owed = r .owed;
+  passed = r .passed;
+  variables = r .variables;
+  labels = r .labels;
+  named = r .named;
+  written = r .written;
+  depth = r .depth;
+  code = tokenFrom (dueAfter (r .last)) text (r .at) .code;
+  start = tokenFrom (dueAfter (r .last)) text (r .at) .place;
+  end = tokenFrom (dueAfter (r .last)) text (r .at) .end;
+}
+
+-- the token is taken, and the next one looked at
+unfoldable pub tookBy : List ℕ → ℕ → Carried → Carried
+tookBy text k r = cond (roomWith k r) (lookedBy text (behind (nextOf r) k r)) (refusedAt 22 (r .start) r)
 
 -- ---- what the functions promise
 
 -- the token to be judged, whatever the names
 abbrev pub Peeks : List ℕ → Carried → Token → Type 0
 Peeks text r t = (names : List ℕ) → t ≡ peek text (readerOf names r)
+
+-- the reader has it
+abbrev pub Ahead : List ℕ → Carried → Type 0
+Ahead text r = Peeks text r (nextOf r)
 
 -- s is r after a step that leaves the names, and the words that are written
 pub record Follows (r : Carried) (step : Reader → Answer Fault Reader) (s : Carried) : Type 0 where

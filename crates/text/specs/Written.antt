@@ -1,15 +1,14 @@
 -- What is written: words, and the places that they come from, one after the other. Assumes nothing: these are definitions.
 use mathlib.Core.Path.{_≡_}
 use Prim.Native.Nat.{ℕ, zero, suc, _+_, _-_, _≤_}
-use mathlib.Core.Bool.{Bool, cond}
+use mathlib.Core.Bool.{Bool, cond, _||_}
 use mathlib.Core.List.{List, [], _∷_}
 use lib.Dec.{ltb}
 use lib.ListN.{set, getD, take, drop}
 use Rattle.words.specs.Answer.{got}
 use Rattle.program.specs.Forms.{mostWords}
-use Rattle.text.specs.declared.Reader.{Reader as Carried}
 use Rattle.text.specs.Reading.{passing, owing}
-use Rattle.text.specs.Told.{Follows}
+use Rattle.text.specs.Told.{Carried, Follows}
 
 -- how many words the rows hold: those that may be certain, and more than can be owed
 abbrev pub row : ℕ
@@ -37,10 +36,33 @@ oneMore r = record {
   named = r .named;
   written = r .written + 1;
   depth = r .depth;
+  code = r .code;
+  start = r .start;
+  end = r .end;
 }
 
 unfoldable pub wroteOne : Carried → Carried
 wroteOne r = cond (ltb (r .written) row) (oneMore r) r
+
+-- the same reader, whose next token passes a limit where b says so, exactly
+abbrev pub passBy : Bool → Carried → Carried
+passBy b r = record {
+  number = r .number;
+  place = r .place;
+  at = r .at;
+  last = r .last;
+  certain = r .certain;
+  owed = r .owed;
+  passed = r .passed || b;
+  variables = r .variables;
+  labels = r .labels;
+  named = r .named;
+  written = r .written;
+  depth = r .depth;
+  code = r .code;
+  start = r .start;
+  end = r .end;
+}
 
 -- the same reader, whose next token passes a limit where b says so; and one that owes k words more, where what it owes is no more than there may be
 abbrev pub Passes : Bool → Carried → Carried → Type 0
@@ -74,6 +96,9 @@ deepBy d r = record {
   named = r .named;
   written = r .written;
   depth = d;
+  code = r .code;
+  start = r .start;
+  end = r .end;
 }
 
 abbrev pub numberedBy : ℕ → Carried → Carried
@@ -90,4 +115,7 @@ numberedBy n r = record {
   named = n;
   written = r .written;
   depth = r .depth;
+  code = r .code;
+  start = r .start;
+  end = r .end;
 }

@@ -3,19 +3,24 @@ use super::assignments::assignment;
 use super::constraints::stated;
 use super::expressions::expression;
 use super::reading::need;
-use super::reading::peek;
 use super::reading::refused;
 use super::reading::take;
-use super::writing::passing;
+use super::writing::pass;
 use super::writing::put_word;
 use super::writing::write;
-use crate::Reader;
+use crate::CODE;
+use crate::NUMBER;
+use crate::START;
+use crate::WRITTEN;
 ghost use mathlib.Core.Path.{_≡_};
 ghost use mathlib.Core.Bool.{false};
-ghost use Prim.Native.Nat.{_<_};
+ghost use mathlib.Core.List.{List};
+ghost use Prim.Native.Nat.{ℕ, _<_};
+ghost use lib.IntN.{pos};
 ghost use Rattle.tokens.specs.Codes.{ifCode, whileCode};
 ghost use Rattle.text.specs.Reading.{statementAt, blockAt};
-ghost use Rattle.text.specs.Pieces.{lent, Piece, Onward, behindFirst, nextCode, rowBy};
+ghost use Rattle.text.specs.Told.{carried, Ahead};
+ghost use Rattle.text.specs.Pieces.{lent, Piece, Onward, behindFirst, nextCode, constantBy, rowBy};
 
 const SKIP: i32 = 0;
 
@@ -33,18 +38,20 @@ fn conditional(
     names: &mut [usize],
     words: &mut [i32],
     origins: &mut [usize],
-    r: Reader,
+    s: &mut [usize; 15],
     d: usize,
-) -> Reader
-    ensures { λ s. ⌜ (nextCode (now (text .entry)) r ≡ ifCode → Piece 0 3 (lent (now (names .entry)) (now (words .entry)) (now (origins .entry))) r (λ q. statementAt (now (text .entry)) (λ v. blockAt (now (text .entry)) d v) q) (lent (now (names .exit)) (now (words .exit)) (now (origins .exit))) s) ⌝ }
+)
+    ensures { λ _. ⌜ (Ahead (now (text .entry)) (carried (now (s .entry))) → nextCode (now (text .entry)) (carried (now (s .entry))) ≡ ifCode → Piece 0 3 (lent (now (names .entry)) (now (words .entry)) (now (origins .entry))) (carried (now (s .entry))) (λ q. statementAt (now (text .entry)) (λ v. blockAt (now (text .entry)) d v) q) (lent (now (names .exit)) (now (words .exit)) (now (origins .exit))) (carried (now (s .exit)))) ⌝ }
+    ensures { λ _. ⌜ (Ahead (now (text .entry)) (carried (now (s .entry))) → Ahead (now (text .entry)) (carried (now (s .exit)))) ⌝ }
 {
-    let t = peek(text, r);
-    let s = write(words, origins, take(text, r, 1), IF, t.place);
-    let e = expression(text, names, words, origins, s, false);
-    let u = need(text, e, tokens::THEN, 0);
-    let a = block(text, names, words, origins, u, d);
-    let v = need(text, a, tokens::ELSE, 0);
-    block(text, names, words, origins, v, d)
+    let p = s[START];
+    take(text, s, 1);
+    write(words, origins, s, IF, p);
+    expression(text, names, words, origins, s, false);
+    need(text, s, tokens::THEN, 0);
+    block(text, names, words, origins, s, d);
+    need(text, s, tokens::ELSE, 0);
+    block(text, names, words, origins, s, d);
 }
 
 // while, with its test and its block.
@@ -53,16 +60,28 @@ fn repeated(
     names: &mut [usize],
     words: &mut [i32],
     origins: &mut [usize],
-    r: Reader,
+    s: &mut [usize; 15],
     d: usize,
-) -> Reader
-    ensures { λ s. ⌜ (nextCode (now (text .entry)) r ≡ whileCode → Piece 0 3 (lent (now (names .entry)) (now (words .entry)) (now (origins .entry))) r (λ q. statementAt (now (text .entry)) (λ v. blockAt (now (text .entry)) d v) q) (lent (now (names .exit)) (now (words .exit)) (now (origins .exit))) s) ⌝ }
+)
+    ensures { λ _. ⌜ (Ahead (now (text .entry)) (carried (now (s .entry))) → nextCode (now (text .entry)) (carried (now (s .entry))) ≡ whileCode → Piece 0 3 (lent (now (names .entry)) (now (words .entry)) (now (origins .entry))) (carried (now (s .entry))) (λ q. statementAt (now (text .entry)) (λ v. blockAt (now (text .entry)) d v) q) (lent (now (names .exit)) (now (words .exit)) (now (origins .exit))) (carried (now (s .exit)))) ⌝ }
+    ensures { λ _. ⌜ (Ahead (now (text .entry)) (carried (now (s .entry))) → Ahead (now (text .entry)) (carried (now (s .exit)))) ⌝ }
 {
-    let t = peek(text, r);
-    let s = write(words, origins, take(text, r, 1), WHILE, t.place);
-    let e = expression(text, names, words, origins, s, false);
-    let u = need(text, e, tokens::DO, 0);
-    block(text, names, words, origins, u, d)
+    let p = s[START];
+    take(text, s, 1);
+    write(words, origins, s, WHILE, p);
+    expression(text, names, words, origins, s, false);
+    need(text, s, tokens::DO, 0);
+    block(text, names, words, origins, s, d);
+}
+
+// skip.
+fn skip(text: &[u8], words: &mut [i32], origins: &mut [usize], s: &mut [usize; 15])
+    ensures { λ _. ⌜ (Ahead (now (text .entry)) (carried (now (s .entry))) → (names : List ℕ) → Piece 3 0 (lent names (now (words .entry)) (now (origins .entry))) (carried (now (s .entry))) (λ q. constantBy (now (text .entry)) (pos 0) q) (lent names (now (words .exit)) (now (origins .exit))) (carried (now (s .exit)))) ⌝ }
+    ensures { λ _. ⌜ (Ahead (now (text .entry)) (carried (now (s .entry))) → Ahead (now (text .entry)) (carried (now (s .exit)))) ⌝ }
+{
+    let p = s[START];
+    take(text, s, 1);
+    write(words, origins, s, SKIP, p);
 }
 
 // A statement, whose blocks nest at most d deep.
@@ -71,34 +90,41 @@ fn statement(
     names: &mut [usize],
     words: &mut [i32],
     origins: &mut [usize],
-    r: Reader,
+    s: &mut [usize; 15],
     d: usize,
-) -> Reader
-    ensures { λ s. ⌜ Piece 0 3 (lent (now (names .entry)) (now (words .entry)) (now (origins .entry))) r (λ q. statementAt (now (text .entry)) (λ v. blockAt (now (text .entry)) d v) q) (lent (now (names .exit)) (now (words .exit)) (now (origins .exit))) s ⌝ }
+)
+    ensures { λ _. ⌜ (Ahead (now (text .entry)) (carried (now (s .entry))) → Piece 0 3 (lent (now (names .entry)) (now (words .entry)) (now (origins .entry))) (carried (now (s .entry))) (λ q. statementAt (now (text .entry)) (λ v. blockAt (now (text .entry)) d v) q) (lent (now (names .exit)) (now (words .exit)) (now (origins .exit))) (carried (now (s .exit)))) ⌝ }
+    ensures { λ _. ⌜ (Ahead (now (text .entry)) (carried (now (s .entry))) → Ahead (now (text .entry)) (carried (now (s .exit)))) ⌝ }
 {
-    if r.number != 0 {
-        return r;
+    if s[NUMBER] != 0 {
+        return;
     }
-    let t = peek(text, r);
-    if t.code == tokens::NAME {
-        return assignment(text, names, words, origins, r);
+    let code = s[CODE];
+    if code == tokens::NAME {
+        assignment(text, names, words, origins, s);
+        return;
     }
-    if t.code == tokens::SKIP {
-        return write(words, origins, take(text, r, 1), SKIP, t.place);
+    if code == tokens::SKIP {
+        skip(text, words, origins, s);
+        return;
     }
-    if t.code == tokens::ALWAYS {
-        return stated(text, names, words, origins, r, ALWAYS);
+    if code == tokens::ALWAYS {
+        stated(text, names, words, origins, s, ALWAYS);
+        return;
     }
-    if t.code == tokens::ONCE {
-        return stated(text, names, words, origins, r, ONCE);
+    if code == tokens::ONCE {
+        stated(text, names, words, origins, s, ONCE);
+        return;
     }
-    if t.code == tokens::IF {
-        return conditional(text, names, words, origins, r, d);
+    if code == tokens::IF {
+        conditional(text, names, words, origins, s, d);
+        return;
     }
-    if t.code == tokens::WHILE {
-        return repeated(text, names, words, origins, r, d);
+    if code == tokens::WHILE {
+        repeated(text, names, words, origins, s, d);
+        return;
     }
-    refused(r, t)
+    refused(s);
 }
 
 // One or more statements, parted by `;`, and their n, at the word from, which comes from the place p.
@@ -107,29 +133,28 @@ pub(crate) fn statements(
     names: &mut [usize],
     words: &mut [i32],
     origins: &mut [usize],
-    r: Reader,
+    s: &mut [usize; 15],
     from: usize,
     p: usize,
     d: usize,
-) -> Reader
-    ensures { λ s. ⌜ ((r .number ≡ 0 → from < r .written) → Onward false 0 3 from (lent (now (names .entry)) (now (words .entry)) (now (origins .entry))) r (λ f q. rowBy (now (text .entry)) d p (behindFirst f) q) (lent (now (names .exit)) (now (words .exit)) (now (origins .exit))) s) ⌝ }
+)
+    ensures { λ _. ⌜ (Ahead (now (text .entry)) (carried (now (s .entry))) → ((carried (now (s .entry))) .number ≡ 0 → from < (carried (now (s .entry))) .written) → Onward false 0 3 from (lent (now (names .entry)) (now (words .entry)) (now (origins .entry))) (carried (now (s .entry))) (λ f q. rowBy (now (text .entry)) d p (behindFirst f) q) (lent (now (names .exit)) (now (words .exit)) (now (origins .exit))) (carried (now (s .exit)))) ⌝ }
+    ensures { λ _. ⌜ (Ahead (now (text .entry)) (carried (now (s .entry))) → Ahead (now (text .entry)) (carried (now (s .exit)))) ⌝ }
 {
-    let mut s = r;
     let mut n: usize = 0;
     while n <= program::MOST_STATEMENTS {
-        let u = passing(s, n == program::MOST_STATEMENTS);
-        s = statement(text, names, words, origins, u, d);
-        if s.number != 0 {
-            return s;
+        pass(s, n == program::MOST_STATEMENTS);
+        statement(text, names, words, origins, s, d);
+        if s[NUMBER] != 0 {
+            return;
         }
         n += 1;
-        if peek(text, s).code != tokens::SEMICOLON {
+        if s[CODE] != tokens::SEMICOLON {
             put_word(words, origins, from, words::word_of(n), p);
-            return s;
+            return;
         }
-        s = take(text, s, 0);
+        take(text, s, 0);
     }
-    s
 }
 
 // A block in its braces, which nests at most d deep.
@@ -138,21 +163,24 @@ fn block(
     names: &mut [usize],
     words: &mut [i32],
     origins: &mut [usize],
-    r: Reader,
+    s: &mut [usize; 15],
     d: usize,
-) -> Reader
-    ensures { λ s. ⌜ Piece 0 0 (lent (now (names .entry)) (now (words .entry)) (now (origins .entry))) r (λ q. blockAt (now (text .entry)) d q) (lent (now (names .exit)) (now (words .exit)) (now (origins .exit))) s ⌝ }
+)
+    ensures { λ _. ⌜ (Ahead (now (text .entry)) (carried (now (s .entry))) → Piece 0 0 (lent (now (names .entry)) (now (words .entry)) (now (origins .entry))) (carried (now (s .entry))) (λ q. blockAt (now (text .entry)) d q) (lent (now (names .exit)) (now (words .exit)) (now (origins .exit))) (carried (now (s .exit)))) ⌝ }
+    ensures { λ _. ⌜ (Ahead (now (text .entry)) (carried (now (s .entry))) → Ahead (now (text .entry)) (carried (now (s .exit)))) ⌝ }
 {
-    let from = r.written;
-    let t = peek(text, r);
-    let s = need(text, passing(r, d == 0), tokens::OPEN_BRACE, 1);
+    let from = s[WRITTEN];
+    let p = s[START];
+    pass(s, d == 0);
+    need(text, s, tokens::OPEN_BRACE, 1);
     if d == 0 {
-        return s;
+        return;
     }
-    let u = write(words, origins, s, 0, t.place);
-    if peek(text, u).code == tokens::CLOSE_BRACE {
-        return take(text, u, 0);
+    write(words, origins, s, 0, p);
+    if s[CODE] == tokens::CLOSE_BRACE {
+        take(text, s, 0);
+        return;
     }
-    let v = statements(text, names, words, origins, u, from, t.place, d - 1);
-    need(text, v, tokens::CLOSE_BRACE, 0)
+    statements(text, names, words, origins, s, from, p, d - 1);
+    need(text, s, tokens::CLOSE_BRACE, 0);
 }

@@ -2,38 +2,41 @@
 use super::expressions::expression;
 use super::expressions::onwards;
 use super::paths::path;
-use super::reading::peek;
 use super::reading::take;
-use super::writing::deep;
+use super::writing::deepen;
 use super::writing::insert;
-use super::writing::owing;
-use super::writing::passing;
+use super::writing::owe;
+use super::writing::pass;
 use super::writing::put_word;
 use super::writing::write;
-use crate::Reader;
-use tokens::Token;
+use crate::CODE;
+use crate::NUMBER;
+use crate::START;
+use crate::WRITTEN;
 ghost use mathlib.Core.Path.{_≡_};
 ghost use mathlib.Core.Bool.{false};
 ghost use mathlib.Core.List.{List};
 ghost use Prim.Native.Nat.{ℕ, _≤_, _<_};
+ghost use Rattle.tokens.specs.declared.Token.{Token};
 ghost use Rattle.text.specs.Reading.{priority as priorityBy, partAt, constraintOn, statedOn};
+ghost use Rattle.text.specs.Told.{carried, Ahead};
 ghost use Rattle.text.specs.Pieces.{lent, Piece, Onward, behindFirst, statedFrom};
 
 const REQUIRED: i32 = 3;
 
 const PATH: i32 = 24;
 
-// The priority that a token writes, 0 for none.
-fn priority(t: Token) -> usize
-    ensures { λ r. ⌜ ((text : List ℕ) → r ≡ priorityBy text t) ⌝ }
+// The priority that a token of this code writes, 0 for none.
+fn priority(code: usize) -> usize
+    ensures { λ r. ⌜ ((text : List ℕ) (t : Token) → t .code ≡ code → r ≡ priorityBy text t) ⌝ }
 {
-    if t.code < tokens::WEAK {
+    if code < tokens::WEAK {
         return 0;
     }
-    if tokens::REQUIRED < t.code {
+    if tokens::REQUIRED < code {
         return 0;
     }
-    t.code - tokens::WEAK + 1
+    code - tokens::WEAK + 1
 }
 
 // A part: its priority, which is required where none is written, and its expression.
@@ -42,18 +45,22 @@ fn part_at(
     names: &mut [usize],
     words: &mut [i32],
     origins: &mut [usize],
-    r: Reader,
-) -> Reader
-    ensures { λ s. ⌜ Piece 1 0 (lent (now (names .entry)) (now (words .entry)) (now (origins .entry))) r (λ q. partAt (now (text .entry)) q) (lent (now (names .exit)) (now (words .exit)) (now (origins .exit))) s ⌝ }
+    s: &mut [usize; 15],
+)
+    ensures { λ _. ⌜ (Ahead (now (text .entry)) (carried (now (s .entry))) → Piece 1 0 (lent (now (names .entry)) (now (words .entry)) (now (origins .entry))) (carried (now (s .entry))) (λ q. partAt (now (text .entry)) q) (lent (now (names .exit)) (now (words .exit)) (now (origins .exit))) (carried (now (s .exit)))) ⌝ }
+    ensures { λ _. ⌜ (Ahead (now (text .entry)) (carried (now (s .entry))) → Ahead (now (text .entry)) (carried (now (s .exit)))) ⌝ }
 {
-    let t = peek(text, r);
-    let p = priority(t);
-    if 0 < p {
-        let s = write(words, origins, take(text, r, 1), words::word_of(p), t.place);
-        return expression(text, names, words, origins, s, true);
+    let p = s[START];
+    let n = priority(s[CODE]);
+    if 0 < n {
+        take(text, s, 1);
+        write(words, origins, s, words::word_of(n), p);
+        expression(text, names, words, origins, s, true);
+        return;
     }
-    let s = write(words, origins, owing(r, 1), REQUIRED, t.place);
-    expression(text, names, words, origins, s, true)
+    owe(s, 1);
+    write(words, origins, s, REQUIRED, p);
+    expression(text, names, words, origins, s, true);
 }
 
 // The parts behind the first one, and m, at the word from, which comes from the place p.
@@ -62,27 +69,27 @@ fn constraint_on(
     names: &mut [usize],
     words: &mut [i32],
     origins: &mut [usize],
-    r: Reader,
+    s: &mut [usize; 15],
     from: usize,
     p: usize,
-) -> Reader
-    ensures { λ s. ⌜ ((most : ℕ) → most ≤ 3 → (r .number ≡ 0 → from < r .written) → Onward false most most from (lent (now (names .entry)) (now (words .entry)) (now (origins .entry))) r (λ f q. constraintOn (now (text .entry)) p (behindFirst f) q) (lent (now (names .exit)) (now (words .exit)) (now (origins .exit))) s) ⌝ }
+)
+    ensures { λ _. ⌜ (Ahead (now (text .entry)) (carried (now (s .entry))) → (most : ℕ) → most ≤ 3 → ((carried (now (s .entry))) .number ≡ 0 → from < (carried (now (s .entry))) .written) → Onward false most most from (lent (now (names .entry)) (now (words .entry)) (now (origins .entry))) (carried (now (s .entry))) (λ f q. constraintOn (now (text .entry)) p (behindFirst f) q) (lent (now (names .exit)) (now (words .exit)) (now (origins .exit))) (carried (now (s .exit)))) ⌝ }
+    ensures { λ _. ⌜ (Ahead (now (text .entry)) (carried (now (s .entry))) → Ahead (now (text .entry)) (carried (now (s .exit)))) ⌝ }
 {
-    let mut s = r;
     let mut m: usize = 1;
     while m <= program::MOST_PARTS {
-        if s.number != 0 {
-            return s;
+        if s[NUMBER] != 0 {
+            return;
         }
-        if peek(text, s).code != tokens::BESIDE {
+        if s[CODE] != tokens::BESIDE {
             put_word(words, origins, from, words::word_of(m), p);
-            return s;
+            return;
         }
-        let u = passing(take(text, s, 0), m == program::MOST_PARTS);
-        s = part_at(text, names, words, origins, u);
+        take(text, s, 0);
+        pass(s, m == program::MOST_PARTS);
+        part_at(text, names, words, origins, s);
         m += 1;
     }
-    s
 }
 
 // What follows the path behind `always` (3) or `once` (4). The statement's word, at from, comes from the place p, the path from the place at.
@@ -91,39 +98,44 @@ fn stated_on(
     names: &mut [usize],
     words: &mut [i32],
     origins: &mut [usize],
-    r: Reader,
+    s: &mut [usize; 15],
     from: usize,
     verb: usize,
     p: usize,
     at: usize,
-) -> Reader
+)
     requires { ⌜ from < 4100 ⌝ }
     requires { ⌜ verb < 4096 ⌝ }
-    ensures { λ s. ⌜ (from < r .written → Onward false 0 3 from (lent (now (names .entry)) (now (words .entry)) (now (origins .entry))) r (λ f q. statedOn (now (text .entry)) verb p at (behindFirst f) q) (lent (now (names .exit)) (now (words .exit)) (now (origins .exit))) s) ⌝ }
+    ensures { λ _. ⌜ (Ahead (now (text .entry)) (carried (now (s .entry))) → from < (carried (now (s .entry))) .written → Onward false 0 3 from (lent (now (names .entry)) (now (words .entry)) (now (origins .entry))) (carried (now (s .entry))) (λ f q. statedOn (now (text .entry)) verb p at (behindFirst f) q) (lent (now (names .exit)) (now (words .exit)) (now (origins .exit))) (carried (now (s .exit)))) ⌝ }
+    ensures { λ _. ⌜ (Ahead (now (text .entry)) (carried (now (s .entry))) → Ahead (now (text .entry)) (carried (now (s .exit)))) ⌝ }
 {
-    if r.number != 0 {
-        return r;
+    if s[NUMBER] != 0 {
+        return;
     }
-    if peek(text, r).code == tokens::IDENTICAL {
+    if s[CODE] == tokens::IDENTICAL {
         put_word(words, origins, from, words::word_of(verb + 2), p);
-        return path(text, names, words, origins, take(text, r, 0));
+        take(text, s, 0);
+        path(text, names, words, origins, s);
+        return;
     }
     put_word(words, origins, from, words::word_of(verb), p);
     let gap = [0, REQUIRED, PATH];
-    let s = insert(words, origins, from + 1, owing(r, 3), &gap, at);
-    let e = onwards(
+    owe(s, 3);
+    insert(words, origins, from + 1, s, &gap, at);
+    deepen(s, 1);
+    onwards(
         text,
         names,
         words,
         origins,
-        deep(s, 1),
+        s,
         from + 3,
         program::EXPRESSION_DEPTH - 1,
         true,
         1,
         0,
     );
-    constraint_on(text, names, words, origins, e, from + 1, at)
+    constraint_on(text, names, words, origins, s, from + 1, at);
 }
 
 // `always` (3) or `once` (4), with what follows.
@@ -132,41 +144,29 @@ pub(crate) fn stated(
     names: &mut [usize],
     words: &mut [i32],
     origins: &mut [usize],
-    r: Reader,
+    s: &mut [usize; 15],
     verb: usize,
-) -> Reader
+)
     requires { ⌜ verb < 4096 ⌝ }
-    ensures { λ s. ⌜ Piece 0 3 (lent (now (names .entry)) (now (words .entry)) (now (origins .entry))) r (λ q. statedFrom (now (text .entry)) verb q) (lent (now (names .exit)) (now (words .exit)) (now (origins .exit))) s ⌝ }
+    ensures { λ _. ⌜ (Ahead (now (text .entry)) (carried (now (s .entry))) → Piece 0 3 (lent (now (names .entry)) (now (words .entry)) (now (origins .entry))) (carried (now (s .entry))) (λ q. statedFrom (now (text .entry)) verb q) (lent (now (names .exit)) (now (words .exit)) (now (origins .exit))) (carried (now (s .exit)))) ⌝ }
+    ensures { λ _. ⌜ (Ahead (now (text .entry)) (carried (now (s .entry))) → Ahead (now (text .entry)) (carried (now (s .exit)))) ⌝ }
 {
-    let from = r.written;
+    let from = s[WRITTEN];
     if crate::ROW <= from {
-        return r;
+        return;
     }
-    let t = peek(text, r);
-    let s = write(
-        words,
-        origins,
-        take(text, r, 1),
-        words::word_of(verb),
-        t.place,
-    );
-    let first = peek(text, s);
-    if first.code == tokens::NAME {
-        let u = path(text, names, words, origins, s);
-        return stated_on(
-            text,
-            names,
-            words,
-            origins,
-            u,
-            from,
-            verb,
-            t.place,
-            first.place,
-        );
+    let p = s[START];
+    take(text, s, 1);
+    write(words, origins, s, words::word_of(verb), p);
+    let at = s[START];
+    if s[CODE] == tokens::NAME {
+        path(text, names, words, origins, s);
+        stated_on(text, names, words, origins, s, from, verb, p, at);
+        return;
     }
-    let at = s.written;
-    let u = write(words, origins, owing(s, 1), 0, first.place);
-    let e = part_at(text, names, words, origins, u);
-    constraint_on(text, names, words, origins, e, at, first.place)
+    let first = s[WRITTEN];
+    owe(s, 1);
+    write(words, origins, s, 0, at);
+    part_at(text, names, words, origins, s);
+    constraint_on(text, names, words, origins, s, first, at);
 }

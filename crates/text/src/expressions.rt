@@ -1,17 +1,21 @@
 // Operands, brackets and operators.
 use super::paths::path;
-use super::reading::peek;
 use super::reading::refused;
 use super::reading::take;
-use super::writing::deep;
+use super::writing::count;
+use super::writing::deepen;
 use super::writing::insert;
-use super::writing::numbered;
-use super::writing::owing;
-use super::writing::passing;
+use super::writing::owe;
+use super::writing::pass;
 use super::writing::put_word;
 use super::writing::write;
-use crate::Reader;
-use tokens::Token;
+use crate::CODE;
+use crate::DEPTH;
+use crate::END;
+use crate::NAMED;
+use crate::NUMBER;
+use crate::START;
+use crate::WRITTEN;
 use words::Ranged;
 ghost use mathlib.Core.Path.{_≡_};
 ghost use mathlib.Core.Bool.{true, false, cond, _&&_};
@@ -19,7 +23,7 @@ ghost use mathlib.Core.List.{List};
 ghost use Prim.Native.Nat.{ℕ, suc, _-_, _≤_, _<_};
 ghost use lib.Dec.{ltb, leb};
 ghost use Rattle.text.specs.Reading.{levelOf, isOperator, enough, peek as peekBy, literal as literalBy, literalAt, pathOrSame, operand as operandBy, onwards as onwardsBy, climb as climbBy, expression as expressionBy};
-ghost use Rattle.text.specs.Told.{Peeks};
+ghost use Rattle.text.specs.Told.{carried, nextOf, Ahead};
 ghost use Rattle.text.specs.Pieces.{lent, Piece, Expression, Onward, Opens, numberBy, constantBy, joinedBy};
 
 const NIL: i32 = 20;
@@ -37,47 +41,60 @@ const OPERATION: i32 = 25;
 const SAME: i32 = 26;
 
 // A number's two words.
-fn number(text: &[u8], words: &mut [i32], origins: &mut [usize], r: Reader) -> Reader
-    ensures { λ s. ⌜ ((names : List ℕ) → Piece 3 0 (lent names (now (words .entry)) (now (origins .entry))) r (λ q. numberBy (now (text .entry)) q) (lent names (now (words .exit)) (now (origins .exit))) s) ⌝ }
+fn number(text: &[u8], words: &mut [i32], origins: &mut [usize], s: &mut [usize; 15])
+    ensures { λ _. ⌜ (Ahead (now (text .entry)) (carried (now (s .entry))) → (names : List ℕ) → Piece 3 0 (lent names (now (words .entry)) (now (origins .entry))) (carried (now (s .entry))) (λ q. numberBy (now (text .entry)) q) (lent names (now (words .exit)) (now (origins .exit))) (carried (now (s .exit)))) ⌝ }
+    ensures { λ _. ⌜ (Ahead (now (text .entry)) (carried (now (s .entry))) → Ahead (now (text .entry)) (carried (now (s .exit)))) ⌝ }
 {
-    let t = peek(text, r);
-    match tokens::numbers::value(text, t.place, t.end) {
-        Ranged::Outside => take(text, passing(r, true), 2),
+    let p = s[START];
+    match tokens::numbers::value(text, p, s[END]) {
+        Ranged::Outside => {
+            pass(s, true);
+            take(text, s, 2);
+        }
         Ranged::Within(w) => {
-            let s = write(words, origins, take(text, r, 2), INTEGER, t.place);
-            write(words, origins, s, w, t.place)
+            take(text, s, 2);
+            write(words, origins, s, INTEGER, p);
+            write(words, origins, s, w, p);
         }
     }
 }
 
 // The one word of another literal.
-fn constant(text: &[u8], words: &mut [i32], origins: &mut [usize], r: Reader, w: i32) -> Reader
-    ensures { λ s. ⌜ ((names : List ℕ) → Piece 3 0 (lent names (now (words .entry)) (now (origins .entry))) r (λ q. constantBy (now (text .entry)) w q) (lent names (now (words .exit)) (now (origins .exit))) s) ⌝ }
+fn constant(text: &[u8], words: &mut [i32], origins: &mut [usize], s: &mut [usize; 15], w: i32)
+    ensures { λ _. ⌜ (Ahead (now (text .entry)) (carried (now (s .entry))) → (names : List ℕ) → Piece 3 0 (lent names (now (words .entry)) (now (origins .entry))) (carried (now (s .entry))) (λ q. constantBy (now (text .entry)) w q) (lent names (now (words .exit)) (now (origins .exit))) (carried (now (s .exit)))) ⌝ }
+    ensures { λ _. ⌜ (Ahead (now (text .entry)) (carried (now (s .entry))) → Ahead (now (text .entry)) (carried (now (s .exit)))) ⌝ }
 {
-    let t = peek(text, r);
-    write(words, origins, take(text, r, 1), w, t.place)
+    let p = s[START];
+    take(text, s, 1);
+    write(words, origins, s, w, p);
 }
 
-fn literal(text: &[u8], words: &mut [i32], origins: &mut [usize], r: Reader) -> Reader
-    ensures { λ s. ⌜ ((names : List ℕ) → Piece 3 0 (lent names (now (words .entry)) (now (origins .entry))) r (λ q. literalAt (now (text .entry)) q (literalBy (now (text .entry)) (peekBy (now (text .entry)) q))) (lent names (now (words .exit)) (now (origins .exit))) s) ⌝ }
+// nil, a truth value or a number.
+fn literal(text: &[u8], words: &mut [i32], origins: &mut [usize], s: &mut [usize; 15])
+    ensures { λ _. ⌜ (Ahead (now (text .entry)) (carried (now (s .entry))) → (names : List ℕ) → Piece 3 0 (lent names (now (words .entry)) (now (origins .entry))) (carried (now (s .entry))) (λ q. literalAt (now (text .entry)) q (literalBy (now (text .entry)) (peekBy (now (text .entry)) q))) (lent names (now (words .exit)) (now (origins .exit))) (carried (now (s .exit)))) ⌝ }
+    ensures { λ _. ⌜ (Ahead (now (text .entry)) (carried (now (s .entry))) → Ahead (now (text .entry)) (carried (now (s .exit)))) ⌝ }
 {
-    if r.number != 0 {
-        return r;
+    if s[NUMBER] != 0 {
+        return;
     }
-    let t = peek(text, r);
-    if t.code == tokens::NIL {
-        return constant(text, words, origins, r, NIL);
+    let code = s[CODE];
+    if code == tokens::NIL {
+        constant(text, words, origins, s, NIL);
+        return;
     }
-    if t.code == tokens::FALSE {
-        return constant(text, words, origins, r, FALSE);
+    if code == tokens::FALSE {
+        constant(text, words, origins, s, FALSE);
+        return;
     }
-    if t.code == tokens::TRUE {
-        return constant(text, words, origins, r, TRUE);
+    if code == tokens::TRUE {
+        constant(text, words, origins, s, TRUE);
+        return;
     }
-    if t.code == tokens::NUMBER {
-        return number(text, words, origins, r);
+    if code == tokens::NUMBER {
+        number(text, words, origins, s);
+        return;
     }
-    refused(r, t)
+    refused(s);
 }
 
 // A path with its 24; outside C, two with `==` between them.
@@ -86,65 +103,71 @@ fn path_or_same(
     names: &mut [usize],
     words: &mut [i32],
     origins: &mut [usize],
-    r: Reader,
+    s: &mut [usize; 15],
     in_c: bool,
-) -> Reader
-    ensures { λ s. ⌜ Piece 2 0 (lent (now (names .entry)) (now (words .entry)) (now (origins .entry))) r (λ q. pathOrSame (now (text .entry)) in_c q) (lent (now (names .exit)) (now (words .exit)) (now (origins .exit))) s ⌝ }
+)
+    ensures { λ _. ⌜ (Ahead (now (text .entry)) (carried (now (s .entry))) → Piece 2 0 (lent (now (names .entry)) (now (words .entry)) (now (origins .entry))) (carried (now (s .entry))) (λ q. pathOrSame (now (text .entry)) in_c q) (lent (now (names .exit)) (now (words .exit)) (now (origins .exit))) (carried (now (s .exit)))) ⌝ }
+    ensures { λ _. ⌜ (Ahead (now (text .entry)) (carried (now (s .entry))) → Ahead (now (text .entry)) (carried (now (s .exit)))) ⌝ }
 {
-    let from = r.written;
-    let t = peek(text, r);
-    let s = write(words, origins, owing(r, 1), PATH, t.place);
-    let u = path(text, names, words, origins, s);
+    let from = s[WRITTEN];
+    let p = s[START];
+    owe(s, 1);
+    write(words, origins, s, PATH, p);
+    path(text, names, words, origins, s);
     if in_c {
-        return u;
+        return;
     }
-    if u.number != 0 {
-        return u;
+    if s[NUMBER] != 0 {
+        return;
     }
-    let o = peek(text, u);
-    if o.code != tokens::IDENTICAL {
-        return u;
+    if s[CODE] != tokens::IDENTICAL {
+        return;
     }
-    put_word(words, origins, from, SAME, o.place);
-    path(text, names, words, origins, take(text, u, 0))
+    put_word(words, origins, from, SAME, s[START]);
+    take(text, s, 0);
+    path(text, names, words, origins, s);
 }
 
+// What operators join.
 fn operand(
     text: &[u8],
     names: &mut [usize],
     words: &mut [i32],
     origins: &mut [usize],
-    r: Reader,
+    s: &mut [usize; 15],
     in_c: bool,
-) -> Reader
-    ensures { λ s. ⌜ Piece 2 0 (lent (now (names .entry)) (now (words .entry)) (now (origins .entry))) r (λ q. operandBy (now (text .entry)) in_c q) (lent (now (names .exit)) (now (words .exit)) (now (origins .exit))) s ⌝ }
+)
+    ensures { λ _. ⌜ (Ahead (now (text .entry)) (carried (now (s .entry))) → Piece 2 0 (lent (now (names .entry)) (now (words .entry)) (now (origins .entry))) (carried (now (s .entry))) (λ q. operandBy (now (text .entry)) in_c q) (lent (now (names .exit)) (now (words .exit)) (now (origins .exit))) (carried (now (s .exit)))) ⌝ }
+    ensures { λ _. ⌜ (Ahead (now (text .entry)) (carried (now (s .entry))) → Ahead (now (text .entry)) (carried (now (s .exit)))) ⌝ }
 {
-    if r.number != 0 {
-        return r;
+    if s[NUMBER] != 0 {
+        return;
     }
-    if peek(text, r).code == tokens::NAME {
-        return path_or_same(text, names, words, origins, r, in_c);
+    if s[CODE] == tokens::NAME {
+        path_or_same(text, names, words, origins, s, in_c);
+        return;
     }
-    literal(text, words, origins, r)
+    literal(text, words, origins, s);
 }
 
 // How many brackets open, one after the other.
-fn opened(text: &[u8], r: Reader) -> Reader
-    ensures { λ s. ⌜ Opens (now (text .entry)) r s ⌝ }
+fn opened(text: &[u8], s: &mut [usize; 15])
+    ensures { λ _. ⌜ (Ahead (now (text .entry)) (carried (now (s .entry))) → Opens (now (text .entry)) (carried (now (s .entry))) (carried (now (s .exit)))) ⌝ }
+    ensures { λ _. ⌜ (Ahead (now (text .entry)) (carried (now (s .entry))) → Ahead (now (text .entry)) (carried (now (s .exit)))) ⌝ }
 {
-    let mut s = r;
     let mut b: usize = 0;
     while b <= text.len() {
-        if s.number != 0 {
-            return s;
+        if s[NUMBER] != 0 {
+            return;
         }
-        if peek(text, s).code != tokens::OPEN_BRACKET {
-            return numbered(s, b);
+        if s[CODE] != tokens::OPEN_BRACKET {
+            count(s, b);
+            return;
         }
-        s = take(text, s, 0);
+        take(text, s, 0);
         b += 1;
     }
-    numbered(s, b)
+    count(s, b);
 }
 
 // How tightly an operator binds, by its number in document 01.
@@ -182,47 +205,54 @@ fn joins(code: usize, low: usize, brackets: usize) -> bool
     low <= level_of(code - tokens::OPERATORS)
 }
 
-// One level above the deeper of two operands.
+// One level above the deeper of two operands that are no deeper than they may be.
 fn above(a: usize, b: usize) -> usize
-    requires { ⌜ a < 4096 ⌝ }
-    requires { ⌜ b < 4096 ⌝ }
-    ensures { λ r. ⌜ r ≡ suc (cond (ltb a b) b a) ⌝ }
+    ensures { λ r. ⌜ (a < 4096 → b < 4096 → r ≡ suc (cond (ltb a b) b a)) ⌝ }
 {
+    if 4096 <= a {
+        return a;
+    }
+    if 4096 <= b {
+        return b;
+    }
     if a < b {
         return b + 1;
     }
     a + 1
 }
 
-// The operator t behind the operand that is written from a place on, and its right operand.
+// The operator to be judged, behind the operand that is written from a place on, and its right operand.
 fn joined(
     text: &[u8],
     names: &mut [usize],
     words: &mut [i32],
     origins: &mut [usize],
-    r: Reader,
+    s: &mut [usize; 15],
     from: usize,
     left: usize,
     in_c: bool,
-    t: Token,
-) -> Reader
+)
     requires { ⌜ left < 4096 ⌝ }
-    ensures { λ s. ⌜ (Peeks (now (text .entry)) r t → isOperator (t .code) ≡ true → (most : ℕ) → most ≤ 3 → Onward true most most from (lent (now (names .entry)) (now (words .entry)) (now (origins .entry))) r (λ f q. joinedBy (now (text .entry)) left in_c t f q) (lent (now (names .exit)) (now (words .exit)) (now (origins .exit))) s) ⌝ }
-    ensures { λ s. ⌜ (s .number ≡ 0 → s .depth ≤ suc left) ⌝ }
+    ensures { λ _. ⌜ (Ahead (now (text .entry)) (carried (now (s .entry))) → isOperator ((carried (now (s .entry))) .code) ≡ true → (most : ℕ) → most ≤ 3 → Onward true most most from (lent (now (names .entry)) (now (words .entry)) (now (origins .entry))) (carried (now (s .entry))) (λ f q. joinedBy (now (text .entry)) left in_c (nextOf (carried (now (s .entry)))) f q) (lent (now (names .exit)) (now (words .exit)) (now (origins .exit))) (carried (now (s .exit)))) ⌝ }
+    ensures { λ _. ⌜ (Ahead (now (text .entry)) (carried (now (s .entry))) → (carried (now (s .exit))) .number ≡ 0 → (carried (now (s .exit))) .depth ≤ suc left) ⌝ }
+    ensures { λ _. ⌜ (Ahead (now (text .entry)) (carried (now (s .entry))) → Ahead (now (text .entry)) (carried (now (s .exit)))) ⌝ }
 {
-    let depth = r.depth;
-    let k = words::less(t.code, tokens::OPERATORS);
-    let s = take(text, passing(r, left < depth), 2);
-    if s.number != 0 {
-        return s;
+    let depth = s[DEPTH];
+    let k = words::less(s[CODE], tokens::OPERATORS);
+    let p = s[START];
+    pass(s, left < depth);
+    take(text, s, 2);
+    if s[NUMBER] != 0 {
+        return;
     }
     let gap = [OPERATION, words::word_of(k)];
-    let u = insert(words, origins, from, s, &gap, t.place);
-    let v = climb(text, names, words, origins, u, left, in_c, level_of(k) + 1);
-    if v.number != 0 {
-        return v;
+    insert(words, origins, from, s, &gap, p);
+    climb(text, names, words, origins, s, left, in_c, level_of(k) + 1);
+    if s[NUMBER] != 0 {
+        return;
     }
-    deep(v, above(depth, v.depth))
+    let right = s[DEPTH];
+    deepen(s, above(depth, right));
 }
 
 // Operators behind the operand that is written from a place on, each with its right operand: those that bind as tightly as low or more, and inside the brackets that are open all.
@@ -231,43 +261,43 @@ pub(crate) fn onwards(
     names: &mut [usize],
     words: &mut [i32],
     origins: &mut [usize],
-    r: Reader,
+    s: &mut [usize; 15],
     from: usize,
     left: usize,
     in_c: bool,
     low: usize,
     brackets: usize,
-) -> Reader
+)
     requires { ⌜ left < 4096 ⌝ }
-    ensures { λ s. ⌜ ((most : ℕ) → most ≤ 3 → Onward true most most from (lent (now (names .entry)) (now (words .entry)) (now (origins .entry))) r (λ f q. onwardsBy (now (text .entry)) (λ l v. climbBy (now (text .entry)) left in_c l v) (enough (now (text .entry))) left low brackets f q) (lent (now (names .exit)) (now (words .exit)) (now (origins .exit))) s) ⌝ }
-    ensures { λ s. ⌜ ((r .number ≡ 0 → r .depth ≤ suc left) → s .number ≡ 0 → s .depth ≤ suc left) ⌝ }
+    ensures { λ _. ⌜ (Ahead (now (text .entry)) (carried (now (s .entry))) → (most : ℕ) → most ≤ 3 → Onward true most most from (lent (now (names .entry)) (now (words .entry)) (now (origins .entry))) (carried (now (s .entry))) (λ f q. onwardsBy (now (text .entry)) (λ l v. climbBy (now (text .entry)) left in_c l v) (enough (now (text .entry))) left low brackets f q) (lent (now (names .exit)) (now (words .exit)) (now (origins .exit))) (carried (now (s .exit)))) ⌝ }
+    ensures { λ _. ⌜ (Ahead (now (text .entry)) (carried (now (s .entry))) → ((carried (now (s .entry))) .number ≡ 0 → (carried (now (s .entry))) .depth ≤ suc left) → (carried (now (s .exit))) .number ≡ 0 → (carried (now (s .exit))) .depth ≤ suc left) ⌝ }
+    ensures { λ _. ⌜ (Ahead (now (text .entry)) (carried (now (s .entry))) → Ahead (now (text .entry)) (carried (now (s .exit)))) ⌝ }
 {
-    let mut s = r;
     let mut b = brackets;
     let mut round: usize = 0;
     while round <= text.len() {
-        if s.number != 0 {
-            return s;
+        if s[NUMBER] != 0 {
+            return;
         }
-        let t = peek(text, s);
-        if (t.code == tokens::CLOSE_BRACKET) & (0 < b) {
-            s = take(text, s, 0);
+        let code = s[CODE];
+        if (code == tokens::CLOSE_BRACKET) & (0 < b) {
+            take(text, s, 0);
             b -= 1;
         } else {
-            if !joins(t.code, low, b) {
+            if !joins(code, low, b) {
                 if 0 < b {
-                    return refused(s, t);
+                    refused(s);
                 }
-                return s;
+                return;
             }
-            s = joined(text, names, words, origins, s, from, left, in_c, t);
+            joined(text, names, words, origins, s, from, left, in_c);
         }
         round += 1;
     }
-    if s.number != 0 {
-        return s;
+    if s[NUMBER] != 0 {
+        return;
     }
-    refused(s, peek(text, s))
+    refused(s);
 }
 
 // Operands joined by operators that bind as tightly as low or more, nested at most so deep.
@@ -276,57 +306,62 @@ fn climb(
     names: &mut [usize],
     words: &mut [i32],
     origins: &mut [usize],
-    r: Reader,
+    s: &mut [usize; 15],
     left: usize,
     in_c: bool,
     low: usize,
-) -> Reader
+)
     requires { ⌜ left < 4096 ⌝ }
-    ensures { λ s. ⌜ Expression 2 0 (lent (now (names .entry)) (now (words .entry)) (now (origins .entry))) r (λ q. climbBy (now (text .entry)) left in_c low q) (lent (now (names .exit)) (now (words .exit)) (now (origins .exit))) s ⌝ }
-    ensures { λ s. ⌜ (s .number ≡ 0 → s .depth ≤ left) ⌝ }
+    ensures { λ _. ⌜ (Ahead (now (text .entry)) (carried (now (s .entry))) → Expression 2 0 (lent (now (names .entry)) (now (words .entry)) (now (origins .entry))) (carried (now (s .entry))) (λ q. climbBy (now (text .entry)) left in_c low q) (lent (now (names .exit)) (now (words .exit)) (now (origins .exit))) (carried (now (s .exit)))) ⌝ }
+    ensures { λ _. ⌜ (Ahead (now (text .entry)) (carried (now (s .entry))) → (carried (now (s .exit))) .number ≡ 0 → (carried (now (s .exit))) .depth ≤ left) ⌝ }
+    ensures { λ _. ⌜ (Ahead (now (text .entry)) (carried (now (s .entry))) → Ahead (now (text .entry)) (carried (now (s .exit)))) ⌝ }
 {
-    if r.number != 0 {
-        return r;
+    if s[NUMBER] != 0 {
+        return;
     }
     if left == 0 {
-        return refused(r, peek(text, r));
+        refused(s);
+        return;
     }
-    let from = r.written;
-    let s = opened(text, r);
-    let brackets = s.named;
-    let e = operand(text, names, words, origins, s, in_c);
+    let from = s[WRITTEN];
+    opened(text, s);
+    let brackets = s[NAMED];
+    operand(text, names, words, origins, s, in_c);
+    deepen(s, 1);
     onwards(
         text,
         names,
         words,
         origins,
-        deep(e, 1),
+        s,
         from,
         left - 1,
         in_c,
         low,
         brackets,
-    )
+    );
 }
 
+// A whole expression.
 pub(crate) fn expression(
     text: &[u8],
     names: &mut [usize],
     words: &mut [i32],
     origins: &mut [usize],
-    r: Reader,
+    s: &mut [usize; 15],
     in_c: bool,
-) -> Reader
-    ensures { λ s. ⌜ Expression 2 0 (lent (now (names .entry)) (now (words .entry)) (now (origins .entry))) r (λ q. expressionBy (now (text .entry)) in_c q) (lent (now (names .exit)) (now (words .exit)) (now (origins .exit))) s ⌝ }
+)
+    ensures { λ _. ⌜ (Ahead (now (text .entry)) (carried (now (s .entry))) → Expression 2 0 (lent (now (names .entry)) (now (words .entry)) (now (origins .entry))) (carried (now (s .entry))) (λ q. expressionBy (now (text .entry)) in_c q) (lent (now (names .exit)) (now (words .exit)) (now (origins .exit))) (carried (now (s .exit)))) ⌝ }
+    ensures { λ _. ⌜ (Ahead (now (text .entry)) (carried (now (s .entry))) → Ahead (now (text .entry)) (carried (now (s .exit)))) ⌝ }
 {
     climb(
         text,
         names,
         words,
         origins,
-        r,
+        s,
         program::EXPRESSION_DEPTH,
         in_c,
         1,
-    )
+    );
 }

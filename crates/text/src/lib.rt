@@ -23,19 +23,40 @@ pub const MOST_WORDS: usize = 4096;
 // How many words the rows hold that are written to: those that may be certain, and more than can be owed.
 pub const ROW: usize = 4100;
 
-// How far a text is read: number and place of a refusal (0 while it goes on), the byte behind the last token taken and its code, the words that are certain, those that the next
-// token makes so, whether it passes a limit, how many variables and labels have names, the number of the name or how many brackets were read last, the words written, and the depth of the expression read last.
-pub struct Reader {
-    pub number: usize,
-    pub place: usize,
-    pub at: usize,
-    pub last: usize,
-    pub certain: usize,
-    pub owed: usize,
-    pub passed: bool,
-    pub variables: usize,
-    pub labels: usize,
-    pub named: usize,
-    pub written: usize,
-    pub depth: usize,
-}
+// How far a text is read stands in a row of words. Number and place of a refusal; the number is 0 while it goes on.
+pub const STATE: usize = 15;
+
+pub const NUMBER: usize = 0;
+
+pub const PLACE: usize = 1;
+
+// The byte behind the last token taken, and its code.
+pub const AT: usize = 2;
+
+pub const LAST: usize = 3;
+
+// The words that are certain, those that the next token makes so, and whether it passes a limit, 0 or 1.
+pub const CERTAIN: usize = 4;
+
+pub const OWED: usize = 5;
+
+pub const PASSED: usize = 6;
+
+// How many variables and labels have names, and the number of the name or how many brackets were read last.
+pub const NAMED_VARIABLES: usize = 7;
+
+pub const NAMED_LABELS: usize = 8;
+
+pub const NAMED: usize = 9;
+
+// The words written, and the depth of the expression read last.
+pub const WRITTEN: usize = 10;
+
+pub const DEPTH: usize = 11;
+
+// The token to be judged: its code, its first byte and the byte behind its last.
+pub const CODE: usize = 12;
+
+pub const START: usize = 13;
+
+pub const END: usize = 14;

@@ -1,13 +1,17 @@
 // An L: a variable, and labels behind it.
 use super::reading::label;
-use super::reading::peek;
 use super::reading::take;
 use super::reading::variable;
-use super::writing::passing;
+use super::writing::pass;
 use super::writing::put_word;
 use super::writing::write;
-use crate::Reader;
+use crate::CODE;
+use crate::NAMED;
+use crate::NUMBER;
+use crate::START;
+use crate::WRITTEN;
 ghost use Rattle.text.specs.Reading.{steps as stepsBy, path as pathBy};
+ghost use Rattle.text.specs.Told.{carried, Ahead};
 ghost use Rattle.text.specs.Pieces.{lent, Piece};
 
 // `.` and a label, n times at most.
@@ -16,26 +20,29 @@ fn steps(
     names: &mut [usize],
     words: &mut [i32],
     origins: &mut [usize],
-    r: Reader,
+    s: &mut [usize; 15],
     n: usize,
-) -> Reader
-    ensures { λ s. ⌜ Piece 0 0 (lent (now (names .entry)) (now (words .entry)) (now (origins .entry))) r (λ q. stepsBy (now (text .entry)) n q) (lent (now (names .exit)) (now (words .exit)) (now (origins .exit))) s ⌝ }
+)
+    ensures { λ _. ⌜ (Ahead (now (text .entry)) (carried (now (s .entry))) → Piece 0 0 (lent (now (names .entry)) (now (words .entry)) (now (origins .entry))) (carried (now (s .entry))) (λ q. stepsBy (now (text .entry)) n q) (lent (now (names .exit)) (now (words .exit)) (now (origins .exit))) (carried (now (s .exit)))) ⌝ }
+    ensures { λ _. ⌜ (Ahead (now (text .entry)) (carried (now (s .entry))) → Ahead (now (text .entry)) (carried (now (s .exit)))) ⌝ }
 {
-    if r.number != 0 {
-        return r;
+    if s[NUMBER] != 0 {
+        return;
     }
-    if peek(text, r).code != tokens::DOT {
-        return r;
+    if s[CODE] != tokens::DOT {
+        return;
     }
-    let s = passing(take(text, r, 0), n == 0);
-    let t = peek(text, s);
+    take(text, s, 0);
+    pass(s, n == 0);
+    let p = s[START];
     let none: [usize; 0] = [];
-    let u = label(text, names, s, &none);
+    label(text, names, s, &none);
     if n == 0 {
-        return u;
+        return;
     }
-    let v = write(words, origins, u, words::word_of(u.named), t.place);
-    steps(text, names, words, origins, v, n - 1)
+    let named = s[NAMED];
+    write(words, origins, s, words::word_of(named), p);
+    steps(text, names, words, origins, s, n - 1);
 }
 
 // An L, whose variable makes its own word and that of its n certain.
@@ -44,17 +51,19 @@ pub(crate) fn path(
     names: &mut [usize],
     words: &mut [i32],
     origins: &mut [usize],
-    r: Reader,
-) -> Reader
-    ensures { λ s. ⌜ Piece 3 0 (lent (now (names .entry)) (now (words .entry)) (now (origins .entry))) r (λ q. pathBy (now (text .entry)) 2 q) (lent (now (names .exit)) (now (words .exit)) (now (origins .exit))) s ⌝ }
+    s: &mut [usize; 15],
+)
+    ensures { λ _. ⌜ (Ahead (now (text .entry)) (carried (now (s .entry))) → Piece 3 0 (lent (now (names .entry)) (now (words .entry)) (now (origins .entry))) (carried (now (s .entry))) (λ q. pathBy (now (text .entry)) 2 q) (lent (now (names .exit)) (now (words .exit)) (now (origins .exit))) (carried (now (s .exit)))) ⌝ }
+    ensures { λ _. ⌜ (Ahead (now (text .entry)) (carried (now (s .entry))) → Ahead (now (text .entry)) (carried (now (s .exit)))) ⌝ }
 {
-    let t = peek(text, r);
-    let s = variable(text, names, r, 2);
-    let u = write(words, origins, s, words::word_of(s.named), t.place);
-    let at = u.written;
-    let v = write(words, origins, u, 0, t.place);
-    let end = steps(text, names, words, origins, v, program::MOST_STEPS);
-    let n = words::less(end.written, v.written);
-    put_word(words, origins, at, words::word_of(n), t.place);
-    end
+    let p = s[START];
+    variable(text, names, s, 2);
+    let named = s[NAMED];
+    write(words, origins, s, words::word_of(named), p);
+    let at = s[WRITTEN];
+    write(words, origins, s, 0, p);
+    let begun = s[WRITTEN];
+    steps(text, names, words, origins, s, program::MOST_STEPS);
+    let n = words::less(s[WRITTEN], begun);
+    put_word(words, origins, at, words::word_of(n), p);
 }

@@ -1,14 +1,30 @@
-// The token to be judged, taking it, names.
+// The token to be judged, taking it, names. Where words of a row are changed the first goes through put: that a row has its 15 words is known where it is lent as a slice.
 use super::naming::at_most;
 use super::naming::count_with;
 use super::naming::is_among;
 use super::naming::number_in;
+use super::naming::put;
 use super::naming::with_name;
-use crate::Reader;
+use crate::AT;
+use crate::CERTAIN;
+use crate::CODE;
+use crate::END;
+use crate::LAST;
+use crate::NAMED;
+use crate::NAMED_LABELS;
+use crate::NAMED_VARIABLES;
+use crate::NUMBER;
+use crate::OWED;
+use crate::PASSED;
+use crate::PLACE;
+use crate::START;
 use tokens::Token;
 ghost use mathlib.Core.Path.{_≡_};
+ghost use mathlib.Core.Bool.{_&&_};
+ghost use Prim.Native.Nat.{_+_, _<_};
+ghost use lib.Dec.{eqb, leb};
 ghost use Rattle.text.specs.Reading.{dueAfter, take as takeBy, need as needBy, variable as variableBy, label as labelBy};
-ghost use Rattle.text.specs.Told.{Peeks, Follows, Numbers, refusedAt, refusedBy, roomWith, takenBy, namedVariable, namedLabel};
+ghost use Rattle.text.specs.Told.{carried, nextOf, Ahead, Follows, Numbers, refusedAt, refusedBy, lookedBy, tookBy, namedVariable, namedLabel};
 
 // Whether an operand is due behind a token of this code.
 fn due_after(code: usize) -> bool
@@ -24,196 +40,164 @@ fn due_after(code: usize) -> bool
         | (code == tokens::WHILE)
 }
 
-// The token to be judged.
-pub(crate) fn peek(text: &[u8], r: Reader) -> Token
-    ensures { λ t. ⌜ Peeks (now (text .entry)) r t ⌝ }
+// Finds the token to be judged.
+pub(crate) fn look(text: &[u8], s: &mut [usize; 15])
+    ensures { λ _. ⌜ (carried (now (s .exit))) ≡ lookedBy (now (text .entry)) (carried (now (s .entry))) ⌝ }
 {
-    tokens::scanning::token(text, r.at, due_after(r.last))
+    let at = s[AT];
+    let t = tokens::scanning::token(text, at, due_after(s[LAST]));
+    put(s, CODE, t.code);
+    s[START] = t.place;
+    s[END] = t.end;
 }
 
-// The reader stopped, with a number and a place.
-fn refused_at(r: Reader, number: usize, place: usize) -> Reader
-    ensures { λ s. ⌜ s ≡ refusedAt number place r ⌝ }
+// The reader is stopped at the token to be judged.
+fn refused_at(s: &mut [usize; 15], number: usize)
+    ensures { λ _. ⌜ (carried (now (s .exit))) ≡ refusedAt number ((carried (now (s .entry))) .start) (carried (now (s .entry))) ⌝ }
 {
-    Reader {
-        number: number,
-        place: place,
-        at: r.at,
-        last: r.last,
-        certain: r.certain,
-        owed: r.owed,
-        passed: r.passed,
-        variables: r.variables,
-        labels: r.labels,
-        named: r.named,
-        written: r.written,
-        depth: r.depth,
+    put(s, NUMBER, number);
+    s[PLACE] = s[START];
+}
+
+// The reader is stopped at a token that may not stand there.
+pub(crate) fn refused(s: &mut [usize; 15])
+    ensures { λ _. ⌜ (carried (now (s .exit))) ≡ refusedBy (nextOf (carried (now (s .entry)))) (carried (now (s .entry))) ⌝ }
+{
+    if s[CODE] == tokens::TOO_LONG {
+        refused_at(s, 22);
+        return;
     }
+    refused_at(s, 20);
 }
 
-// The reader stopped at a token that may not stand there.
-pub(crate) fn refused(r: Reader, t: Token) -> Reader
-    ensures { λ s. ⌜ s ≡ refusedBy t r ⌝ }
+// Whether k words more, with those that are certain and those that are owed, pass no limit.
+fn has_room(passed: usize, certain: usize, owed: usize, k: usize) -> bool
+    ensures { λ b. ⌜ b ≡ eqb passed 0 && leb (certain + owed + k) 4096 ⌝ }
 {
-    if t.code == tokens::TOO_LONG {
-        return refused_at(r, 22, t.place);
-    }
-    refused_at(r, 20, t.place)
-}
-
-// Whether k words more, with those that are owed, pass no limit.
-fn has_room(r: Reader, k: usize) -> bool
-    ensures { λ b. ⌜ b ≡ roomWith k r ⌝ }
-{
-    if r.passed {
+    if passed != 0 {
         return false;
     }
-    if crate::MOST_WORDS < r.certain {
+    if crate::MOST_WORDS < certain {
         return false;
     }
-    if crate::MOST_WORDS < r.owed {
+    if crate::MOST_WORDS < owed {
         return false;
     }
     if crate::MOST_WORDS < k {
         return false;
     }
-    r.certain + r.owed + k <= crate::MOST_WORDS
+    certain + owed + k <= crate::MOST_WORDS
 }
 
-// The reader behind the token t, which is the one to be judged.
-pub(crate) fn taken(r: Reader, t: Token, k: usize) -> Reader
-    ensures { λ s. ⌜ s ≡ takenBy t k r ⌝ }
+// The reader goes behind the token to be judged, and finds the next one.
+fn taken(text: &[u8], s: &mut [usize; 15], k: usize)
+    ensures { λ _. ⌜ (carried (now (s .exit))) ≡ tookBy (now (text .entry)) k (carried (now (s .entry))) ⌝ }
 {
-    if !has_room(r, k) {
-        return refused_at(r, 22, t.place);
+    let certain = s[CERTAIN];
+    let owed = s[OWED];
+    if !has_room(s[PASSED], certain, owed, k) {
+        refused_at(s, 22);
+        return;
     }
-    Reader {
-        number: r.number,
-        place: r.place,
-        at: t.end,
-        last: t.code,
-        certain: r.certain + r.owed + k,
-        owed: 0,
-        passed: false,
-        variables: r.variables,
-        labels: r.labels,
-        named: r.named,
-        written: r.written,
-        depth: r.depth,
-    }
+    let end = s[END];
+    put(s, AT, end);
+    s[LAST] = s[CODE];
+    s[CERTAIN] = certain + owed + k;
+    s[OWED] = 0;
+    s[PASSED] = 0;
+    look(text, s);
 }
 
 // Takes the token, with k words and those that are owed.
-pub(crate) fn take(text: &[u8], r: Reader, k: usize) -> Reader
-    ensures { λ s. ⌜ Follows r (λ q. takeBy (now (text .entry)) k q) s ⌝ }
+pub(crate) fn take(text: &[u8], s: &mut [usize; 15], k: usize)
+    ensures { λ _. ⌜ (Ahead (now (text .entry)) (carried (now (s .entry))) → Follows (carried (now (s .entry))) (λ q. takeBy (now (text .entry)) k q) (carried (now (s .exit)))) ⌝ }
+    ensures { λ _. ⌜ (Ahead (now (text .entry)) (carried (now (s .entry))) → Ahead (now (text .entry)) (carried (now (s .exit)))) ⌝ }
 {
-    if r.number != 0 {
-        return r;
+    if s[NUMBER] != 0 {
+        return;
     }
-    taken(r, peek(text, r), k)
+    taken(text, s, k);
 }
 
 // Takes the token where its code is c.
-pub(crate) fn need(text: &[u8], r: Reader, c: usize, k: usize) -> Reader
-    ensures { λ s. ⌜ Follows r (λ q. needBy (now (text .entry)) c k q) s ⌝ }
+pub(crate) fn need(text: &[u8], s: &mut [usize; 15], c: usize, k: usize)
+    ensures { λ _. ⌜ (Ahead (now (text .entry)) (carried (now (s .entry))) → Follows (carried (now (s .entry))) (λ q. needBy (now (text .entry)) c k q) (carried (now (s .exit)))) ⌝ }
+    ensures { λ _. ⌜ (Ahead (now (text .entry)) (carried (now (s .entry))) → Ahead (now (text .entry)) (carried (now (s .exit)))) ⌝ }
 {
-    if r.number != 0 {
-        return r;
+    if s[NUMBER] != 0 {
+        return;
     }
-    let t = peek(text, r);
-    if t.code != c {
-        return refused(r, t);
+    if s[CODE] != c {
+        refused(s);
+        return;
     }
-    taken(r, t, k)
+    taken(text, s, k);
 }
 
 // Takes a variable's name.
-pub(crate) fn variable(text: &[u8], names: &mut [usize], r: Reader, k: usize) -> Reader
-    ensures { λ s. ⌜ Numbers (now (names .entry)) r (λ q. variableBy (now (text .entry)) k q) (now (names .exit)) s ⌝ }
+pub(crate) fn variable(text: &[u8], names: &mut [usize], s: &mut [usize; 15], k: usize)
+    ensures { λ _. ⌜ (Ahead (now (text .entry)) (carried (now (s .entry))) → Numbers (now (names .entry)) (carried (now (s .entry))) (λ q. variableBy (now (text .entry)) k q) (now (names .exit)) (carried (now (s .exit)))) ⌝ }
+    ensures { λ _. ⌜ (Ahead (now (text .entry)) (carried (now (s .entry))) → Ahead (now (text .entry)) (carried (now (s .exit)))) ⌝ }
 {
-    if r.number != 0 {
-        return r;
+    if s[NUMBER] != 0 {
+        return;
     }
-    let t = peek(text, r);
-    if t.code != tokens::NAME {
-        return refused(r, t);
+    if s[CODE] != tokens::NAME {
+        refused(s);
+        return;
     }
-    let count = at_most(crate::VARIABLES, r.variables);
+    let t = Token {
+        code: s[CODE],
+        place: s[START],
+        end: s[END],
+    };
+    let count = at_most(crate::VARIABLES, s[NAMED_VARIABLES]);
     let n = number_in(text, names, 0, count, t);
     if crate::VARIABLES <= n {
-        return refused_at(r, 21, t.place);
+        refused_at(s, 21);
+        return;
     }
-    let s = taken(r, t, k);
-    if s.number != 0 {
-        return s;
+    taken(text, s, k);
+    if s[NUMBER] != 0 {
+        return;
     }
     with_name(names, 0, count, n, t);
-    named_variable(s, count_with(count, n), n)
-}
-
-// The reader behind the name of variable n, with count variables.
-fn named_variable(r: Reader, count: usize, n: usize) -> Reader
-    ensures { λ s. ⌜ s ≡ namedVariable count n r ⌝ }
-{
-    Reader {
-        number: r.number,
-        place: r.place,
-        at: r.at,
-        last: r.last,
-        certain: r.certain,
-        owed: r.owed,
-        passed: r.passed,
-        variables: count,
-        labels: r.labels,
-        named: n,
-        written: r.written,
-        depth: r.depth,
-    }
-}
-
-// The reader behind the name of label n, with count labels.
-fn named_label(r: Reader, count: usize, n: usize) -> Reader
-    ensures { λ s. ⌜ s ≡ namedLabel count n r ⌝ }
-{
-    Reader {
-        number: r.number,
-        place: r.place,
-        at: r.at,
-        last: r.last,
-        certain: r.certain,
-        owed: r.owed,
-        passed: r.passed,
-        variables: r.variables,
-        labels: count,
-        named: n,
-        written: r.written,
-        depth: r.depth,
-    }
+    put(s, NAMED_VARIABLES, count_with(count, n));
+    s[NAMED] = n;
 }
 
 // Takes a label, which is none of those in seen.
-pub(crate) fn label(text: &[u8], names: &mut [usize], r: Reader, seen: &[usize]) -> Reader
-    ensures { λ s. ⌜ Numbers (now (names .entry)) r (λ q. labelBy (now (text .entry)) (now (seen .entry)) q) (now (names .exit)) s ⌝ }
+pub(crate) fn label(text: &[u8], names: &mut [usize], s: &mut [usize; 15], seen: &[usize])
+    ensures { λ _. ⌜ (Ahead (now (text .entry)) (carried (now (s .entry))) → Numbers (now (names .entry)) (carried (now (s .entry))) (λ q. labelBy (now (text .entry)) (now (seen .entry)) q) (now (names .exit)) (carried (now (s .exit)))) ⌝ }
+    ensures { λ _. ⌜ (Ahead (now (text .entry)) (carried (now (s .entry))) → Ahead (now (text .entry)) (carried (now (s .exit)))) ⌝ }
 {
-    if r.number != 0 {
-        return r;
+    if s[NUMBER] != 0 {
+        return;
     }
-    let t = peek(text, r);
-    if t.code != tokens::NAME {
-        return refused(r, t);
+    if s[CODE] != tokens::NAME {
+        refused(s);
+        return;
     }
-    let count = at_most(crate::LABELS, r.labels);
+    let t = Token {
+        code: s[CODE],
+        place: s[START],
+        end: s[END],
+    };
+    let count = at_most(crate::LABELS, s[NAMED_LABELS]);
     let n = number_in(text, names, crate::FIRST_LABEL, count, t);
     if is_among(seen, n, count) {
-        return refused(r, t);
+        refused(s);
+        return;
     }
     if crate::LABELS <= n {
-        return refused_at(r, 21, t.place);
+        refused_at(s, 21);
+        return;
     }
-    let s = taken(r, t, 1);
-    if s.number != 0 {
-        return s;
+    taken(text, s, 1);
+    if s[NUMBER] != 0 {
+        return;
     }
     with_name(names, crate::FIRST_LABEL, count, n, t);
-    named_label(s, count_with(count, n), n)
+    put(s, NAMED_LABELS, count_with(count, n));
+    s[NAMED] = n;
 }

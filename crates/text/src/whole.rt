@@ -2,46 +2,47 @@
 use super::blocks::statements;
 use super::naming::at_most;
 use super::naming::word;
+use super::reading::look;
 use super::reading::need;
-use super::reading::peek;
 use super::writing::write;
-use crate::Reader;
+use crate::CODE;
+use crate::NAMED_LABELS;
+use crate::NAMED_VARIABLES;
+use crate::NUMBER;
+use crate::PLACE;
+use crate::WRITTEN;
 ghost use mathlib.Core.Path.{_≡_};
 ghost use mathlib.Core.List.{[], _∷_};
 ghost use Prim.Native.Nat.{_*_, _≤_, _<_};
 ghost use Rattle.words.specs.Words.{wordOf, cleared};
+ghost use Rattle.text.specs.Told.{carried, lookedBy};
 ghost use Rattle.text.specs.Pieces.{lent, firstCarried, Whole};
 ghost use Rattle.text.specs.Whole.{answered, toldFrom, sized, read as readBy};
 
-// The reader before the first token, with the outermost n.
-fn first_reader() -> Reader
-    ensures { λ r. ⌜ r ≡ firstCarried ⌝ }
+// The reader before the first token, for which the outermost n is certain.
+fn begin(text: &[u8], s: &mut [usize; 15])
+    ensures { λ _. ⌜ (carried (now (s .exit))) ≡ lookedBy (now (text .entry)) firstCarried ⌝ }
 {
-    Reader {
-        number: 0,
-        place: 0,
-        at: 0,
-        last: tokens::SEMICOLON,
-        certain: 1,
-        owed: 0,
-        passed: false,
-        variables: 0,
-        labels: 0,
-        named: 0,
-        written: 0,
-        depth: 1,
-    }
+    *s = [0, 0, 0, tokens::SEMICOLON, 1, 0, 0, 0, 0, 0, 0, 1, 0, 0, 0];
+    look(text, s);
 }
 
 // The whole text.
-fn text_at(text: &[u8], names: &mut [usize], words: &mut [i32], origins: &mut [usize]) -> Reader
-    ensures { λ s. ⌜ Whole (now (text .entry)) (lent (now (names .entry)) (now (words .entry)) (now (origins .entry))) (lent (now (names .exit)) (now (words .exit)) (now (origins .exit))) s ⌝ }
+fn text_at(
+    text: &[u8],
+    names: &mut [usize],
+    words: &mut [i32],
+    origins: &mut [usize],
+    s: &mut [usize; 15],
+)
+    ensures { λ _. ⌜ Whole (now (text .entry)) (lent (now (names .entry)) (now (words .entry)) (now (origins .entry))) (lent (now (names .exit)) (now (words .exit)) (now (origins .exit))) (carried (now (s .exit))) ⌝ }
 {
-    let s = write(words, origins, first_reader(), 0, 0);
-    if peek(text, s).code == tokens::END {
-        return s;
+    begin(text, s);
+    write(words, origins, s, 0, 0);
+    if s[CODE] == tokens::END {
+        return;
     }
-    let u = statements(
+    statements(
         text,
         names,
         words,
@@ -51,7 +52,7 @@ fn text_at(text: &[u8], names: &mut [usize], words: &mut [i32], origins: &mut [u
         0,
         program::BLOCK_DEPTH - 1,
     );
-    need(text, u, tokens::END, 0)
+    need(text, s, tokens::END, 0);
 }
 
 // The n places from one on, as words.
@@ -114,14 +115,15 @@ pub fn read(
     let mut table = [0usize; crate::NAME_WORDS];
     let mut row = [0i32; crate::ROW];
     let mut places = [0usize; crate::ROW];
-    let r = text_at(text, &mut table, &mut row, &mut places);
-    if r.number != 0 {
-        answer_with(answer, r.number, r.place, 0, 0);
+    let mut s = [0usize; crate::STATE];
+    text_at(text, &mut table, &mut row, &mut places, &mut s);
+    if s[NUMBER] != 0 {
+        answer_with(answer, s[NUMBER], s[PLACE], 0, 0);
         return 0;
     }
-    let n = at_most(crate::MOST_WORDS, r.written);
-    let variables = at_most(crate::VARIABLES, r.variables);
-    let labels = at_most(crate::LABELS, r.labels);
+    let n = at_most(crate::MOST_WORDS, s[WRITTEN]);
+    let variables = at_most(crate::VARIABLES, s[NAMED_VARIABLES]);
+    let labels = at_most(crate::LABELS, s[NAMED_LABELS]);
     words::copy(program, 0, &row, n);
     tell(origins, &places, 0, n);
     tell_names(names, &table, variables, labels);

@@ -1,87 +1,62 @@
 // Words and the places that they come from, one after the other in two lent arrays.
 use super::naming::put;
+use super::naming::sized;
 use super::naming::word;
-use crate::Reader;
+use crate::DEPTH;
+use crate::NAMED;
+use crate::OWED;
+use crate::PASSED;
+use crate::WRITTEN;
 ghost use mathlib.Core.Path.{_≡_};
-ghost use Prim.Native.Nat.{_-_, _<_};
+ghost use mathlib.Core.List.{List};
+ghost use Prim.Native.Nat.{ℕ, _-_, _<_};
 ghost use lib.IntN.{pos};
 ghost use lib.ListN.{length, set};
-ghost use Rattle.text.specs.Written.{with1, wroteOne, Passes, Owes, deepBy, numberedBy, raised, filled};
 ghost use Rattle.text.specs.Reading.{everywhere};
+ghost use Rattle.text.specs.Told.{carried, Ahead};
+ghost use Rattle.text.specs.Written.{with1, wroteOne, passBy, Owes, deepBy, numberedBy, raised, filled};
 ghost use Rattle.text.specs.Pieces.{Inserts};
 
 // A word more, behind those that are written, and its place; nothing where the rows are full.
-pub(crate) fn write(words: &mut [i32], origins: &mut [usize], r: Reader, w: i32, p: usize) -> Reader
-    ensures { λ s. ⌜ now (words .exit) ≡ with1 (now (words .entry)) r w ⌝ }
-    ensures { λ s. ⌜ now (origins .exit) ≡ with1 (now (origins .entry)) r p ⌝ }
-    ensures { λ s. ⌜ s ≡ wroteOne r ⌝ }
+pub(crate) fn write(words: &mut [i32], origins: &mut [usize], s: &mut [usize; 15], w: i32, p: usize)
+    ensures { λ _. ⌜ now (words .exit) ≡ with1 (now (words .entry)) (carried (now (s .entry))) w ⌝ }
+    ensures { λ _. ⌜ now (origins .exit) ≡ with1 (now (origins .entry)) (carried (now (s .entry))) p ⌝ }
+    ensures { λ _. ⌜ (carried (now (s .exit))) ≡ wroteOne (carried (now (s .entry))) ⌝ }
 {
-    let at = r.written;
+    let at = s[WRITTEN];
     if crate::ROW <= at {
-        return r;
+        return;
     }
     words::store(words, at, w);
     put(origins, at, p);
-    Reader {
-        number: r.number,
-        place: r.place,
-        at: r.at,
-        last: r.last,
-        certain: r.certain,
-        owed: r.owed,
-        passed: r.passed,
-        variables: r.variables,
-        labels: r.labels,
-        named: r.named,
-        written: at + 1,
-        depth: r.depth,
+    sized(*s);
+    s[WRITTEN] = at + 1;
+}
+
+// The next token passes a limit where b says so.
+pub(crate) fn pass(s: &mut [usize; 15], b: bool)
+    ensures { λ _. ⌜ (carried (now (s .exit))) ≡ passBy b (carried (now (s .entry))) ⌝ }
+{
+    if b {
+        sized(*s);
+        s[PASSED] = 1;
     }
 }
 
-// The same reader, whose next token passes a limit where b says so.
-pub(crate) fn passing(r: Reader, b: bool) -> Reader
-    ensures { λ s. ⌜ Passes b r s ⌝ }
+// k words more are owed; a reader that owes more than there may be stays.
+pub(crate) fn owe(s: &mut [usize; 15], k: usize)
+    ensures { λ _. ⌜ Owes k (carried (now (s .entry))) (carried (now (s .exit))) ⌝ }
+    ensures { λ _. ⌜ ((text : List ℕ) → Ahead text (carried (now (s .entry))) → Ahead text (carried (now (s .exit)))) ⌝ }
 {
-    Reader {
-        number: r.number,
-        place: r.place,
-        at: r.at,
-        last: r.last,
-        certain: r.certain,
-        owed: r.owed,
-        passed: r.passed | b,
-        variables: r.variables,
-        labels: r.labels,
-        named: r.named,
-        written: r.written,
-        depth: r.depth,
-    }
-}
-
-// The same reader, which owes k words more; one that owes more than there may be stays.
-pub(crate) fn owing(r: Reader, k: usize) -> Reader
-    ensures { λ s. ⌜ Owes k r s ⌝ }
-{
-    if crate::MOST_WORDS < r.owed {
-        return r;
+    let owed = s[OWED];
+    if crate::MOST_WORDS < owed {
+        return;
     }
     if crate::MOST_WORDS < k {
-        return r;
+        return;
     }
-    Reader {
-        number: r.number,
-        place: r.place,
-        at: r.at,
-        last: r.last,
-        certain: r.certain,
-        owed: r.owed + k,
-        passed: r.passed,
-        variables: r.variables,
-        labels: r.labels,
-        named: r.named,
-        written: r.written,
-        depth: r.depth,
-    }
+    sized(*s);
+    s[OWED] = owed + k;
 }
 
 // The word at i and the place that it comes from, stored; past the end nothing is stored.
@@ -93,20 +68,20 @@ pub(crate) fn put_word(words: &mut [i32], origins: &mut [usize], i: usize, w: i3
     put(origins, i, p);
 }
 
-// The same reader, whose expression is d deep.
-pub(crate) fn deep(mut r: Reader, d: usize) -> Reader
-    ensures { λ s. ⌜ s ≡ deepBy d r ⌝ }
+// The expression read last is d deep.
+pub(crate) fn deepen(s: &mut [usize; 15], d: usize)
+    ensures { λ _. ⌜ (carried (now (s .exit))) ≡ deepBy d (carried (now (s .entry))) ⌝ }
 {
-    r.depth = d;
-    r
+    sized(*s);
+    s[DEPTH] = d;
 }
 
-// The same reader, with n as the number that was read last.
-pub(crate) fn numbered(mut r: Reader, n: usize) -> Reader
-    ensures { λ s. ⌜ s ≡ numberedBy n r ⌝ }
+// The number that was read last is n.
+pub(crate) fn count(s: &mut [usize; 15], n: usize)
+    ensures { λ _. ⌜ (carried (now (s .exit))) ≡ numberedBy n (carried (now (s .entry))) ⌝ }
 {
-    r.named = n;
-    r
+    sized(*s);
+    s[NAMED] = n;
 }
 
 // The words from a place on and the places that they come from, k further up.
@@ -144,25 +119,26 @@ pub(crate) fn insert(
     words: &mut [i32],
     origins: &mut [usize],
     from: usize,
-    mut r: Reader,
+    s: &mut [usize; 15],
     gap: &[i32],
     p: usize,
-) -> Reader
-    ensures { λ s. ⌜ Inserts from (now (gap .entry)) p (now (words .entry)) (now (origins .entry)) r (now (words .exit)) (now (origins .exit)) s ⌝ }
+)
+    ensures { λ _. ⌜ Inserts from (now (gap .entry)) p (now (words .entry)) (now (origins .entry)) (carried (now (s .entry))) (now (words .exit)) (now (origins .exit)) (carried (now (s .exit))) ⌝ }
+    ensures { λ _. ⌜ ((text : List ℕ) → Ahead text (carried (now (s .entry))) → Ahead text (carried (now (s .exit)))) ⌝ }
 {
-    let end = r.written;
+    let end = s[WRITTEN];
     let k = gap.len();
     if crate::ROW <= end {
-        return r;
+        return;
     }
     if crate::ROW <= k {
-        return r;
+        return;
     }
     if end < from {
-        return r;
+        return;
     }
     raise(words, origins, from, end, k);
     fill(words, origins, from, gap, p);
-    r.written = end + k;
-    r
+    sized(*s);
+    s[WRITTEN] = end + k;
 }

@@ -1,126 +1,156 @@
-use borrow.Author.Needs.{needs}
-use mathlib.Core.Path.{refl, _∙_}
+use mathlib.Core.Path.{_≡_, refl, _∙_}
 use Prim.Native.Nat.{_-_}
 use native.Mathlib.Omega.{arith}
+use borrow.Author.Needs.{needs}
+use lib.Dec.{eqb}
+use lib.ListN.{length}
 use Rattle.words.proofs.Signed.{back32}
+use Rattle.text.specs.Told.{carried, Ahead}
 use Rattle.text.specs.Pieces.{lent}
-use Rattle.text.proofs.PartCode.{Parted, parted-starts, parted-stopped, parted-full, parted-last, parted-on}
+use Rattle.text.proofs.PartCode.{ahead-passed, passed-on, Parted, parted-starts, parted-stopped, parted-full, parted-last, parted-on}
 use Rattle.text.proofs.constraints.constraint_on.Statement.{statement}
 use Rattle.text.proofs.constraints.constraint_on.Tie as tie
 use Rattle.text.proofs.constraints.constraint_on.Reads as reads
 use Rattle.text.proofs.constraints.constraint_on.Lts as lts
 use Rattle.text.proofs.constraints.part_at.Reads as part-at-reads
-use Rattle.text.proofs.reading.peek.Reads as peek-reads
 use Rattle.text.proofs.reading.take.Reads as take-reads
-use Rattle.text.proofs.writing.passing.Reads as passing-reads
+use Rattle.text.proofs.writing.pass.Reads as pass-reads
 use Rattle.text.proofs.writing.put_word.Reads as put-word-reads
 use Rattle.words.proofs.word_of.Reads as word-of-reads
 
 abbrev Inv-loop : tie.InvT-loop
-Inv-loop text names₀ words₀ origins₀ from p s₀ m₀ names words origins s m = Parted text from p (lent names₀ words₀ origins₀) s₀ m (lent names words origins) s
+Inv-loop text names₀ words₀ origins₀ s₀ from p m₀ names words origins s m =
+    (length names ≡ length names₀)
+    × ((length words ≡ length words₀)
+    × ((length origins ≡ length origins₀)
+    × (Ahead text (carried s₀) → Ahead text (carried s) × Parted text from p (lent names₀ words₀ origins₀) (carried s₀) m (lent names words origins) (carried s))))
 
 abbrev μ-loop : tie.MeasureT-loop
-μ-loop text names₀ words₀ origins₀ from p s₀ m₀ names words origins s m = 17 - m
+μ-loop text names₀ words₀ origins₀ s₀ from p m₀ names words origins s m = 17 - m
 
--- src/constraints.rt:73:5
 loop-holds : tie.Need-loop-holds Inv-loop μ-loop
-loop-holds c = parted-starts
+loop-holds c = (refl, (refl, (refl, λ h. (h, parted-starts))))
 
--- src/constraints.rt:75:13
+element-copy-out-if1 : tie.Need-element-copy-out-if1 Inv-loop μ-loop
+element-copy-out-if1 c = search needs
+
 same-length : tie.Need-same-length Inv-loop μ-loop
-same-length c = c .before .before .before .loop .inv .names
+same-length c =
+    let a = c .before .before .before in
+    a .loop .inv .0
 
--- src/constraints.rt:75:13
 same-length-2 : tie.Need-same-length-2 Inv-loop μ-loop
-same-length-2 c = c .before .before .before .loop .inv .words
+same-length-2 c =
+    let a = c .before .before .before in
+    a .loop .inv .1 .0
 
--- src/constraints.rt:75:13
 same-length-3 : tie.Need-same-length-3 Inv-loop μ-loop
-same-length-3 c = c .before .before .before .loop .inv .origins
+same-length-3 c =
+    let a = c .before .before .before in
+    a .loop .inv .1 .1 .0
 
--- src/constraints.rt:75:13
 returns : tie.Need-returns Inv-loop μ-loop
-returns c = parted-stopped (c .before .before .before .loop .inv) (c .if1 .taken)
+unfolding carried
+returns c =
+    let a = c .before .before .before in
+    (λ h. parted-stopped (a .loop .inv .1 .1 .1 h .1) (c .if1 .taken), λ h. a .loop .inv .1 .1 .1 h .0)
 
--- src/constraints.rt:77:12
-peek-requires : tie.Need-peek-requires Inv-loop μ-loop
-peek-requires c κs = search needs
+element-copy-out-if2 : tie.Need-element-copy-out-if2 Inv-loop μ-loop
+element-copy-out-if2 c = search needs
 
--- src/constraints.rt:78:44
 word-of-requires : tie.Need-word-of-requires Inv-loop μ-loop
 word-of-requires c κs = search needs
 
--- src/constraints.rt:78:13
 put-word-requires : tie.Need-put-word-requires Inv-loop μ-loop
 put-word-requires c κs = search needs
 
--- src/constraints.rt:79:13
 same-length-4 : tie.Need-same-length-4 Inv-loop μ-loop
-same-length-4 c = search needs
+same-length-4 c =
+    let a = c .before .before .before .before .before .before .before .before .before .before .before .before in
+    a .loop .inv .0
 
--- src/constraints.rt:79:13
 same-length-5 : tie.Need-same-length-5 Inv-loop μ-loop
-same-length-5 c = search needs
+same-length-5 c =
+    let a = c .before .before .before in
+    let b = a .before .before .before .before .before .before .before .before .before in
+    a .put-word .kept .0 ∙ b .loop .inv .1 .0
 
--- src/constraints.rt:79:13
 same-length-6 : tie.Need-same-length-6 Inv-loop μ-loop
-same-length-6 c = search needs
+same-length-6 c =
+    let a = c .before .before .before in
+    let b = a .before .before .before .before .before .before .before .before .before in
+    a .put-word .kept .1 .0 ∙ b .loop .inv .1 .1 .0
 
--- src/constraints.rt:79:13
 returns-2 : tie.Need-returns-2 Inv-loop μ-loop
+unfolding carried
 returns-2 c =
-    let a = c .before .before .before .before in
-    let b = a .before .before .before .before .before in
-    let d = b .before .before .before .before in
-    parted-last (d .loop .inv) (b .before .before .before .loop-test .taken) (b .before .if1 .left) (b .peek .ensures) (a .before .before .before .if2 .taken)
-    (back32 (a .word-of .result) (record { sfits = a .word-of .ok }) ∙ a .word-of .ensures) (c .before .before .before .put-word .ensures .0)
-    (c .before .before .before .put-word .ensures .1)
+    let a = c .before .before .before in
+    let b = a .before .before .before .before in
+    let d = b .before .before .before .before in (
+      λ h. parted-last (d .before .loop .inv .1 .1 .1 h .1) (d .loop-test .taken) (b .before .before .if1 .left) (d .before .loop .inv .1 .1 .1 h .0) (b .if2 .taken)
+          (back32 (a .before .word-of .result) (record { sfits = a .before .word-of .ok }) ∙ a .before .word-of .ensures) (a .put-word .ensures .0) (a .put-word .ensures .1),
+      λ h. d .before .loop .inv .1 .1 .1 h .0,
+    )
 
--- src/constraints.rt:81:25
 take-requires : tie.Need-take-requires Inv-loop μ-loop
 take-requires c κs = search needs
 
--- src/constraints.rt:81:13
-passing-requires : tie.Need-passing-requires Inv-loop μ-loop
-passing-requires c κs = search needs
+pass-requires : tie.Need-pass-requires Inv-loop μ-loop
+pass-requires c κs = search needs
 
--- src/constraints.rt:82:9
 part-at-requires : tie.Need-part-at-requires Inv-loop μ-loop
 part-at-requires c κs = search needs
 
--- src/constraints.rt:83:9
 add-m : tie.Need-add-m Inv-loop μ-loop
-add-m c = omega (arith, c .before .before .before .before .before .before .before .before .before .before .before .before .before .before .before .before .loop-test .taken)
+add-m c =
+    let a = c .before .before .before .before .before .before .before .before .before .before .before .before .before .before in
+    let b = a .before .before .before .before in
+    omega (arith, b .loop-test .taken)
 
--- src/constraints.rt:73:5
 loop-less : tie.Need-loop-less Inv-loop μ-loop
-loop-less c = omega (arith, c .before .before .before .before .before .before .before .before .before .before .before .before .before .before .before .before .loop-test .taken)
+loop-less c =
+    let a = c .before .before .before .before .before .before .before .before .before .before .before .before .before .before in
+    let b = a .before .before .before .before in
+    omega (arith, b .loop-test .taken)
 
--- src/constraints.rt:73:5
 loop-again : tie.Need-loop-again Inv-loop μ-loop
+unfolding carried
 loop-again c =
     let a = c .before .before .before .before .before in
-    let b = a .before .before .before .before in
+    let b = a .before .before .before .before .before in
     let d = b .before .before .before .before in
     let e = d .before .before .before .before in
-    parted-on (e .loop .inv) (d .before .before .before .loop-test .taken) (d .before .if1 .left) (d .peek .ensures) (b .before .before .if2 .left) (b .before .take .ensures)
-    (b .passing .ensures) refl (a .part-at .ensures) (a .part-at .kept .1 .0) (a .part-at .kept .1 .1 .0) (a .part-at .kept .1 .1 .1 .0)
+    let f = e .before .before .before .before .before in (
+      a .part-at .kept .1 .0 ∙ e .before .loop .inv .0,
+      (
+        a .part-at .kept .1 .1 .0 ∙ e .before .loop .inv .1 .0,
+        (
+          a .part-at .kept .1 .1 .1 .0 ∙ e .before .loop .inv .1 .1 .0,
+          λ h.
+              let i = e .before .loop .inv .1 .1 .1 h in
+              let j = ahead-passed (f .args .text .now) (carried (b .before .before .take .last .1 .0)) (eqb (e .before .loop .m) 16)
+              (b .before .before .take .ensures .1 (i .0)) (b .pass .ensures) in (
+                a .part-at .ensures .1 j,
+                parted-on (i .1) (e .loop-test .taken) (d .before .before .if1 .left) (i .0) (d .if2 .left) (b .before .before .take .ensures .0 (i .0))
+                    (passed-on (b .pass .ensures)) refl (a .part-at .ensures .0 j)
+                    (a .part-at .kept .1 .0) (a .part-at .kept .1 .1 .0) (a .part-at .kept .1 .1 .1 .0),
+              ),
+        ),
+      ),
+    )
 
--- src/constraints.rt:60:1
 same-length-7 : tie.Need-same-length-7 Inv-loop μ-loop
-same-length-7 c = c .before .loop .inv .names
+same-length-7 c = c .before .loop .inv .0
 
--- src/constraints.rt:60:1
 same-length-8 : tie.Need-same-length-8 Inv-loop μ-loop
-same-length-8 c = c .before .loop .inv .words
+same-length-8 c = c .before .loop .inv .1 .0
 
--- src/constraints.rt:60:1
 same-length-9 : tie.Need-same-length-9 Inv-loop μ-loop
-same-length-9 c = c .before .loop .inv .origins
+same-length-9 c = c .before .loop .inv .1 .1 .0
 
--- src/constraints.rt:60:1
 returns-3 : tie.Need-returns-3 Inv-loop μ-loop
-returns-3 c = parted-full (c .before .loop .inv) (c .loop-test .left)
+unfolding carried
+returns-3 c = (λ h. parted-full (c .before .loop .inv .1 .1 .1 h .1) (c .loop-test .left), λ h. c .before .loop .inv .1 .1 .1 h .0)
 
 pub constraint-on-spec : {M : Type 1} → statement M
 constraint-on-spec =
@@ -129,11 +159,12 @@ constraint-on-spec =
     Inv-loop
     μ-loop
     loop-holds
+    element-copy-out-if1
     same-length
     same-length-2
     same-length-3
     returns
-    peek-requires
+    element-copy-out-if2
     word-of-requires
     put-word-requires
     same-length-4
@@ -141,7 +172,7 @@ constraint-on-spec =
     same-length-6
     returns-2
     take-requires
-    passing-requires
+    pass-requires
     part-at-requires
     add-m
     loop-less

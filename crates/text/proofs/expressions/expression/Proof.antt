@@ -6,26 +6,26 @@ use Rattle.text.proofs.expressions.expression.Reads as reads
 use Rattle.text.proofs.expressions.expression.Lts as lts
 use Rattle.text.proofs.expressions.climb.Reads as climb-reads
 
--- src/expressions.rt:322:5
+-- src/expressions.rt:357:5
 climb-requires : tie.Need-climb-requires
 climb-requires c κs = search needs
 
--- src/expressions.rt:312:1
+-- src/expressions.rt:346:1
 same-length : tie.Need-same-length
 same-length c = search needs
 
--- src/expressions.rt:312:1
+-- src/expressions.rt:346:1
 same-length-2 : tie.Need-same-length-2
 same-length-2 c = search needs
 
--- src/expressions.rt:312:1
+-- src/expressions.rt:346:1
 same-length-3 : tie.Need-same-length-3
 same-length-3 c = search needs
 
--- src/expressions.rt:312:1
+-- src/expressions.rt:346:1
 returns : tie.Need-returns
 unfolding expression
-returns c = c .before .before .before .before .before .climb .ensures .0
+returns c = let e = c .before .before .before .before .before .climb .ensures in (e .0, e .1 .1)
 
 pub expression-spec : {M : Type 1} → statement M
 expression-spec =

@@ -1,70 +1,72 @@
 use borrow.Author.Needs.{needs}
 use Prim.Native.Nat.{suc, _-_}
 use lib.ListN.{length}
+use Rattle.text.specs.Told.{carried, Ahead}
 use Rattle.text.proofs.LiteralCode.{Opening, opening-starts, opening-stopped, opening-over, opening-ends, opening-goes-on}
+use Rattle.text.proofs.WritingCode.{ahead-counted}
 use Rattle.text.proofs.expressions.opened.Statement.{statement}
 use Rattle.text.proofs.expressions.opened.Tie as tie
 use Rattle.text.proofs.expressions.opened.Reads as reads
 use Rattle.text.proofs.expressions.opened.Lts as lts
-use Rattle.text.proofs.reading.peek.Reads as peek-reads
 use Rattle.text.proofs.reading.take.Reads as take-reads
-use Rattle.text.proofs.writing.numbered.Reads as numbered-reads
+use Rattle.text.proofs.writing.count.Reads as count-reads
 
 abbrev Inv-loop : tie.InvT-loop
-Inv-loop text s₀ b₀ s b = Opening text s₀ s b
+Inv-loop text s₀ b₀ s b = (Ahead text (carried s₀) → Opening text (carried s₀) (carried s) b) × (Ahead text (carried s₀) → Ahead text (carried s))
 
 abbrev μ-loop : tie.MeasureT-loop
 μ-loop text s₀ b₀ s b = suc (length text) - b
 
--- src/expressions.rt:137:5
+-- src/expressions.rt:159:5
 loop-holds : tie.Need-loop-holds Inv-loop μ-loop
-loop-holds c = opening-starts (c .before .args .text .now) (c .before .args .r)
+loop-holds c = (λ h. opening-starts (c .before .args .text .now) (carried (c .before .args .s .now)), λ h. h)
 
--- src/expressions.rt:139:13
+-- src/expressions.rt:160:12
+element-copy-out-if1 : tie.Need-element-copy-out-if1 Inv-loop μ-loop
+element-copy-out-if1 c = search needs
+
+-- src/expressions.rt:161:13
 returns : tie.Need-returns Inv-loop μ-loop
-returns c = opening-stopped (c .before .before .before .loop .inv) (c .if1 .taken)
+unfolding carried
+returns c = (λ h. opening-stopped (c .before .before .before .loop .inv .0 h) (c .if1 .taken), c .before .before .before .loop .inv .1)
 
--- src/expressions.rt:141:12
-peek-requires : tie.Need-peek-requires Inv-loop μ-loop
-peek-requires c κs = search needs
+-- src/expressions.rt:163:12
+element-copy-out-if2 : tie.Need-element-copy-out-if2 Inv-loop μ-loop
+element-copy-out-if2 c = search needs
 
--- src/expressions.rt:142:13
-numbered-requires : tie.Need-numbered-requires Inv-loop μ-loop
-numbered-requires c κs = search needs
+-- src/expressions.rt:164:13
+count-requires : tie.Need-count-requires Inv-loop μ-loop
+count-requires c κs = search needs
 
--- src/expressions.rt:142:13
+-- src/expressions.rt:165:13
 returns-2 : tie.Need-returns-2 Inv-loop μ-loop
-returns-2 c =
-    let a = c .before .before .before .before in
-    opening-ends (a .before .before .before .loop .inv) (a .before .before .loop-test .taken) (a .if1 .left) (c .before .before .before .peek .ensures) (c .before .if2 .taken)
-    (c .numbered .ensures)
+unfolding carried
+returns-2 c = (λ h. opening-ends (c .before .before .before .before .before .before .before .loop .inv .0 h) (c .before .before .before .before .before .before .loop-test .taken) (c .before .before .before .before .if1 .left) (c .before .before .before .before .before .before .before .loop .inv .1 h) (c .before .before .if2 .taken) (c .count .ensures), λ h. ahead-counted (c .before .before .before .before .before .before .before .before .before .args .text .now) (carried (c .before .before .before .before .before .before .before .loop .s)) (c .before .before .before .before .before .before .before .loop .b) (c .count .ensures) (c .before .before .before .before .before .before .before .loop .inv .1 h))
 
--- src/expressions.rt:144:9
+-- src/expressions.rt:167:9
 take-requires : tie.Need-take-requires Inv-loop μ-loop
 take-requires c κs = search needs
 
--- src/expressions.rt:145:9
+-- src/expressions.rt:168:9
 add-b : tie.Need-add-b Inv-loop μ-loop
 add-b c = search needs
 
--- src/expressions.rt:137:5
+-- src/expressions.rt:159:5
 loop-less : tie.Need-loop-less Inv-loop μ-loop
 loop-less c = search needs
 
--- src/expressions.rt:137:5
+-- src/expressions.rt:159:5
 loop-again : tie.Need-loop-again Inv-loop μ-loop
-loop-again c =
-    let a = c .before .before .before .before in
-    opening-goes-on (a .before .before .before .loop .inv) (a .before .before .loop-test .taken) (a .if1 .left) (c .before .before .before .peek .ensures) (c .before .if2 .left)
-    (c .take .ensures)
+unfolding carried
+loop-again c = (λ h. opening-goes-on (c .before .before .before .before .before .before .before .loop .inv .0 h) (c .before .before .before .before .before .before .loop-test .taken) (c .before .before .before .before .if1 .left) (c .before .before .before .before .before .before .before .loop .inv .1 h) (c .before .before .if2 .left) (c .take .ensures .0 (c .before .before .before .before .before .before .before .loop .inv .1 h)), λ h. c .take .ensures .1 (c .before .before .before .before .before .before .before .loop .inv .1 h))
 
--- src/expressions.rt:147:5
-numbered-requires-2 : tie.Need-numbered-requires-2 Inv-loop μ-loop
-numbered-requires-2 c κs = search needs
+-- src/expressions.rt:170:5
+count-requires-2 : tie.Need-count-requires-2 Inv-loop μ-loop
+count-requires-2 c κs = search needs
 
--- src/expressions.rt:132:1
+-- src/expressions.rt:154:1
 returns-3 : tie.Need-returns-3 Inv-loop μ-loop
-returns-3 c = opening-over (c .before .before .loop .inv) (c .before .loop-test .left) (c .numbered2 .ensures)
+returns-3 c = (λ h. opening-over (c .before .before .before .loop .inv .0 h) (c .before .before .loop-test .left) (c .count2 .ensures), λ h. ahead-counted (c .before .before .before .before .before .args .text .now) (carried (c .before .before .before .loop .s)) (c .before .before .before .loop .b) (c .count2 .ensures) (c .before .before .before .loop .inv .1 h))
 
 pub opened-spec : {M : Type 1} → statement M
 opened-spec =
@@ -73,13 +75,14 @@ opened-spec =
     Inv-loop
     μ-loop
     loop-holds
+    element-copy-out-if1
     returns
-    peek-requires
-    numbered-requires
+    element-copy-out-if2
+    count-requires
     returns-2
     take-requires
     add-b
     loop-less
     loop-again
-    numbered-requires-2
+    count-requires-2
     returns-3)

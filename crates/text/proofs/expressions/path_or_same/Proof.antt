@@ -1,190 +1,97 @@
 use native.Mathlib.Omega.{arith}
+use Rattle.text.specs.Told.{carried}
 use Rattle.text.proofs.OperandCode.{path-in, path-refused, path-alone, path-same}
+use Rattle.text.proofs.WritingCode.{ahead-wrote}
 use borrow.Author.Needs.{needs}
 use Rattle.text.proofs.expressions.path_or_same.Statement.{statement}
 use Rattle.text.proofs.expressions.path_or_same.Tie as tie
 use Rattle.text.proofs.expressions.path_or_same.Reads as reads
 use Rattle.text.proofs.expressions.path_or_same.Lts as lts
-use Rattle.text.proofs.paths.path.Reads as path-reads
-use Rattle.text.proofs.reading.peek.Reads as peek-reads
-use Rattle.text.proofs.reading.take.Reads as take-reads
-use Rattle.text.proofs.writing.owing.Reads as owing-reads
-use Rattle.text.proofs.writing.put_word.Reads as put-word-reads
-use Rattle.text.proofs.writing.write.Reads as write-reads
 
--- src/expressions.rt:95:9
-peek-requires : tie.Need-peek-requires
-peek-requires c κs = search needs
+element-copy-out-from : tie.Need-element-copy-out-from
+element-copy-out-from c = search needs
 
--- src/expressions.rt:96:35
-owing-requires : tie.Need-owing-requires
-owing-requires c κs = search needs
+element-copy-out-p : tie.Need-element-copy-out-p
+element-copy-out-p c = search needs
 
--- src/expressions.rt:96:9
+owe-requires : tie.Need-owe-requires
+owe-requires c κs = search needs
+
 write-requires : tie.Need-write-requires
 write-requires c κs = search needs
 
--- src/expressions.rt:97:9
 path-requires : tie.Need-path-requires
 path-requires c κs = search needs
 
--- src/expressions.rt:99:9
 same-length : tie.Need-same-length
-same-length c = search needs
+same-length c = c .before .before .before .before .before .before .path .kept .1 .0
 
--- src/expressions.rt:99:9
 same-length-2 : tie.Need-same-length-2
-same-length-2 c = search needs
+same-length-2 c = omega (arith, c .before .before .before .before .before .before .path .kept .1 .1 .0, c .before .before .before .before .before .before .before .before .before .before .before .before .before .before .write .kept .0)
 
--- src/expressions.rt:99:9
 same-length-3 : tie.Need-same-length-3
-same-length-3 c = search needs
+same-length-3 c = omega (arith, c .before .before .before .before .before .before .path .kept .1 .1 .1 .0, c .before .before .before .before .before .before .before .before .before .before .before .before .before .before .write .kept .1 .0)
 
--- src/expressions.rt:99:9
 returns : tie.Need-returns
-returns c =
-    let at-path = c .before .before .before .before .before .before in
-    let at-write = at-path .before .before .before .before .before .before .before in
-    let at-owing = at-write .before in
-    let at-peek = at-owing .before .before .before in
-    let start = at-peek .before .before .before .before in
-    path-in (start .args .text .now) (start .args .words .now) (start .args .origins .now) (at-peek .peek .ensures) (at-owing .owing .ensures) (at-write .write .ensures .0)
-    (at-write .write .ensures .1 .0) (at-write .write .ensures .1 .1) (at-path .path .ensures) (c .if1 .taken)
+unfolding carried
+returns c = (λ h. path-in (c .before .before .before .before .before .before .before .before .before .before .before .before .before .before .before .before .before .before .before .before .before .before .before .before .before .args .text .now) (c .before .before .before .before .before .before .before .before .before .before .before .before .before .before .before .before .before .before .before .before .before .before .before .before .before .args .words .now) (c .before .before .before .before .before .before .before .before .before .before .before .before .before .before .before .before .before .before .before .before .before .before .before .before .before .args .origins .now) h (c .before .before .before .before .before .before .before .before .before .before .before .before .before .before .before .before .before .before .owe .ensures .0) (c .before .before .before .before .before .before .before .before .before .before .before .before .before .before .write .ensures .0) (c .before .before .before .before .before .before .before .before .before .before .before .before .before .before .write .ensures .1 .0) (c .before .before .before .before .before .before .before .before .before .before .before .before .before .before .write .ensures .1 .1) (c .before .before .before .before .before .before .path .ensures .0 (ahead-wrote (c .before .before .before .before .before .before .before .before .before .before .before .before .before .before .before .before .before .before .before .before .before .before .before .before .before .args .text .now) _ (c .before .before .before .before .before .before .before .before .before .before .before .before .before .before .write .ensures .1 .1) (c .before .before .before .before .before .before .before .before .before .before .before .before .before .before .before .before .before .before .owe .ensures .1 (c .before .before .before .before .before .before .before .before .before .before .before .before .before .before .before .before .before .before .before .before .before .before .before .before .before .args .text .now) h))) (c .if1 .taken), λ h. c .before .before .before .before .before .before .path .ensures .1 (ahead-wrote (c .before .before .before .before .before .before .before .before .before .before .before .before .before .before .before .before .before .before .before .before .before .before .before .before .before .args .text .now) _ (c .before .before .before .before .before .before .before .before .before .before .before .before .before .before .write .ensures .1 .1) (c .before .before .before .before .before .before .before .before .before .before .before .before .before .before .before .before .before .before .owe .ensures .1 (c .before .before .before .before .before .before .before .before .before .before .before .before .before .before .before .before .before .before .before .before .before .before .before .before .before .args .text .now) h)))
 
--- src/expressions.rt:102:9
+element-copy-out-if2 : tie.Need-element-copy-out-if2
+element-copy-out-if2 c = search needs
+
 same-length-4 : tie.Need-same-length-4
-same-length-4 c = search needs
+same-length-4 c = c .before .before .before .before .before .before .before .before .path .kept .1 .0
 
--- src/expressions.rt:102:9
 same-length-5 : tie.Need-same-length-5
-same-length-5 c = search needs
+same-length-5 c = omega (arith, c .before .before .before .before .before .before .before .before .path .kept .1 .1 .0, c .before .before .before .before .before .before .before .before .before .before .before .before .before .before .before .before .write .kept .0)
 
--- src/expressions.rt:102:9
 same-length-6 : tie.Need-same-length-6
-same-length-6 c = search needs
+same-length-6 c = omega (arith, c .before .before .before .before .before .before .before .before .path .kept .1 .1 .1 .0, c .before .before .before .before .before .before .before .before .before .before .before .before .before .before .before .before .write .kept .1 .0)
 
--- src/expressions.rt:102:9
 returns-2 : tie.Need-returns-2
-returns-2 c =
-    let at-path = c .before .before .before .before .before .before .before .before in
-    let at-write = at-path .before .before .before .before .before .before .before in
-    let at-owing = at-write .before in
-    let at-peek = at-owing .before .before .before in
-    let start = at-peek .before .before .before .before in
-    path-refused (start .args .text .now) (start .args .words .now) (start .args .origins .now) (at-peek .peek .ensures) (at-owing .owing .ensures) (at-write .write .ensures .0)
-    (at-write .write .ensures .1 .0) (at-write .write .ensures .1 .1) (at-path .path .ensures) (start .args .in-c) (c .if2 .taken)
+unfolding carried
+returns-2 c = (λ h. path-refused (c .before .before .before .before .before .before .before .before .before .before .before .before .before .before .before .before .before .before .before .before .before .before .before .before .before .before .before .args .text .now) (c .before .before .before .before .before .before .before .before .before .before .before .before .before .before .before .before .before .before .before .before .before .before .before .before .before .before .before .args .words .now) (c .before .before .before .before .before .before .before .before .before .before .before .before .before .before .before .before .before .before .before .before .before .before .before .before .before .before .before .args .origins .now) h (c .before .before .before .before .before .before .before .before .before .before .before .before .before .before .before .before .before .before .before .before .owe .ensures .0) (c .before .before .before .before .before .before .before .before .before .before .before .before .before .before .before .before .write .ensures .0) (c .before .before .before .before .before .before .before .before .before .before .before .before .before .before .before .before .write .ensures .1 .0) (c .before .before .before .before .before .before .before .before .before .before .before .before .before .before .before .before .write .ensures .1 .1) (c .before .before .before .before .before .before .before .before .path .ensures .0 (ahead-wrote (c .before .before .before .before .before .before .before .before .before .before .before .before .before .before .before .before .before .before .before .before .before .before .before .before .before .before .before .args .text .now) _ (c .before .before .before .before .before .before .before .before .before .before .before .before .before .before .before .before .write .ensures .1 .1) (c .before .before .before .before .before .before .before .before .before .before .before .before .before .before .before .before .before .before .before .before .owe .ensures .1 (c .before .before .before .before .before .before .before .before .before .before .before .before .before .before .before .before .before .before .before .before .before .before .before .before .before .before .before .args .text .now) h))) (c .before .before .before .before .before .before .before .before .before .before .before .before .before .before .before .before .before .before .before .before .before .before .before .before .before .before .before .args .in-c) (c .if2 .taken), λ h. c .before .before .before .before .before .before .before .before .path .ensures .1 (ahead-wrote (c .before .before .before .before .before .before .before .before .before .before .before .before .before .before .before .before .before .before .before .before .before .before .before .before .before .before .before .args .text .now) _ (c .before .before .before .before .before .before .before .before .before .before .before .before .before .before .before .before .write .ensures .1 .1) (c .before .before .before .before .before .before .before .before .before .before .before .before .before .before .before .before .before .before .before .before .owe .ensures .1 (c .before .before .before .before .before .before .before .before .before .before .before .before .before .before .before .before .before .before .before .before .before .before .before .before .before .before .before .args .text .now) h)))
 
--- src/expressions.rt:104:9
-peek-requires-2 : tie.Need-peek-requires-2
-peek-requires-2 c κs = search needs
+element-copy-out-if3 : tie.Need-element-copy-out-if3
+element-copy-out-if3 c = search needs
 
--- src/expressions.rt:106:9
 same-length-7 : tie.Need-same-length-7
-same-length-7 c = search needs
+same-length-7 c = c .before .before .before .before .before .before .before .before .before .before .path .kept .1 .0
 
--- src/expressions.rt:106:9
 same-length-8 : tie.Need-same-length-8
-same-length-8 c = search needs
+same-length-8 c = omega (arith, c .before .before .before .before .before .before .before .before .before .before .path .kept .1 .1 .0, c .before .before .before .before .before .before .before .before .before .before .before .before .before .before .before .before .before .before .write .kept .0)
 
--- src/expressions.rt:106:9
 same-length-9 : tie.Need-same-length-9
-same-length-9 c = search needs
+same-length-9 c = omega (arith, c .before .before .before .before .before .before .before .before .before .before .path .kept .1 .1 .1 .0, c .before .before .before .before .before .before .before .before .before .before .before .before .before .before .before .before .before .before .write .kept .1 .0)
 
--- src/expressions.rt:106:9
 returns-3 : tie.Need-returns-3
-returns-3 c =
-    let at-peek2 = c .before .before in
-    let at-if2 = at-peek2 .before in
-    let at-if1 = at-if2 .before .before in
-    let at-path = at-if1 .before .before .before .before .before .before in
-    let at-write = at-path .before .before .before .before .before .before .before in
-    let at-owing = at-write .before in
-    let at-peek = at-owing .before .before .before in
-    let start = at-peek .before .before .before .before in
-    path-alone (start .args .text .now) (start .args .words .now) (start .args .origins .now) (at-peek .peek .ensures) (at-owing .owing .ensures) (at-write .write .ensures .0)
-    (at-write .write .ensures .1 .0) (at-write .write .ensures .1 .1) (at-path .path .ensures) (at-if1 .if1 .left) (at-if2 .if2 .left) (at-peek2 .peek2 .ensures) (c .if3 .taken)
+unfolding carried
+returns-3 c = (λ h. path-alone (c .before .before .before .before .before .before .before .before .before .before .before .before .before .before .before .before .before .before .before .before .before .before .before .before .before .before .before .before .before .args .text .now) (c .before .before .before .before .before .before .before .before .before .before .before .before .before .before .before .before .before .before .before .before .before .before .before .before .before .before .before .before .before .args .words .now) (c .before .before .before .before .before .before .before .before .before .before .before .before .before .before .before .before .before .before .before .before .before .before .before .before .before .before .before .before .before .args .origins .now) h (c .before .before .before .before .before .before .before .before .before .before .before .before .before .before .before .before .before .before .before .before .before .before .owe .ensures .0) (c .before .before .before .before .before .before .before .before .before .before .before .before .before .before .before .before .before .before .write .ensures .0) (c .before .before .before .before .before .before .before .before .before .before .before .before .before .before .before .before .before .before .write .ensures .1 .0) (c .before .before .before .before .before .before .before .before .before .before .before .before .before .before .before .before .before .before .write .ensures .1 .1) (c .before .before .before .before .before .before .before .before .before .before .path .ensures .0 (ahead-wrote (c .before .before .before .before .before .before .before .before .before .before .before .before .before .before .before .before .before .before .before .before .before .before .before .before .before .before .before .before .before .args .text .now) _ (c .before .before .before .before .before .before .before .before .before .before .before .before .before .before .before .before .before .before .write .ensures .1 .1) (c .before .before .before .before .before .before .before .before .before .before .before .before .before .before .before .before .before .before .before .before .before .before .owe .ensures .1 (c .before .before .before .before .before .before .before .before .before .before .before .before .before .before .before .before .before .before .before .before .before .before .before .before .before .before .before .before .before .args .text .now) h))) (c .before .before .before .before .if1 .left) (c .before .before .if2 .left) (c .before .before .before .before .before .before .before .before .before .before .path .ensures .1 (ahead-wrote (c .before .before .before .before .before .before .before .before .before .before .before .before .before .before .before .before .before .before .before .before .before .before .before .before .before .before .before .before .before .args .text .now) _ (c .before .before .before .before .before .before .before .before .before .before .before .before .before .before .before .before .before .before .write .ensures .1 .1) (c .before .before .before .before .before .before .before .before .before .before .before .before .before .before .before .before .before .before .before .before .before .before .owe .ensures .1 (c .before .before .before .before .before .before .before .before .before .before .before .before .before .before .before .before .before .before .before .before .before .before .before .before .before .before .before .before .before .args .text .now) h))) (c .if3 .taken), λ h. c .before .before .before .before .before .before .before .before .before .before .path .ensures .1 (ahead-wrote (c .before .before .before .before .before .before .before .before .before .before .before .before .before .before .before .before .before .before .before .before .before .before .before .before .before .before .before .before .before .args .text .now) _ (c .before .before .before .before .before .before .before .before .before .before .before .before .before .before .before .before .before .before .write .ensures .1 .1) (c .before .before .before .before .before .before .before .before .before .before .before .before .before .before .before .before .before .before .before .before .before .before .owe .ensures .1 (c .before .before .before .before .before .before .before .before .before .before .before .before .before .before .before .before .before .before .before .before .before .before .before .before .before .before .before .before .before .args .text .now) h)))
 
--- src/expressions.rt:108:5
+element-copy-out-put-word : tie.Need-element-copy-out-put-word
+element-copy-out-put-word c = search needs
+
 put-word-requires : tie.Need-put-word-requires
 put-word-requires c κs = search needs
 
--- src/expressions.rt:109:39
 take-requires : tie.Need-take-requires
 take-requires c κs = search needs
 
--- src/expressions.rt:109:5
 path-requires-2 : tie.Need-path-requires-2
 path-requires-2 c κs = search needs
 
--- src/expressions.rt:84:1
 same-length-10 : tie.Need-same-length-10
-same-length-10 c =
-    let at-path2 = c .before .before .before .before .before in
-    let at-path = at-path2 .before .before .before .before .before .before .before .before .before .before .before .before .before .before .before .before .before .before .before .before .before .before in
-    omega (arith, at-path2 .path2 .kept .1 .0, at-path .path .kept .1 .0)
+same-length-10 c = omega (arith, c .before .before .before .before .before .path2 .kept .1 .0, c .before .before .before .before .before .before .before .before .before .before .before .before .before .before .before .before .before .before .before .before .before .before .before .before .before .before .before .before .before .path .kept .1 .0)
 
--- src/expressions.rt:84:1
 same-length-11 : tie.Need-same-length-11
-same-length-11 c =
-    let at-path2 = c .before .before .before .before .before in
-    let at-put-word = at-path2 .before .before .before .before .before .before .before .before in
-    let at-path = at-put-word .before .before .before .before .before .before .before .before .before .before .before .before .before .before in
-    let at-write = at-path .before .before .before .before .before .before .before in
-    omega (arith, at-path2 .path2 .kept .1 .1 .0, at-put-word .put-word .kept .0, at-path .path .kept .1 .1 .0, at-write .write .kept .0)
+same-length-11 c = omega (arith, c .before .before .before .before .before .path2 .kept .1 .1 .0, c .before .before .before .before .before .before .before .before .before .before .before .before .before .before .before .put-word .kept .0, c .before .before .before .before .before .before .before .before .before .before .before .before .before .before .before .before .before .before .before .before .before .before .before .before .before .before .before .before .before .path .kept .1 .1 .0, c .before .before .before .before .before .before .before .before .before .before .before .before .before .before .before .before .before .before .before .before .before .before .before .before .before .before .before .before .before .before .before .before .before .before .before .before .before .write .kept .0)
 
--- src/expressions.rt:84:1
 same-length-12 : tie.Need-same-length-12
-same-length-12 c =
-    let at-path2 = c .before .before .before .before .before in
-    let at-put-word = at-path2 .before .before .before .before .before .before .before .before in
-    let at-path = at-put-word .before .before .before .before .before .before .before .before .before .before .before .before .before .before in
-    let at-write = at-path .before .before .before .before .before .before .before in
-    omega (arith, at-path2 .path2 .kept .1 .1 .1 .0, at-put-word .put-word .kept .1 .0, at-path .path .kept .1 .1 .1 .0, at-write .write .kept .1 .0)
+same-length-12 c = omega (arith, c .before .before .before .before .before .path2 .kept .1 .1 .1 .0, c .before .before .before .before .before .before .before .before .before .before .before .before .before .before .before .put-word .kept .1 .0, c .before .before .before .before .before .before .before .before .before .before .before .before .before .before .before .before .before .before .before .before .before .before .before .before .before .before .before .before .before .path .kept .1 .1 .1 .0, c .before .before .before .before .before .before .before .before .before .before .before .before .before .before .before .before .before .before .before .before .before .before .before .before .before .before .before .before .before .before .before .before .before .before .before .before .before .write .kept .1 .0)
 
--- src/expressions.rt:84:1
 returns-4 : tie.Need-returns-4
-returns-4 c =
-    let at-path2 = c .before .before .before .before .before in
-    let at-take = at-path2 .before in
-    let at-put-word = at-take .before .before .before .before .before .before .before in
-    let at-if3 = at-put-word .before .before .before in
-    let at-peek2 = at-if3 .before .before in
-    let at-if2 = at-peek2 .before in
-    let at-if1 = at-if2 .before .before in
-    let at-path = at-if1 .before .before .before .before .before .before in
-    let at-write = at-path .before .before .before .before .before .before .before in
-    let at-owing = at-write .before in
-    let at-peek = at-owing .before .before .before in
-    let start = at-peek .before .before .before .before in
-    path-same (start .args .text .now) (start .args .words .now) (start .args .origins .now) (at-peek .peek .ensures) (at-owing .owing .ensures) (at-write .write .ensures .0)
-    (at-write .write .ensures .1 .0) (at-write .write .ensures .1 .1) (at-path .path .ensures) (at-if1 .if1 .left) (at-if2 .if2 .left) (at-peek2 .peek2 .ensures)
-    (at-if3 .if3 .left) (at-put-word .put-word .ensures .0) (at-put-word .put-word .ensures .1) (at-take .take .ensures) (at-path2 .path2 .ensures)
+unfolding carried
+returns-4 c = (λ h. path-same (c .before .before .before .before .before .before .before .before .before .before .before .before .before .before .before .before .before .before .before .before .before .before .before .before .before .before .before .before .before .before .before .before .before .before .before .before .before .before .before .before .before .before .before .before .before .before .before .before .args .text .now) (c .before .before .before .before .before .before .before .before .before .before .before .before .before .before .before .before .before .before .before .before .before .before .before .before .before .before .before .before .before .before .before .before .before .before .before .before .before .before .before .before .before .before .before .before .before .before .before .before .args .words .now) (c .before .before .before .before .before .before .before .before .before .before .before .before .before .before .before .before .before .before .before .before .before .before .before .before .before .before .before .before .before .before .before .before .before .before .before .before .before .before .before .before .before .before .before .before .before .before .before .before .args .origins .now) h (c .before .before .before .before .before .before .before .before .before .before .before .before .before .before .before .before .before .before .before .before .before .before .before .before .before .before .before .before .before .before .before .before .before .before .before .before .before .before .before .before .before .owe .ensures .0) (c .before .before .before .before .before .before .before .before .before .before .before .before .before .before .before .before .before .before .before .before .before .before .before .before .before .before .before .before .before .before .before .before .before .before .before .before .before .write .ensures .0) (c .before .before .before .before .before .before .before .before .before .before .before .before .before .before .before .before .before .before .before .before .before .before .before .before .before .before .before .before .before .before .before .before .before .before .before .before .before .write .ensures .1 .0) (c .before .before .before .before .before .before .before .before .before .before .before .before .before .before .before .before .before .before .before .before .before .before .before .before .before .before .before .before .before .before .before .before .before .before .before .before .before .write .ensures .1 .1) (c .before .before .before .before .before .before .before .before .before .before .before .before .before .before .before .before .before .before .before .before .before .before .before .before .before .before .before .before .before .path .ensures .0 (ahead-wrote (c .before .before .before .before .before .before .before .before .before .before .before .before .before .before .before .before .before .before .before .before .before .before .before .before .before .before .before .before .before .before .before .before .before .before .before .before .before .before .before .before .before .before .before .before .before .before .before .before .args .text .now) _ (c .before .before .before .before .before .before .before .before .before .before .before .before .before .before .before .before .before .before .before .before .before .before .before .before .before .before .before .before .before .before .before .before .before .before .before .before .before .write .ensures .1 .1) (c .before .before .before .before .before .before .before .before .before .before .before .before .before .before .before .before .before .before .before .before .before .before .before .before .before .before .before .before .before .before .before .before .before .before .before .before .before .before .before .before .before .owe .ensures .1 (c .before .before .before .before .before .before .before .before .before .before .before .before .before .before .before .before .before .before .before .before .before .before .before .before .before .before .before .before .before .before .before .before .before .before .before .before .before .before .before .before .before .before .before .before .before .before .before .before .args .text .now) h))) (c .before .before .before .before .before .before .before .before .before .before .before .before .before .before .before .before .before .before .before .before .before .before .before .if1 .left) (c .before .before .before .before .before .before .before .before .before .before .before .before .before .before .before .before .before .before .before .before .before .if2 .left) (c .before .before .before .before .before .before .before .before .before .before .before .before .before .before .before .before .before .before .before .before .before .before .before .before .before .before .before .before .before .path .ensures .1 (ahead-wrote (c .before .before .before .before .before .before .before .before .before .before .before .before .before .before .before .before .before .before .before .before .before .before .before .before .before .before .before .before .before .before .before .before .before .before .before .before .before .before .before .before .before .before .before .before .before .before .before .before .args .text .now) _ (c .before .before .before .before .before .before .before .before .before .before .before .before .before .before .before .before .before .before .before .before .before .before .before .before .before .before .before .before .before .before .before .before .before .before .before .before .before .write .ensures .1 .1) (c .before .before .before .before .before .before .before .before .before .before .before .before .before .before .before .before .before .before .before .before .before .before .before .before .before .before .before .before .before .before .before .before .before .before .before .before .before .before .before .before .before .owe .ensures .1 (c .before .before .before .before .before .before .before .before .before .before .before .before .before .before .before .before .before .before .before .before .before .before .before .before .before .before .before .before .before .before .before .before .before .before .before .before .before .before .before .before .before .before .before .before .before .before .before .before .args .text .now) h))) (c .before .before .before .before .before .before .before .before .before .before .before .before .before .before .before .before .before .before .before .if3 .left) (c .before .before .before .before .before .before .before .before .before .before .before .before .before .before .before .put-word .ensures .0) (c .before .before .before .before .before .before .before .before .before .before .before .before .before .before .before .put-word .ensures .1) (c .before .before .before .before .before .before .before .before .before .before .take .ensures .0 (c .before .before .before .before .before .before .before .before .before .before .before .before .before .before .before .before .before .before .before .before .before .before .before .before .before .before .before .before .before .path .ensures .1 (ahead-wrote (c .before .before .before .before .before .before .before .before .before .before .before .before .before .before .before .before .before .before .before .before .before .before .before .before .before .before .before .before .before .before .before .before .before .before .before .before .before .before .before .before .before .before .before .before .before .before .before .before .args .text .now) _ (c .before .before .before .before .before .before .before .before .before .before .before .before .before .before .before .before .before .before .before .before .before .before .before .before .before .before .before .before .before .before .before .before .before .before .before .before .before .write .ensures .1 .1) (c .before .before .before .before .before .before .before .before .before .before .before .before .before .before .before .before .before .before .before .before .before .before .before .before .before .before .before .before .before .before .before .before .before .before .before .before .before .before .before .before .before .owe .ensures .1 (c .before .before .before .before .before .before .before .before .before .before .before .before .before .before .before .before .before .before .before .before .before .before .before .before .before .before .before .before .before .before .before .before .before .before .before .before .before .before .before .before .before .before .before .before .before .before .before .before .args .text .now) h)))) (c .before .before .before .before .before .path2 .ensures .0 (c .before .before .before .before .before .before .before .before .before .before .take .ensures .1 (c .before .before .before .before .before .before .before .before .before .before .before .before .before .before .before .before .before .before .before .before .before .before .before .before .before .before .before .before .before .path .ensures .1 (ahead-wrote (c .before .before .before .before .before .before .before .before .before .before .before .before .before .before .before .before .before .before .before .before .before .before .before .before .before .before .before .before .before .before .before .before .before .before .before .before .before .before .before .before .before .before .before .before .before .before .before .before .args .text .now) _ (c .before .before .before .before .before .before .before .before .before .before .before .before .before .before .before .before .before .before .before .before .before .before .before .before .before .before .before .before .before .before .before .before .before .before .before .before .before .write .ensures .1 .1) (c .before .before .before .before .before .before .before .before .before .before .before .before .before .before .before .before .before .before .before .before .before .before .before .before .before .before .before .before .before .before .before .before .before .before .before .before .before .before .before .before .before .owe .ensures .1 (c .before .before .before .before .before .before .before .before .before .before .before .before .before .before .before .before .before .before .before .before .before .before .before .before .before .before .before .before .before .before .before .before .before .before .before .before .before .before .before .before .before .before .before .before .before .before .before .before .args .text .now) h))))), λ h. c .before .before .before .before .before .path2 .ensures .1 (c .before .before .before .before .before .before .before .before .before .before .take .ensures .1 (c .before .before .before .before .before .before .before .before .before .before .before .before .before .before .before .before .before .before .before .before .before .before .before .before .before .before .before .before .before .path .ensures .1 (ahead-wrote (c .before .before .before .before .before .before .before .before .before .before .before .before .before .before .before .before .before .before .before .before .before .before .before .before .before .before .before .before .before .before .before .before .before .before .before .before .before .before .before .before .before .before .before .before .before .before .before .before .args .text .now) _ (c .before .before .before .before .before .before .before .before .before .before .before .before .before .before .before .before .before .before .before .before .before .before .before .before .before .before .before .before .before .before .before .before .before .before .before .before .before .write .ensures .1 .1) (c .before .before .before .before .before .before .before .before .before .before .before .before .before .before .before .before .before .before .before .before .before .before .before .before .before .before .before .before .before .before .before .before .before .before .before .before .before .before .before .before .before .owe .ensures .1 (c .before .before .before .before .before .before .before .before .before .before .before .before .before .before .before .before .before .before .before .before .before .before .before .before .before .before .before .before .before .before .before .before .before .before .before .before .before .before .before .before .before .before .before .before .before .before .before .before .args .text .now) h)))))
 
 pub path-or-same-spec : {M : Type 1} → statement M
-path-or-same-spec =
-    tie.close
-    (tie.spec
-    peek-requires
-    owing-requires
-    write-requires
-    path-requires
-    same-length
-    same-length-2
-    same-length-3
-    returns
-    same-length-4
-    same-length-5
-    same-length-6
-    returns-2
-    peek-requires-2
-    same-length-7
-    same-length-8
-    same-length-9
-    returns-3
-    put-word-requires
-    take-requires
-    path-requires-2
-    same-length-10
-    same-length-11
-    same-length-12
-    returns-4)
+path-or-same-spec = tie.close (tie.spec element-copy-out-from element-copy-out-p owe-requires write-requires path-requires same-length same-length-2 same-length-3 returns element-copy-out-if2 same-length-4 same-length-5 same-length-6 returns-2 element-copy-out-if3 same-length-7 same-length-8 same-length-9 returns-3 element-copy-out-put-word put-word-requires take-requires path-requires-2 same-length-10 same-length-11 same-length-12 returns-4)

@@ -1,0 +1,51 @@
+use Rattle.text.specs.Told.{carried}
+use Rattle.text.proofs.WrittenLaws.{owes-more, owes-much, owes-many}
+use Rattle.text.proofs.WritingCode.{row-owing, ahead-owing}
+use borrow.Author.Needs.{needs}
+use Rattle.text.proofs.writing.owe.Statement.{statement}
+use Rattle.text.proofs.writing.owe.Tie as tie
+use Rattle.text.proofs.writing.owe.Reads as reads
+use Rattle.text.proofs.writing.owe.Lts as lts
+use Rattle.text.proofs.naming.sized.Reads as sized-reads
+
+-- src/writing.rt:51:16
+element-copy-out-owed : tie.Need-element-copy-out-owed
+element-copy-out-owed c = search needs
+
+-- src/writing.rt:53:9
+returns : tie.Need-returns
+unfolding carried
+returns c = (owes-much (c .before .before .args .k) (carried (c .before .before .args .s .now)) (c .if1 .taken), λ text h. h)
+
+-- src/writing.rt:56:9
+returns-2 : tie.Need-returns-2
+unfolding carried
+returns-2 c = (owes-many (c .before .before .before .args .k) (carried (c .before .before .before .args .s .now)) (c .if2 .taken), λ text h. h)
+
+-- src/writing.rt:58:5
+sized-requires : tie.Need-sized-requires
+sized-requires c κs = search needs
+
+-- src/writing.rt:59:15
+add-s : tie.Need-add-s
+add-s c = search needs
+
+-- src/writing.rt:59:5
+element-write-s : tie.Need-element-write-s
+element-write-s c = search needs
+
+-- src/writing.rt:47:1
+returns-3 : tie.Need-returns-3
+returns-3 c = (owes-more (c .before .before .before .before .before .args .k) (carried (c .before .before .before .before .before .args .s .now)) (row-owing (c .before .before .before .before .before .args .s .now) (c .sized .ensures) (c .before .before .before .before .before .args .k)), λ text h. ahead-owing text (carried (c .before .before .before .before .before .args .s .now)) (c .before .before .before .before .before .args .k) (row-owing (c .before .before .before .before .before .args .s .now) (c .sized .ensures) (c .before .before .before .before .before .args .k)) h)
+
+pub owe-spec : {M : Type 1} → statement M
+owe-spec =
+    tie.close
+    (tie.spec
+    element-copy-out-owed
+    returns
+    returns-2
+    sized-requires
+    add-s
+    element-write-s
+    returns-3)
