@@ -10,7 +10,7 @@ use lib.Dec.{leb}
 use lib.ListN.{length, getD, drop, set, length-append, drop-of-length-le}
 use lib.Seq.{set-append-seam}
 use Rattle.lister.specs.Bytes.{laid, Buffer, buffer, withByte, written, Puts}
-use Rattle.lister.proofs.ByteLaws.{drop-next}
+use Rattle.words.proofs.Laws.{drop-next}
 
 -- ---- a list laid over another
 

@@ -4,25 +4,12 @@ use mathlib.Core.Bool.{true, false, _&&_}
 use mathlib.Core.List.{List, [], _∷_, _++_}
 use Prim.Native.Nat.{ℕ, suc, _+_, _-_, _≤_, _<_}
 use native.Mathlib.Omega.{arith}
-use native.Mathlib.Numerals.{add-one}
 use borrow.Author.Tests.{eqb-true, eqb-false, eq-eqb, ne-eqb}
 use lib.Dec.{eqb}
-use lib.ListN.{length, getD, take, drop, length-drop, drop-of-length-le}
-use lib.Seq.{take-all, drop-length, drop-cons}
+use lib.ListN.{length, getD, take, drop, drop-of-length-le}
+use Rattle.words.proofs.Laws.{drop-next}
 use Rattle.tables.proofs.SearchLaws.{cases}
 use Rattle.lister.specs.Bytes.{upTo, past, onFirst, pieces, begins}
-
--- ---- parts to the end, and from the start
-
-pub from-part : (s : List ℕ) (k : ℕ) → take (length s - k) (drop k s) ≡ drop k s
-from-part s k = take-all (length s - k) (drop k s) (simp length-drop (omega arith))
-
-pub from-past : (s : List ℕ) (k : ℕ) → length s < k → take (length s - length s) (drop (length s) s) ≡ drop k s
-from-past s k h = from-part s (length s) ∙ drop-length s ∙ sym (drop-of-length-le s {i = k} (omega arith))
-
--- what is left at i is the byte at i and what is left after it
-pub drop-next : (s : List ℕ) (i : ℕ) → i < length s → drop i s ≡ getD s i 0 ∷ drop (i + 1) s
-drop-next s i h = rw (add-one i) (drop-cons s i 0 h)
 
 -- ---- the bytes before and after the first b
 

@@ -18,7 +18,7 @@ use Rattle.tables.proofs.SearchLaws.{cases}
 use Rattle.lister.specs.declared.Numeral.the-variants.{Number, Unfit}
 use Rattle.lister.specs.Bytes.{Puts}
 use Rattle.lister.specs.Numerals.{noNumber, minus, digitOf, valueFrom, naturalIn, positiveOf, negativeOf, numeralIn, digitsBy, digits, numeral}
-use Rattle.lister.proofs.ByteLaws.{drop-next}
+use Rattle.words.proofs.Laws.{drop-next}
 use Rattle.lister.proofs.BufferLaws.{then, puts-none, puts-as}
 
 -- ---- a digit

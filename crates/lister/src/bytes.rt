@@ -1,22 +1,10 @@
 // Parts of a text, and bytes stored in a row.
+use words::bytes_from;
+use words::bytes_to;
 ghost use mathlib.Core.Path.{_≡_};
 ghost use mathlib.Core.List.{_∷_, []};
-ghost use lib.ListN.{length, drop, take};
+ghost use lib.ListN.{length};
 ghost use Rattle.lister.specs.Bytes.{upTo, past, begins, Puts};
-
-// The bytes from k on, none past the end.
-pub fn bytes_from(s: &[u8], k: usize) -> &[u8]
-    ensures { λ r. ⌜ now r ≡ drop k (now (s .entry)) ⌝ }
-{
-    if k <= s.len() { &s[k..] } else { &s[s.len()..] }
-}
-
-// The first k bytes, all of them where there are fewer.
-pub fn bytes_to(s: &[u8], k: usize) -> &[u8]
-    ensures { λ r. ⌜ now r ≡ take k (now (s .entry)) ⌝ }
-{
-    if k <= s.len() { &s[..k] } else { s }
-}
 
 // How many bytes stand before the first b.
 fn before(s: &[u8], b: u8) -> usize

@@ -1,7 +1,7 @@
 // Decimal numbers, read and written.
-use super::bytes::bytes_from;
 use super::bytes::put;
 use crate::Numeral;
+use words::bytes_from;
 ghost use mathlib.Core.Path.{_≡_};
 ghost use Prim.Native.Nat.{_<_, _+_};
 ghost use lib.IntN.{natAbs};

@@ -1,7 +1,6 @@
 // The three lines of the input.
 use super::bytes::after;
 use super::bytes::begins_with;
-use super::bytes::bytes_from;
 use super::bytes::up_to;
 use super::numerals::number;
 use crate::Input;
@@ -9,6 +8,7 @@ use crate::MOST_BYTES;
 use crate::MOST_NUMBERS;
 use crate::Numeral;
 use crate::Row;
+use words::bytes_from;
 ghost use mathlib.Core.Path.{_≡_};
 ghost use Rattle.lister.specs.Reading.{rowIn, lineIn, budgetIn, inputIn, RowRead, InputRead};
 

@@ -11,17 +11,6 @@ ghost use Rattle.rules.specs.Start.{run as runBy};
 ghost use Rattle.phases.specs.Told.{tables};
 ghost use Rattle.run.specs.Told.{Meets};
 
-// The four words of an answer.
-fn answer_with(answer: &mut [i32; 4], outcome: usize, place: usize, steps: usize, accepted: usize)
-    ensures { λ _. ⌜ now (answer .exit) ≡ wordOf outcome ∷ wordOf place ∷ wordOf steps ∷ wordOf accepted ∷ [] ⌝ }
-{
-    let a = words::word_of(outcome);
-    let b = words::word_of(place);
-    let c = words::word_of(steps);
-    let d = words::word_of(accepted);
-    *answer = [a, b, c, d];
-}
-
 // The block of a program that may begin; how many words of the proposals are unread.
 fn run_begun(
     program: &[i32],
@@ -38,10 +27,10 @@ fn run_begun(
     let most = words::number(budget);
     let t = block::run_all(program, environment, heap, constraints, proposals, most);
     if t.outcome == 0 {
-        answer_with(answer, 0, program.len(), t.steps, t.accepted);
+        words::answer_with(answer, 0, program.len(), t.steps, t.accepted);
         return t.unread;
     }
-    answer_with(answer, t.outcome, t.place, t.steps, t.accepted);
+    words::answer_with(answer, t.outcome, t.place, t.steps, t.accepted);
     t.unread
 }
 
@@ -59,7 +48,7 @@ pub fn run<'a>(
 {
     match starts(program, environment, heap, constraints, budget) {
         Started::Early(outcome, place) => {
-            answer_with(answer, outcome, place, 0, 0);
+            words::answer_with(answer, outcome, place, 0, 0);
             proposals
         }
         Started::Begins => {

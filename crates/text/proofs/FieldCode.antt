@@ -15,7 +15,7 @@ use Rattle.words.specs.Words.{wordOf}
 use Rattle.words.proofs.AnswerLaws.{step, stop≢got, got-inj, either, bind-cong}
 use Rattle.words.proofs.Laws.{word-is}
 use Rattle.tokens.specs.declared.Token.{Token}
-use Rattle.tokens.proofs.ByteLaws.{from-part}
+use Rattle.words.proofs.Laws.{part-from}
 use Rattle.tokens.specs.Codes.{colonCode, commaCode, closeBraceCode}
 use Rattle.text.specs.Reading.{Fault, Reader, Form, wordThen, andThen, passing, peek, is, need, label, expression, fieldAt, fieldsOn}
 use Rattle.text.specs.Reading.{take as takeBy}
@@ -200,7 +200,7 @@ module _ {text : List ℕ} {from p : ℕ} {a₀ : Lent} {r : Carried} {a : Lent}
 turn-at : {text : List ℕ} {from p : ℕ} {a₀ : Lent} {r : Carried} {a : Lent} {seen : List ℕ} {s : Carried} {n free l : ℕ} {c : Lent} {e : Carried}
     → Fields text from p a₀ r a seen s n → free ≡ 8 - n → Turn text (take (8 - free) (drop free seen)) (eqb free 0) a s l c e → Turn text (drop (8 - n) seen) (eqb (8 - n) 0) a s l c e
 turn-at {seen = seen} {free = free} inv is T =
-    let y : take (8 - free) (drop free seen) ≡ drop free seen = rw (← inv .size) (from-part seen free) in
+    let y : take (8 - free) (drop free seen) ≡ drop free seen = rw (← inv .size) (part-from seen free) in
     rw (y, is) at T
 
 -- What the code's loop keeps, with the token that stands there.

@@ -56,3 +56,6 @@ pub mod Taken
 pub mod TextRead
 pub mod PartCode
 pub mod StatedCode
+pub mod OneExpression
+pub mod OnePart
+pub mod OneStatement

@@ -42,7 +42,7 @@ stops-looser h s = record { undotted = s .undotted; uncoloned = s .uncoloned; un
 pub stops-by : {inC : Bool} {l : ℕ} (c : ℕ) (t : Token) → t .code ≡ c → (c ≡ dotCode → ⊥) → (c ≡ colonCode → ⊥) → (c ≡ identicalCode → ⊥) → isOperator c ≡ false → Stops inC l t
 stops-by c t e d f g h = record { undotted = λ z. d (sym e ∙ z); uncoloned = λ z. f (sym e ∙ z); unlike = λ x z. g (sym e ∙ z); looser = λ z. absurd (let y : true ≡ false = sym z ∙ rw e h in let n : _≡_ {A = ℕ} 0 1 = cc in omega arith) }
 
-is-operator : {k l : ℕ} (t : Token) → t .code ≡ 40 + k → Level k l → (isOperator (t .code) ≡ true) × ((levelOf (t .code - 40) ≡ l) × (t .code - 40 ≡ k))
+pub is-operator : {k l : ℕ} (t : Token) → t .code ≡ 40 + k → Level k l → (isOperator (t .code) ≡ true) × ((levelOf (t .code - 40) ≡ l) × (t .code - 40 ≡ k))
 is-operator {k} {l} t e v =
     let b = level-of v in let b1 = b .1 .0 in let b2 = b .1 .1 .0 in
     let z : t .code - 40 ≡ k = omega arith in

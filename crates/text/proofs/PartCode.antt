@@ -17,8 +17,8 @@ use Rattle.tokens.specs.declared.Token.{Token}
 use Rattle.tokens.specs.Codes.{besideCode, openBracketCode, nameCode}
 use Rattle.text.specs.Reading.{Fault, Reader, Form, wordThen, andThen, empty, owing, passing, is, peek, take, variable, path}
 use Rattle.text.specs.Reading.{pathOrSame, literal, literalAt, outside, operand, enough, opened, climb, expression, priority, partAt, partsOn, constraintOn}
-use Rattle.text.specs.Told.{Carried, readerOf, Peeks, Ahead, Follows}
-use Rattle.text.specs.Written.{with1, wroteOne, passBy, deepBy, Passes, Owes}
+use Rattle.text.specs.Told.{Carried, readerOf, Peeks, Follows}
+use Rattle.text.specs.Written.{with1, wroteOne, passBy, Passes, Owes}
 use Rattle.text.specs.Pieces.{Lent, lent, formOf, Fit, Does, Piece, Expression, Onward, behindFirst}
 use Rattle.text.proofs.PieceLaws.{either-way}
 use Rattle.text.proofs.WrittenLaws.{passes}
@@ -27,21 +27,6 @@ use Rattle.text.proofs.AnswerSteps.{beside, flat, following, worded, be
 use Rattle.text.proofs.DoesLaws.{ended, does-then, does-as, does-wider, does-nothing, does-stopped, does-take, does-pass, does-owe, does-word, does-first, does-piece}
 use Rattle.text.proofs.DoesLaws.{expression-piece, form-none, form-length}
 use Rattle.text.proofs.StepLaws.{does-given}
-
--- ---- the token to be judged stays
-
-module _ (text : List ℕ) (r : Carried) {s : Carried} where
-  pub ahead-wrote : Ahead text r → s ≡ wroteOne r → Ahead text s
-  unfolding readerOf peek wroteOne
-  ahead-wrote h is = λ names. rw is (cases (ltb (r .written) 4100) (λ e. rw e (h names)) (λ e. rw e (h names)))
-
-  pub ahead-passed : (b : Bool) → Ahead text r → s ≡ passBy b r → Ahead text s
-  unfolding readerOf peek
-  ahead-passed b h is = λ names. rw is (h names)
-
-  pub ahead-deep : {d : ℕ} → Ahead text r → s ≡ deepBy d r → Ahead text s
-  unfolding readerOf peek
-  ahead-deep h is = λ names. rw is (h names)
 
 pub passed-on : {r s : Carried} {b : Bool} → s ≡ passBy b r → Passes b r s
 passed-on {r = r} {b = b} is = passes b r is

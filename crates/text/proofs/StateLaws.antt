@@ -9,12 +9,11 @@ use lib.Dec.{eqb, ltb, leb}
 use lib.ListN.{length, getD, set}
 use Rattle.words.specs.Answer.{Answer}
 use Rattle.tables.proofs.SearchLaws.{cases}
-use Rattle.tokens.specs.Codes.{tooLong}
 use Rattle.tokens.specs.declared.Token.{Token}
 use Rattle.tokens.specs.Tokens.{tokenFrom}
-use Rattle.text.specs.Reading.{Fault, Reader, dueAfter, peek}
-use Rattle.text.specs.Told.{Carried, carried, nextOf, readerOf, readingOf, numberedOf, refusedAt, refusedBy, roomWith, behind, takenBy, namedVariable, namedLabel}
-use Rattle.text.specs.Told.{lookedBy, tookBy, Ahead, Follows, Numbers}
+use Rattle.text.specs.Reading.{Fault, Reader, dueAfter}
+use Rattle.text.specs.Told.{Carried, carried, nextOf, readerOf, readingOf, numberedOf, refusedAt, roomWith, behind, takenBy, namedVariable, namedLabel}
+use Rattle.text.specs.Told.{lookedBy, tookBy, Follows, Numbers}
 use Rattle.text.specs.Written.{passBy, deepBy, numberedBy}
 
 -- ---- a row is its 15 words
@@ -163,34 +162,3 @@ module _ (text : List ℕ) (k : ℕ) (r : Carried) where
         (λ s u. Numbers before r step after (namedLabel c n u) → Numbers before r step after (namedLabel c n s))
         (λ u F. record { reads = F .reads; written = F .written; depth = F .depth })
         (λ u F. F))
-
--- ---- the row keeps the token that stands there
-
-pub ahead-as : (text : List ℕ) (r s : Carried) → s .at ≡ r .at → s .last ≡ r .last → nextOf s ≡ nextOf r → Ahead text r → Ahead text s
-unfolding readerOf peek
-ahead-as text r s e f g h = λ names. rw (g, e, f) (h names)
-
-module _ (text : List ℕ) (r : Carried) {s : Carried} where
-  pub ahead-looked : s ≡ lookedBy text r → Ahead text s
-  unfolding readerOf peek
-  ahead-looked is = λ names. rw is
-
-  pub ahead-refused : s ≡ refusedBy (nextOf r) r → Ahead text r → Ahead text s
-  unfolding readerOf peek refusedBy
-  ahead-refused is h = λ names. rw is (cases (eqb (r .code) tooLong) (λ e. rw e (h names)) (λ e. rw e (h names)))
-
-  pub ahead-refused-at : (n : ℕ) → s ≡ refusedAt n (r .start) r → Ahead text r → Ahead text s
-  unfolding readerOf peek
-  ahead-refused-at n is h = λ names. rw is (h names)
-
-  pub ahead-took : (k : ℕ) → s ≡ tookBy text k r → Ahead text r → Ahead text s
-  unfolding readerOf peek tookBy
-  ahead-took k is h = λ names. rw is (cases (roomWith k r) (λ e. rw e) (λ e. rw e (h names)))
-
-  pub ahead-variable : (c n : ℕ) → s ≡ namedVariable c n r → Ahead text r → Ahead text s
-  unfolding readerOf peek
-  ahead-variable c n is h = λ names. rw is (h names)
-
-  pub ahead-label : (c n : ℕ) → s ≡ namedLabel c n r → Ahead text r → Ahead text s
-  unfolding readerOf peek
-  ahead-label c n is h = λ names. rw is (h names)

@@ -1,18 +1,13 @@
--- What the row carries when a word is written or owed, and that the token stands there still. Assumes nothing.
-use mathlib.Core.Path.{_≡_, refl, _∙_}
-use mathlib.Core.Bool.{Bool, true, false, _||_, cond}
-use mathlib.Core.List.{List, [], _∷_}
+-- What the row carries when a word is written or owed. Assumes nothing.
+use mathlib.Core.Path.{_≡_, refl}
+use mathlib.Core.Bool.{Bool, true, false, _||_}
+use mathlib.Core.List.{List}
 use Prim.Native.Nat.{ℕ, _+_, _≤_, _<_}
 use borrow.Author.Tests.{lt-ltb, le-ltb}
-use lib.Dec.{ltb, eqb}
 use lib.ListN.{length, getD, set}
-use Rattle.tables.proofs.SearchLaws.{cases}
-use Rattle.tokens.specs.Codes.{tooLong}
-use Rattle.text.specs.Reading.{peek}
-use Rattle.text.specs.Told.{Carried, carried, nextOf, readerOf, refusedBy, Ahead}
-use Rattle.text.specs.Written.{with1, wroteOne, oneMore, passBy, numberedBy, Owes}
-use Rattle.text.proofs.StateLaws.{of-row, row-passed}
-use Rattle.text.proofs.WrittenLaws.{owes-more, owes-much, owes-many}
+use Rattle.text.specs.Told.{Carried, carried}
+use Rattle.text.specs.Written.{with1, wroteOne, passBy}
+use Rattle.text.proofs.StateLaws.{of-row}
 use Rattle.text.proofs.RaisedLaws.{grownBy}
 
 -- the same reader, which owes k words more
@@ -70,30 +65,3 @@ or-false false = refl
 -- nothing is passed
 pub passes-none : (r : Carried) → r ≡ passBy false r
 passes-none r = rw (← or-false (r .passed))
-
--- ---- the token stands there still
-
-module _ (text : List ℕ) where
-  pub ahead-wrote : (r : Carried) {s : Carried} → s ≡ wroteOne r → Ahead text r → Ahead text s
-  unfolding readerOf peek wroteOne
-  ahead-wrote r is h = λ names. rw is (cases (ltb (r .written) 4100) (λ e. rw e (h names)) (λ e. rw e (h names)))
-
-  pub ahead-passed : (r : Carried) {s : Carried} (b : Bool) → s ≡ passBy b r → Ahead text r → Ahead text s
-  unfolding readerOf peek
-  ahead-passed r b is h = λ names. rw is (h names)
-
-  pub ahead-counted : (r : Carried) {s : Carried} (n : ℕ) → s ≡ numberedBy n r → Ahead text r → Ahead text s
-  unfolding readerOf peek
-  ahead-counted r n is h = λ names. rw is (h names)
-
-  pub ahead-grown : (r : Carried) {s : Carried} (k : ℕ) → s ≡ grownBy k r → Ahead text r → Ahead text s
-  unfolding readerOf peek
-  ahead-grown r k is h = λ names. rw is (h names)
-
-  pub ahead-owing : (r : Carried) {s : Carried} (k : ℕ) → s ≡ owingBy k r → Ahead text r → Ahead text s
-  unfolding readerOf peek
-  ahead-owing r k is h = λ names. rw is (h names)
-
-  pub ahead-refused : (r : Carried) {s : Carried} → s ≡ refusedBy (nextOf r) r → Ahead text r → Ahead text s
-  unfolding readerOf peek refusedBy
-  ahead-refused r is h = λ names. rw is (cases (eqb (r .code) tooLong) (λ e. rw e (h names)) (λ e. rw e (h names)))

@@ -1,12 +1,12 @@
 -- What is claimed of a text: it is accepted exactly when the grammar yields it within document 01's limits, with the words of that reading. Assumes nothing: these are statements.
-use Prim.Native.Nat.{ℕ, suc, _+_, _-_, _≤_, _<_}
+use Prim.Native.Nat.{ℕ, _+_, _-_, _≤_}
 use mathlib.Core.Path.{_≡_}
 use mathlib.Core.Logic.{_↔_}
-use mathlib.Core.Bool.{true, false}
+use mathlib.Core.Bool.{true}
 use mathlib.Core.List.{List, [], _∷_, _++_}
 use lib.IntN.{ℤ}
 use lib.ListN.{length}
-use Rattle.words.specs.Answer.{got, stop}
+use Rattle.words.specs.Answer.{got}
 use Rattle.words.specs.Range.{fits}
 use Rattle.tables.specs.Sizes.{variables, labels}
 use Rattle.program.specs.Grammar.{Program}
@@ -16,7 +16,7 @@ use Rattle.tokens.specs.Bytes.{part}
 use Rattle.tokens.specs.Tokens.{tokenFrom}
 use Rattle.tokens.specs.Numbers.{integerOf}
 use Rattle.text.specs.Grammar.{Meaning, Text}
-use Rattle.text.specs.Reading.{Fault, Named, Reader, Form, dueAfter, numberIn, known, withName, textAt}
+use Rattle.text.specs.Reading.{Named, Reader, Form, dueAfter, numberIn, withName, textAt}
 
 -- the tokens of a text behind a byte and a token of this code, up to another byte and the last of them
 pub data TokensOf (text : List ℕ) : ℕ → ℕ → List Token → ℕ → ℕ → Type 0 where
@@ -69,3 +69,12 @@ abbrev pub AcceptedExactly : Type 0
 AcceptedExactly = (text : List ℕ) (words : List ℤ) (origins : List ℕ) (vs ls : List Named)
     → ((f : Form) × ((r : Reader) × ((textAt text ≡ got (f, r)) × ((f .words ≡ words) × ((f .origins ≡ origins) × ((r .variables ≡ vs) × (r .labels ≡ ls)))))))
     ↔ Reads text words origins vs ls
+
+-- "the words are those of its one reading": the grammar yields tokens in one way at most, whatever the limits and whatever names and numbers stand for
+abbrev pub Unambiguous : Type 0
+Unambiguous = (M : Meaning) (ts : List Token) (ws vs : List ℤ) (os us : List ℕ) → Text M ts ws os → Text M ts vs us → (ws ≡ vs) × (os ≡ us)
+
+-- and a text is read in one way at most
+abbrev pub OneReading : Type 0
+OneReading = (text : List ℕ) (words words' : List ℤ) (origins origins' : List ℕ) (vs vs' ls ls' : List Named)
+    → Reads text words origins vs ls → Reads text words' origins' vs' ls' → (words ≡ words') × ((origins ≡ origins') × ((vs ≡ vs') × (ls ≡ ls')))

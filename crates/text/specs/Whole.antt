@@ -5,11 +5,11 @@ use mathlib.Core.List.{List, [], _∷_, _++_}
 use lib.Dec.{eqb}
 use lib.IntN.{ℤ, pos}
 use lib.ListN.{length, getD, set, drop}
-use Rattle.words.specs.Answer.{Answer, got, stop}
+use Rattle.words.specs.Answer.{got, stop}
 use Rattle.words.specs.Words.{wordOf}
 use Rattle.tables.specs.Sizes.{variables, labels}
 use Rattle.program.specs.Forms.{mostWords}
-use Rattle.text.specs.Reading.{Fault, Named, Reader, Form, textAt}
+use Rattle.text.specs.Reading.{Named, Reader, Form, textAt}
 
 -- program, origins and names as they are left, the four words of the answer, and what the call returns
 pub record Answered : Type 0 where

@@ -11,6 +11,8 @@ use super::writing::put_word;
 use super::writing::write;
 use crate::CODE;
 use crate::NUMBER;
+use crate::PATH;
+use crate::REQUIRED;
 use crate::START;
 use crate::WRITTEN;
 ghost use mathlib.Core.Path.{_≡_};
@@ -21,10 +23,6 @@ ghost use Rattle.tokens.specs.declared.Token.{Token};
 ghost use Rattle.text.specs.Reading.{priority as priorityBy, partAt, constraintOn, statedOn};
 ghost use Rattle.text.specs.Told.{carried, Ahead};
 ghost use Rattle.text.specs.Pieces.{lent, Piece, Onward, behindFirst, statedFrom};
-
-const REQUIRED: i32 = 3;
-
-const PATH: i32 = 24;
 
 // The priority that a token of this code writes, 0 for none.
 fn priority(code: usize) -> usize

@@ -14,6 +14,7 @@ use crate::DEPTH;
 use crate::END;
 use crate::NAMED;
 use crate::NUMBER;
+use crate::PATH;
 use crate::START;
 use crate::WRITTEN;
 use words::Ranged;
@@ -33,8 +34,6 @@ const FALSE: i32 = 21;
 const TRUE: i32 = 22;
 
 const INTEGER: i32 = 23;
-
-const PATH: i32 = 24;
 
 const OPERATION: i32 = 25;
 

@@ -14,11 +14,10 @@ pub const NAME_WORDS: usize = 192;
 
 pub const FIRST_LABEL: usize = 128;
 
-pub const VARIABLES: usize = 64;
+// The word of a path, and a part's where no priority is written.
+pub const PATH: i32 = 24;
 
-pub const LABELS: usize = 32;
-
-pub const MOST_WORDS: usize = 4096;
+pub const REQUIRED: i32 = 3;
 
 // How many words the rows hold that are written to: those that may be certain, and more than can be owed.
 pub const ROW: usize = 4100;

@@ -77,16 +77,16 @@ fn has_room(passed: usize, certain: usize, owed: usize, k: usize) -> bool
     if passed != 0 {
         return false;
     }
-    if crate::MOST_WORDS < certain {
+    if program::MOST_WORDS < certain {
         return false;
     }
-    if crate::MOST_WORDS < owed {
+    if program::MOST_WORDS < owed {
         return false;
     }
-    if crate::MOST_WORDS < k {
+    if program::MOST_WORDS < k {
         return false;
     }
-    certain + owed + k <= crate::MOST_WORDS
+    certain + owed + k <= program::MOST_WORDS
 }
 
 // The reader goes behind the token to be judged, and finds the next one.
@@ -151,9 +151,9 @@ pub(crate) fn variable(text: &[u8], names: &mut [usize], s: &mut [usize; 15], k:
         place: s[START],
         end: s[END],
     };
-    let count = at_most(crate::VARIABLES, s[NAMED_VARIABLES]);
+    let count = at_most(tables::VARIABLES, s[NAMED_VARIABLES]);
     let n = number_in(text, names, 0, count, t);
-    if crate::VARIABLES <= n {
+    if tables::VARIABLES <= n {
         refused_at(s, 21);
         return;
     }
@@ -183,13 +183,13 @@ pub(crate) fn label(text: &[u8], names: &mut [usize], s: &mut [usize; 15], seen:
         place: s[START],
         end: s[END],
     };
-    let count = at_most(crate::LABELS, s[NAMED_LABELS]);
+    let count = at_most(tables::LABELS, s[NAMED_LABELS]);
     let n = number_in(text, names, crate::FIRST_LABEL, count, t);
     if is_among(seen, n, count) {
         refused(s);
         return;
     }
-    if crate::LABELS <= n {
+    if tables::LABELS <= n {
         refused_at(s, 21);
         return;
     }

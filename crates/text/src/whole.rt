@@ -79,22 +79,11 @@ fn tell_names(out: &mut [i32], names: &[usize], variables: usize, labels: usize)
     tell(out, names, crate::FIRST_LABEL, 2 * labels);
 }
 
-// The four words of an answer.
-fn answer_with(answer: &mut [i32; 4], outcome: usize, place: usize, variables: usize, labels: usize)
-    ensures { λ _. ⌜ now (answer .exit) ≡ wordOf outcome ∷ wordOf place ∷ wordOf variables ∷ wordOf labels ∷ [] ⌝ }
-{
-    let a = words::word_of(outcome);
-    let b = words::word_of(place);
-    let c = words::word_of(variables);
-    let d = words::word_of(labels);
-    *answer = [a, b, c, d];
-}
-
 // Program, origins and names have their lengths.
 fn are_sized(program: &[i32], origins: &[i32], names: &[i32]) -> bool
     ensures { λ r. ⌜ r ≡ sized (now (program .entry)) (now (origins .entry)) (now (names .entry)) ⌝ }
 {
-    let words = (program.len() == crate::MOST_WORDS) & (origins.len() == crate::MOST_WORDS);
+    let words = (program.len() == program::MOST_WORDS) & (origins.len() == program::MOST_WORDS);
     words & (names.len() == crate::NAME_WORDS)
 }
 
@@ -109,7 +98,7 @@ pub fn read(
     ensures { λ n. ⌜ answered (now (program .exit)) (now (origins .exit)) (now (names .exit)) (now (answer .exit)) n ≡ readBy (now (text .entry)) (now (program .entry)) (now (origins .entry)) (now (names .entry)) ⌝ }
 {
     if !are_sized(program, origins, names) {
-        answer_with(answer, 1, 0, 0, 0);
+        words::answer_with(answer, 1, 0, 0, 0);
         return 0;
     }
     let mut table = [0usize; crate::NAME_WORDS];
@@ -118,15 +107,15 @@ pub fn read(
     let mut s = [0usize; crate::STATE];
     text_at(text, &mut table, &mut row, &mut places, &mut s);
     if s[NUMBER] != 0 {
-        answer_with(answer, s[NUMBER], s[PLACE], 0, 0);
+        words::answer_with(answer, s[NUMBER], s[PLACE], 0, 0);
         return 0;
     }
-    let n = at_most(crate::MOST_WORDS, s[WRITTEN]);
-    let variables = at_most(crate::VARIABLES, s[NAMED_VARIABLES]);
-    let labels = at_most(crate::LABELS, s[NAMED_LABELS]);
+    let n = at_most(program::MOST_WORDS, s[WRITTEN]);
+    let variables = at_most(tables::VARIABLES, s[NAMED_VARIABLES]);
+    let labels = at_most(tables::LABELS, s[NAMED_LABELS]);
     words::copy(program, 0, &row, n);
     tell(origins, &places, 0, n);
     tell_names(names, &table, variables, labels);
-    answer_with(answer, 0, text.len(), variables, labels);
+    words::answer_with(answer, 0, text.len(), variables, labels);
     n
 }

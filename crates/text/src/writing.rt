@@ -49,10 +49,10 @@ pub(crate) fn owe(s: &mut [usize; 15], k: usize)
     ensures { λ _. ⌜ ((text : List ℕ) → Ahead text (carried (now (s .entry))) → Ahead text (carried (now (s .exit)))) ⌝ }
 {
     let owed = s[OWED];
-    if crate::MOST_WORDS < owed {
+    if program::MOST_WORDS < owed {
         return;
     }
-    if crate::MOST_WORDS < k {
+    if program::MOST_WORDS < k {
         return;
     }
     sized(*s);

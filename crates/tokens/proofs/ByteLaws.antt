@@ -4,11 +4,11 @@ use mathlib.Core.Bool.{Bool, true, false, _&&_}
 use mathlib.Core.List.{List, [], _∷_}
 use Prim.Native.Nat.{ℕ, suc, _+_, _-_, _≤_, _<_}
 use native.Mathlib.Omega.{arith}
-use native.Mathlib.Numerals.{add-one}
 use borrow.Author.Tests.{eq-eqb, ltb-true, ne-eqb, lt-ltb, le-ltb, ltb-false, leb-true, eqb-true}
 use lib.Dec.{ltb, eqb}
-use lib.ListN.{length, getD, take, drop, length-drop, drop-of-length-le}
-use lib.Seq.{length-take-le, take-all, drop-length, drop-cons}
+use lib.ListN.{length, getD, take, drop, drop-of-length-le}
+use lib.Seq.{length-take-le, take-all}
+use Rattle.words.proofs.Laws.{drop-next}
 use Rattle.tokens.specs.Bytes.{between, run, spelt, sameIn}
 use Rattle.tokens.specs.Rules.{Shared}
 use Rattle.tokens.specs.Claims.{Shares}
@@ -36,18 +36,6 @@ and-second false b e = true≢false (sym e)
 pub and-false : (a b : Bool) → b ≡ false → (a && b) ≡ false
 and-false true b e = e
 and-false false b e = refl
-
--- ---- parts
-
-pub from-part : (s : List ℕ) (k : ℕ) → take (length s - k) (drop k s) ≡ drop k s
-from-part s k = take-all (length s - k) (drop k s) (simp length-drop (omega arith))
-
-pub from-past : (s : List ℕ) (k : ℕ) → length s < k → take (length s - length s) (drop (length s) s) ≡ drop k s
-from-past s k h = from-part s (length s) ∙ drop-length s ∙ sym (drop-of-length-le s {i = k} (omega arith))
-
--- what is left at i is the byte at i and what is left after it
-pub drop-next : (s : List ℕ) (i : ℕ) → i < length s → drop i s ≡ getD s i 0 ∷ drop (i + 1) s
-drop-next s i h = rw (add-one i) (drop-cons s i 0 h)
 
 -- ---- a range of bytes
 

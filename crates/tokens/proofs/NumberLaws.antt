@@ -13,7 +13,8 @@ use Rattle.words.specs.Words.{wordOf}
 use Rattle.words.specs.Range.{ranged}
 use Rattle.words.proofs.Laws.{word-is, ranged-is}
 use Rattle.tokens.specs.Numbers.{digitOf, digitsFrom, capped, integerOf, valueOf}
-use Rattle.tokens.proofs.ByteLaws.{cases, drop-next}
+use Rattle.tokens.proofs.ByteLaws.{cases}
+use Rattle.words.proofs.Laws.{drop-next}
 
 -- ---- a digit
 

@@ -1,7 +1,9 @@
 // Classes, runs and parts of bytes.
 use crate::Class;
+use words::bytes_from;
+use words::bytes_to;
 ghost use mathlib.Core.Path.{_≡_};
-ghost use lib.ListN.{getD, drop, take};
+ghost use lib.ListN.{getD};
 ghost use Rattle.tokens.specs.Bytes.{between, isWhite, isNamed, isOf, run, trimmed, spelt, sameIn};
 
 // The byte at i, 0 past the end.
@@ -9,20 +11,6 @@ pub fn byte(s: &[u8], i: usize) -> u8
     ensures { λ r. ⌜ r ≡ getD (now (s .entry)) i 0 ⌝ }
 {
     if i < s.len() { s[i] } else { 0 }
-}
-
-// The bytes from k on, none past the end.
-pub fn bytes_from(s: &[u8], k: usize) -> &[u8]
-    ensures { λ r. ⌜ now r ≡ drop k (now (s .entry)) ⌝ }
-{
-    if k <= s.len() { &s[k..] } else { &s[s.len()..] }
-}
-
-// The first k bytes, all of them where there are fewer.
-pub fn bytes_to(s: &[u8], k: usize) -> &[u8]
-    ensures { λ r. ⌜ now r ≡ take k (now (s .entry)) ⌝ }
-{
-    if k <= s.len() { &s[..k] } else { s }
 }
 
 fn is_between(low: u8, high: u8, b: u8) -> bool

@@ -1,8 +1,8 @@
 // What a number says.
 use super::bytes::byte;
-use super::bytes::bytes_from;
-use super::bytes::bytes_to;
 use words::Ranged;
+use words::bytes_from;
+use words::bytes_to;
 ghost use mathlib.Core.Path.{_≡_};
 ghost use lib.IntN.{pos, negℤ};
 ghost use Rattle.words.specs.Range.{ranged};

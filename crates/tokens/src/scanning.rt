@@ -1,8 +1,6 @@
 // The token that begins at a byte.
 use super::bytes::behind_white;
 use super::bytes::byte;
-use super::bytes::bytes_from;
-use super::bytes::bytes_to;
 use super::bytes::is_of;
 use super::bytes::run;
 use super::spelling::keyword;
@@ -11,6 +9,8 @@ use super::spelling::single;
 use crate::Class;
 use crate::Piece;
 use crate::Token;
+use words::bytes_from;
+use words::bytes_to;
 ghost use mathlib.Core.Path.{_≡_};
 ghost use lib.ListN.{getD, drop};
 ghost use Rattle.tokens.specs.Tokens.{nameLength, nameAt, singleAt, markAt, signs, tokenAt, tokenFrom};

@@ -1,16 +1,15 @@
 -- The laws by which the layers above know words. Assumes nothing.
 use mathlib.Core.Path.{_≡_, refl, sym, ap, _∙_}
 use mathlib.Core.List.{List, [], _∷_}
-use mathlib.Core.Bool.{Bool, true, false, cond}
+use mathlib.Core.Bool.{true, cond}
 use Prim.Native.Nat.{ℕ, zero, suc, _+_, _-_, _≤_, _<_}
 use native.Mathlib.Omega.{arith}
 use native.Mathlib.Decide.{decLt}
 use native.Mathlib.Numerals.{add-one}
 use borrow.Author.Tests.{eqb-true, eq-eqb, lt-ltb, le-ltb}
-use lib.Dec.{eqb, ltb}
 use lib.IntN.{ℤ, pos, negsuc}
 use lib.ListN.{length, getD, set, take, drop, replicate, length-drop, length-set, length-replicate, getD-replicate, drop-of-length-le, List·getD-eq-default}
-use lib.Seq.{take-all, drop-length, getD-drop, getD-set-same, getD-set-other, set-out, ext-getD}
+use lib.Seq.{take-all, drop-length, drop-cons, getD-drop, getD-set-same, getD-set-other, set-out, ext-getD}
 use Rattle.words.specs.Range.{fits, ranged}
 use Rattle.words.specs.declared.Ranged.the-variants.{Within, Outside}
 use Rattle.words.specs.Words.{wordAt, numberOf, numberAt, wordOf, copied, cleared, eqZ}
@@ -18,11 +17,15 @@ use Rattle.words.specs.Words.{wordAt, numberOf, numberAt, wordOf, copied
 -- ---- parts
 
 -- a part to the end is a `drop`, and one past the end is empty
-pub part-from : (p : List ℤ) (k : ℕ) → take (length p - k) (drop k p) ≡ drop k p
+pub part-from : {A : Type 0} (p : List A) (k : ℕ) → take (length p - k) (drop k p) ≡ drop k p
 part-from p k = take-all (length p - k) (drop k p) (simp length-drop (omega arith))
 
-pub part-past : (p : List ℤ) (k : ℕ) → length p < k → take (length p - length p) (drop (length p) p) ≡ drop k p
+pub part-past : {A : Type 0} (p : List A) (k : ℕ) → length p < k → take (length p - length p) (drop (length p) p) ≡ drop k p
 part-past p k h = part-from p (length p) ∙ drop-length p ∙ sym (drop-of-length-le p {i = k} (omega arith))
+
+-- what is left at i is the byte at i and what is left after it
+pub drop-next : (s : List ℕ) (i : ℕ) → i < length s → drop i s ≡ getD s i 0 ∷ drop (i + 1) s
+drop-next s i h = rw (add-one i) (drop-cons s i 0 h)
 
 -- ---- words as numbers
 

@@ -1,9 +1,9 @@
 -- Laws of signed numbers at 32 and 64 bits: what a local's bits read back as, the range of a sum, a difference and a product, and the range test.
 -- Assumes nothing.
-use mathlib.Core.Path.{_≡_, refl, sym, ap, subst, _∙_}
+use mathlib.Core.Path.{_≡_, refl, ap, _∙_}
 use mathlib.Core.Bool.{Bool, true, false}
 use Prim.Native.Nat.{ℕ, zero, suc, _+_, _-_, _*_, _^_, _<_, _≤_}
-use native.Mathlib.Nat.{mul-le-mul, lt-of-le-of-lt, le-of-lt}
+use native.Mathlib.Nat.{mul-le-mul}
 use native.Mathlib.Omega.{arith}
 use borrow.Author.Tests.{ltb-true, ltb-false, le-ltb, lt-ltb, eqb-true, eqb-false, eq-eqb, ne-eqb}
 use lib.Dec.{ltb, eqb}
@@ -18,7 +18,7 @@ use Rattle.words.specs.declared.Ranged.the-variants.{Within, Outside}
 use Rattle.words.proofs.Laws.{number-in}
 use lib.Dec.{T}
 use lib.ListN.{length, getD}
-use mathlib.Core.List.{List, [], _∷_}
+use mathlib.Core.List.{List}
 
 -- a word read back from its bits
 pub back32 : (z : ℤ) → SFits w32 z → toZ w32 (ofZ w32 z) ≡ z

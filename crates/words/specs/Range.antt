@@ -1,5 +1,4 @@
 -- "Each result of 1 to 3 must fit 32 bits signed." Assumes nothing: these are definitions.
-use Prim.Native.Nat.{ℕ}
 use mathlib.Core.Bool.{Bool, cond}
 use lib.Dec.{ltb}
 use lib.IntN.{ℤ, pos, negsuc}

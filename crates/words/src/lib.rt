@@ -1,5 +1,6 @@
 // Tables and programs as slices of 32-bit signed words. Nothing here asks anything of its caller.
 ghost use mathlib.Core.Path.{_≡_};
+ghost use mathlib.Core.List.{[], _∷_};
 ghost use Prim.Native.Nat.{_-_};
 ghost use lib.IntN.{pos, _+ℤ_, _-ℤ_, _*ℤ_};
 ghost use lib.ListN.{drop, set, take};
@@ -97,6 +98,31 @@ pub fn clear(s: &mut [i32], at: usize, n: usize)
 {
     let zero: [i32; 1] = [0; 1];
     copy(s, at, &zero, n);
+}
+
+// The four words of an answer.
+pub fn answer_with(answer: &mut [i32; 4], outcome: usize, place: usize, third: usize, fourth: usize)
+    ensures { λ _. ⌜ now (answer .exit) ≡ wordOf outcome ∷ wordOf place ∷ wordOf third ∷ wordOf fourth ∷ [] ⌝ }
+{
+    let a = word_of(outcome);
+    let b = word_of(place);
+    let c = word_of(third);
+    let d = word_of(fourth);
+    *answer = [a, b, c, d];
+}
+
+// The bytes from k on, none past the end.
+pub fn bytes_from(s: &[u8], k: usize) -> &[u8]
+    ensures { λ r. ⌜ now r ≡ drop k (now (s .entry)) ⌝ }
+{
+    if k <= s.len() { &s[k..] } else { &s[s.len()..] }
+}
+
+// The first k bytes, all of them where there are fewer.
+pub fn bytes_to(s: &[u8], k: usize) -> &[u8]
+    ensures { λ r. ⌜ now r ≡ take k (now (s .entry)) ⌝ }
+{
+    if k <= s.len() { &s[..k] } else { s }
 }
 
 // The result of arithmetic on words, where it is a word.

@@ -1,25 +1,15 @@
 //! The call of crates/sheet on every sheet, on texts of every small size, and
 //! on a short run.
 
+mod common;
+
+use common::sheets;
 use compare::lister::{compare, compare_text};
 use std::fs;
-use std::path::{Path, PathBuf};
-
-fn inputs(folder: &Path) -> Vec<PathBuf> {
-    let entries = fs::read_dir(folder).expect("a folder of sheets");
-    let paths = entries.map(|entry| entry.expect("an entry").path());
-    paths
-        .flat_map(|path| match path.is_dir() {
-            true => inputs(&path),
-            false => vec![path],
-        })
-        .filter(|path| path.extension().is_some_and(|name| name == "in"))
-        .collect()
-}
 
 #[test]
 fn every_sheet_has_its_output() {
-    let files = inputs(&Path::new(env!("CARGO_MANIFEST_DIR")).join("../../sheets"));
+    let files = sheets("in");
     assert!(files.len() > 100, "{} sheets", files.len());
     for file in files {
         let text = fs::read(&file).expect("a text");

@@ -1,25 +1,11 @@
 //! The call that reads texts, on every text of sheets/, on texts that are cut,
 //! on every byte, on texts too long for a file, and on a short run.
 
+mod common;
+
+use common::sheets;
 use compare::notation::{answer, compare, compare_text};
 use std::fs;
-use std::path::{Path, PathBuf};
-
-fn typed(folder: &Path) -> Vec<PathBuf> {
-    let entries = fs::read_dir(folder).expect("a folder of sheets");
-    let paths = entries.map(|entry| entry.expect("an entry").path());
-    paths
-        .flat_map(|path| match path.is_dir() {
-            true => typed(&path),
-            false => vec![path],
-        })
-        .filter(|path| path.extension().is_some_and(|name| name == "text"))
-        .collect()
-}
-
-fn sheets() -> PathBuf {
-    Path::new(env!("CARGO_MANIFEST_DIR")).join("../../sheets")
-}
 
 /// The words of a sheet's first line.
 fn program(input: &str) -> Vec<i32> {
@@ -34,7 +20,7 @@ fn program(input: &str) -> Vec<i32> {
 #[test]
 fn every_text_gives_the_numbers_beside_it() {
     let (mut beside_sheets, mut beside_answers) = (0, 0);
-    for file in typed(&sheets()) {
+    for file in sheets("text") {
         let text = fs::read(&file).expect("a text");
         compare_text(&text).unwrap_or_else(|text| panic!("{text}"));
         if let Ok(input) = fs::read_to_string(file.with_extension("in")) {
@@ -58,7 +44,7 @@ fn texts_that_are_cut_are_read_alike() {
     let text = b"x := new {a: -1, b?: (2 + x.a) * 3};\nif x == x then {} else {skip}; always weak x.a < 3 /\\ x.b? = 1";
     let mut texts = vec![text.to_vec()];
     texts.extend(
-        typed(&sheets())
+        sheets("text")
             .iter()
             .map(|file| fs::read(file).expect("a text")),
     );

@@ -1,6 +1,5 @@
 use Rattle.words.proofs.Signed.{wide, as-wide, back64, sum-fits}
 use mathlib.Core.Path.{_∙_}
-use Rattle.words.specs.Range.{ranged}
 use borrow.Author.Needs.{needs}
 use Rattle.words.proofs.plus.Statement.{statement}
 use Rattle.words.proofs.plus.Tie as tie

@@ -1,6 +1,5 @@
 use Rattle.words.proofs.Signed.{wide, as-wide, back64, product-fits}
 use mathlib.Core.Path.{_∙_}
-use Rattle.words.specs.Range.{ranged}
 use borrow.Author.Needs.{needs}
 use Rattle.words.proofs.times.Statement.{statement}
 use Rattle.words.proofs.times.Tie as tie

@@ -6,7 +6,7 @@ use Rattle.lister.proofs.bytes.after.Tie as tie
 use Rattle.lister.proofs.bytes.after.Reads as reads
 use Rattle.lister.proofs.bytes.after.Lts as lts
 use Rattle.lister.proofs.bytes.before.Reads as before-reads
-use Rattle.lister.proofs.bytes.bytes_from.Reads as bytes-from-reads
+use Rattle.words.proofs.bytes_from.Reads as bytes-from-reads
 
 -- src/bytes.rt:46:9
 before-requires : tie.Need-before-requires

@@ -6,7 +6,7 @@ use Rattle.lister.proofs.bytes.up_to.Tie as tie
 use Rattle.lister.proofs.bytes.up_to.Reads as reads
 use Rattle.lister.proofs.bytes.up_to.Lts as lts
 use Rattle.lister.proofs.bytes.before.Reads as before-reads
-use Rattle.lister.proofs.bytes.bytes_to.Reads as bytes-to-reads
+use Rattle.words.proofs.bytes_to.Reads as bytes-to-reads
 
 -- src/bytes.rt:39:17
 before-requires : tie.Need-before-requires

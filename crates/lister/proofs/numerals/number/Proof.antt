@@ -6,7 +6,7 @@ use Rattle.lister.proofs.numerals.number.Statement.{statement}
 use Rattle.lister.proofs.numerals.number.Tie as tie
 use Rattle.lister.proofs.numerals.number.Reads as reads
 use Rattle.lister.proofs.numerals.number.Lts as lts
-use Rattle.lister.proofs.bytes.bytes_from.Reads as bytes-from-reads
+use Rattle.words.proofs.bytes_from.Reads as bytes-from-reads
 use Rattle.lister.proofs.numerals.natural.Reads as natural-reads
 use Rattle.lister.proofs.numerals.negative.Reads as negative-reads
 use Rattle.lister.proofs.numerals.positive.Reads as positive-reads

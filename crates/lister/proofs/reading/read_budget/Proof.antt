@@ -8,7 +8,7 @@ use Rattle.lister.proofs.reading.read_budget.Reads as reads
 use Rattle.lister.proofs.reading.read_budget.Lts as lts
 use Rattle.lister.proofs.bytes.after.Reads as after-reads
 use Rattle.lister.proofs.bytes.begins_with.Reads as begins-with-reads
-use Rattle.lister.proofs.bytes.bytes_from.Reads as bytes-from-reads
+use Rattle.words.proofs.bytes_from.Reads as bytes-from-reads
 use Rattle.lister.proofs.bytes.up_to.Reads as up-to-reads
 use Rattle.lister.proofs.numerals.number.Reads as number-reads
 

@@ -7,7 +7,7 @@ use Rattle.lister.proofs.reading.read_line.Tie as tie
 use Rattle.lister.proofs.reading.read_line.Reads as reads
 use Rattle.lister.proofs.reading.read_line.Lts as lts
 use Rattle.lister.proofs.bytes.begins_with.Reads as begins-with-reads
-use Rattle.lister.proofs.bytes.bytes_from.Reads as bytes-from-reads
+use Rattle.words.proofs.bytes_from.Reads as bytes-from-reads
 use Rattle.lister.proofs.reading.read_row.Reads as read-row-reads
 
 -- src/reading.rt:46:9

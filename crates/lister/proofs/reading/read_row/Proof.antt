@@ -8,7 +8,7 @@ use Rattle.lister.proofs.reading.read_row.Statement.{statement}
 use Rattle.lister.proofs.reading.read_row.Tie as tie
 use Rattle.lister.proofs.reading.read_row.Reads as reads
 use Rattle.lister.proofs.reading.read_row.Lts as lts
-use Rattle.lister.proofs.bytes.bytes_from.Reads as bytes-from-reads
+use Rattle.words.proofs.bytes_from.Reads as bytes-from-reads
 use Rattle.lister.proofs.bytes.up_to.Reads as up-to-reads
 use Rattle.lister.proofs.numerals.number.Reads as number-reads
 use Rattle.words.proofs.store.Reads as store-reads

@@ -8,7 +8,7 @@ use Rattle.run.proofs.whole.run.Tie as tie
 use Rattle.run.proofs.whole.run.Reads as reads
 use Rattle.run.proofs.whole.run.Lts as lts
 use Rattle.run.proofs.start.starts.Reads as starts-reads
-use Rattle.run.proofs.whole.answer_with.Reads as answer-with-reads
+use Rattle.words.proofs.answer_with.Reads as answer-with-reads
 use Rattle.run.proofs.whole.run_begun.Reads as run-begun-reads
 use Rattle.words.proofs.part_last.Reads as part-last-reads
 

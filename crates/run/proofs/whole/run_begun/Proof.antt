@@ -7,7 +7,7 @@ use Rattle.run.proofs.whole.run_begun.Tie as tie
 use Rattle.run.proofs.whole.run_begun.Reads as reads
 use Rattle.run.proofs.whole.run_begun.Lts as lts
 use Rattle.block.proofs.run_all.Reads as run-all-reads
-use Rattle.run.proofs.whole.answer_with.Reads as answer-with-reads
+use Rattle.words.proofs.answer_with.Reads as answer-with-reads
 use Rattle.words.proofs.number.Reads as number-reads
 
 -- src/whole.rt:39:9

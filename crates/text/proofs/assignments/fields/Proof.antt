@@ -30,7 +30,9 @@ abbrev μ-loop : tie.MeasureT-loop
 
 -- src/assignments.rt:38:5
 loop-holds : tie.Need-loop-holds Inv-loop μ-loop
-loop-holds c = record { names = refl; words = refl; origins = refl; size = refl; ahead = λ ahead. ahead; fields = λ ahead. fields-start {seen = 0 ∷ 0 ∷ 0 ∷ 0 ∷ 0 ∷ 0 ∷ 0 ∷ 0 ∷ []} refl }
+loop-holds c =
+    record
+    { names = refl; words = refl; origins = refl; size = refl; ahead = λ ahead. ahead; fields = λ ahead. fields-start {seen = 0 ∷ 0 ∷ 0 ∷ 0 ∷ 0 ∷ 0 ∷ 0 ∷ 0 ∷ []} refl }
 
 -- src/assignments.rt:39:21
 element-copy-out-place : tie.Need-element-copy-out-place Inv-loop μ-loop

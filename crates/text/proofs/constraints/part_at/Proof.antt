@@ -2,7 +2,8 @@ use mathlib.Core.Path.{refl, _∙_}
 use borrow.Author.Needs.{needs}
 use Rattle.words.proofs.Signed.{back32}
 use Rattle.text.specs.Told.{carried, nextOf}
-use Rattle.text.proofs.PartCode.{ahead-wrote, part-said, part-unsaid}
+use Rattle.text.proofs.PartCode.{part-said, part-unsaid}
+use Rattle.text.proofs.AheadLaws.{ahead-wrote}
 use Rattle.text.proofs.constraints.part_at.Statement.{statement}
 use Rattle.text.proofs.constraints.part_at.Tie as tie
 use Rattle.text.proofs.constraints.part_at.Reads as reads
@@ -54,8 +55,8 @@ returns c =
     let f = e .before .before .before .before .before .before in (
       λ h. part-said (f .args .text .now) h (λ l. e .priority .ensures l (nextOf (carried (f .args .s .now))) refl) (d .before .before .if1 .taken) (d .take .ensures .0 h)
           (back32 (b .before .word-of .result) (record { sfits = b .before .word-of .ok }) ∙ b .before .word-of .ensures) (b .write .ensures .0) (b .write .ensures .1 .0) (b .write .ensures .1 .1)
-          (a .expression .ensures .0 (ahead-wrote (f .args .text .now) (carried (d .take .last .1 .0)) (d .take .ensures .1 h) (b .write .ensures .1 .1))),
-      λ h. a .expression .ensures .1 (ahead-wrote (f .args .text .now) (carried (d .take .last .1 .0)) (d .take .ensures .1 h) (b .write .ensures .1 .1)),
+          (a .expression .ensures .0 (ahead-wrote (f .args .text .now) (carried (d .take .last .1 .0)) (b .write .ensures .1 .1) (d .take .ensures .1 h))),
+      λ h. a .expression .ensures .1 (ahead-wrote (f .args .text .now) (carried (d .take .last .1 .0)) (b .write .ensures .1 .1) (d .take .ensures .1 h)),
     )
 
 owe-requires : tie.Need-owe-requires
@@ -86,8 +87,8 @@ returns-2 c =
     let f = e .before .before .before .before .before .before in (
       λ h. part-unsaid (f .args .text .now) h (λ l. e .priority .ensures l (nextOf (carried (f .args .s .now))) refl) (d .before .before .if1 .left) (d .owe .ensures .0)
           (b .write2 .ensures .0) (b .write2 .ensures .1 .0) (b .write2 .ensures .1 .1)
-          (a .expression2 .ensures .0 (ahead-wrote (f .args .text .now) (carried (d .owe .last .0)) (d .owe .ensures .1 (f .args .text .now) h) (b .write2 .ensures .1 .1))),
-      λ h. a .expression2 .ensures .1 (ahead-wrote (f .args .text .now) (carried (d .owe .last .0)) (d .owe .ensures .1 (f .args .text .now) h) (b .write2 .ensures .1 .1)),
+          (a .expression2 .ensures .0 (ahead-wrote (f .args .text .now) (carried (d .owe .last .0)) (b .write2 .ensures .1 .1) (d .owe .ensures .1 (f .args .text .now) h))),
+      λ h. a .expression2 .ensures .1 (ahead-wrote (f .args .text .now) (carried (d .owe .last .0)) (b .write2 .ensures .1 .1) (d .owe .ensures .1 (f .args .text .now) h)),
     )
 
 pub part-at-spec : {M : Type 1} → statement M

@@ -2,7 +2,7 @@ use mathlib.Core.Path.{_∙_}
 use borrow.Author.Needs.{needs}
 use Rattle.words.proofs.Signed.{back32}
 use Rattle.text.specs.Told.{carried}
-use Rattle.text.proofs.PartCode.{ahead-wrote}
+use Rattle.text.proofs.AheadLaws.{ahead-wrote}
 use Rattle.text.proofs.StatedCode.{stated-full, stated-path, stated-part}
 use Rattle.text.proofs.constraints.stated.Statement.{statement}
 use Rattle.text.proofs.constraints.stated.Tie as tie
@@ -82,13 +82,13 @@ returns-2 c =
     let g = f .before .before .before in
     let j = g .before .before .before .before .before in (
       λ h.
-          let i = ahead-wrote (j .args .text .now) (carried (f .take .last .1 .0)) (f .take .ensures .1 h) (e .write .ensures .1 .1) in
+          let i = ahead-wrote (j .args .text .now) (carried (f .take .last .1 .0)) (e .write .ensures .1 .1) (f .take .ensures .1 h) in
           stated-path (j .args .text .now) (j .args .verb) (j .args .names .now) (j .args .words .now) (j .args .origins .now)
           (g .if1 .left) (j .pre) h (f .take .ensures .0 h)
           (back32 (e .before .word-of .result) (record { sfits = e .before .word-of .ok }) ∙ e .before .word-of .ensures) (e .write .ensures .0) (e .write .ensures .1 .0) (e .write .ensures .1 .1) i (d .if2 .taken)
           (b .path .ensures .0 i) (a .stated-on .ensures .0 (b .path .ensures .1 i)),
       λ h.
-          let i = ahead-wrote (j .args .text .now) (carried (f .take .last .1 .0)) (f .take .ensures .1 h) (e .write .ensures .1 .1) in
+          let i = ahead-wrote (j .args .text .now) (carried (f .take .last .1 .0)) (e .write .ensures .1 .1) (f .take .ensures .1 h) in
           a .stated-on .ensures .1 (b .path .ensures .1 i),
     )
 
@@ -139,16 +139,16 @@ returns-3 c =
     let k = j .before .before .before in
     let m = k .before .before .before .before .before in (
       λ h.
-          let i = ahead-wrote (m .args .text .now) (carried (j .take .last .1 .0)) (j .take .ensures .1 h) (g .write .ensures .1 .1) in
-          let l = ahead-wrote (m .args .text .now) (carried (e .owe .last .0)) (e .owe .ensures .1 (m .args .text .now) i) (d .write2 .ensures .1 .1) in
+          let i = ahead-wrote (m .args .text .now) (carried (j .take .last .1 .0)) (g .write .ensures .1 .1) (j .take .ensures .1 h) in
+          let l = ahead-wrote (m .args .text .now) (carried (e .owe .last .0)) (d .write2 .ensures .1 .1) (e .owe .ensures .1 (m .args .text .now) i) in
           stated-part (m .args .text .now) (m .args .verb) (m .args .names .now) (m .args .words .now) (m .args .origins .now)
           (k .if1 .left) (m .pre) h (j .take .ensures .0 h)
           (back32 (g .before .word-of .result) (record { sfits = g .before .word-of .ok }) ∙ g .before .word-of .ensures) (g .write .ensures .0) (g .write .ensures .1 .0) (g .write .ensures .1 .1) i (f .if2 .left)
           (e .owe .ensures .0) (d .write2 .ensures .0) (d .write2 .ensures .1 .0) (d .write2 .ensures .1 .1)
           (b .part-at .ensures .0 l) (a .constraint-on .ensures .0 (b .part-at .ensures .1 l)),
       λ h.
-          let i = ahead-wrote (m .args .text .now) (carried (j .take .last .1 .0)) (j .take .ensures .1 h) (g .write .ensures .1 .1) in
-          let l = ahead-wrote (m .args .text .now) (carried (e .owe .last .0)) (e .owe .ensures .1 (m .args .text .now) i) (d .write2 .ensures .1 .1) in
+          let i = ahead-wrote (m .args .text .now) (carried (j .take .last .1 .0)) (g .write .ensures .1 .1) (j .take .ensures .1 h) in
+          let l = ahead-wrote (m .args .text .now) (carried (e .owe .last .0)) (d .write2 .ensures .1 .1) (e .owe .ensures .1 (m .args .text .now) i) in
           a .constraint-on .ensures .1 (b .part-at .ensures .1 l),
     )
 

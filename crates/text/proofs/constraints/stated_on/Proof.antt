@@ -4,7 +4,7 @@ use borrow.Author.Needs.{needs}
 use Rattle.words.proofs.Signed.{back32}
 use Rattle.text.specs.Told.{carried}
 use Rattle.text.proofs.DoesLaws.{does-stopped}
-use Rattle.text.proofs.PartCode.{ahead-deep}
+use Rattle.text.proofs.AheadLaws.{ahead-deep}
 use Rattle.text.proofs.StatedCode.{on-same, on-expression}
 use Rattle.text.proofs.constraints.stated_on.Statement.{statement}
 use Rattle.text.proofs.constraints.stated_on.Tie as tie
@@ -142,14 +142,14 @@ returns-3 c =
     let j = g .before .before .before .before in
     let k = j .before .before .before .before .before .before .before in (
       λ h l.
-          let i = ahead-deep (k .args .text .now) (carried (e .insert .last .1 .1 .1 .0))
-          (e .insert .ensures .1 (k .args .text .now) (f .owe .ensures .1 (k .args .text .now) h)) (d .deepen .ensures) in
+          let i = ahead-deep (k .args .text .now) (carried (e .insert .last .1 .1 .1 .0)) 1 (d .deepen .ensures)
+          (e .insert .ensures .1 (k .args .text .now) (f .owe .ensures .1 (k .args .text .now) h)) in
           on-expression (k .args .text .now) (k .args .from) (k .args .verb) (k .args .p) (k .args .at) (k .pre .1) h l (g .put-word2 .ensures .0) (g .put-word2 .ensures .1)
           (back32 (g .before .word-of2 .result) (record { sfits = g .before .word-of2 .ok }) ∙ g .before .word-of2 .ensures) (j .if2 .left) (j .before .before .if1 .left)
           (f .owe .ensures .0) (e .insert .ensures .0) (d .deepen .ensures) (b .onwards .ensures .0 i) (a .constraint-on .ensures .0 (b .onwards .ensures .1 .1 i)),
       λ h.
-          let i = ahead-deep (k .args .text .now) (carried (e .insert .last .1 .1 .1 .0))
-          (e .insert .ensures .1 (k .args .text .now) (f .owe .ensures .1 (k .args .text .now) h)) (d .deepen .ensures) in
+          let i = ahead-deep (k .args .text .now) (carried (e .insert .last .1 .1 .1 .0)) 1 (d .deepen .ensures)
+          (e .insert .ensures .1 (k .args .text .now) (f .owe .ensures .1 (k .args .text .now) h)) in
           a .constraint-on .ensures .1 (b .onwards .ensures .1 .1 i),
     )
 

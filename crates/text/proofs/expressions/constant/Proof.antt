@@ -1,7 +1,7 @@
 use Rattle.words.proofs.Signed.{back32}
 use Rattle.text.specs.Told.{carried}
 use Rattle.text.proofs.LiteralCode.{constant-does}
-use Rattle.text.proofs.WritingCode.{ahead-wrote}
+use Rattle.text.proofs.AheadLaws.{ahead-wrote}
 use borrow.Author.Needs.{needs}
 use Rattle.text.proofs.expressions.constant.Statement.{statement}
 use Rattle.text.proofs.expressions.constant.Tie as tie
@@ -33,7 +33,14 @@ same-length-2 c = search needs
 -- src/expressions.rt:63:1
 returns : tie.Need-returns
 unfolding carried
-returns c = (λ h names. constant-does (c .before .before .before .before .before .before .before .before .before .before .before .before .args .text .now) names h (c .before .before .before .before .before .before .before .before .before .before .before .before .args .w) (c .before .before .before .before .before .before .before .take .ensures .0 h) (rw (back32 (c .before .before .before .before .before .before .before .before .before .before .before .before .args .w) (c .before .before .before .before .before .before .before .before .before .before .before .before .fits .w)) at (c .before .before .before .write .ensures .0)) (c .before .before .before .write .ensures .1 .0) (c .before .before .before .write .ensures .1 .1), λ h. ahead-wrote (c .before .before .before .before .before .before .before .before .before .before .before .before .args .text .now) _ (c .before .before .before .write .ensures .1 .1) (c .before .before .before .before .before .before .before .take .ensures .1 h))
+returns c =
+    let a = c .before .before .before in
+    let b = a .before .before .before .before in
+    let d = b .before .before .before .before .before in (
+      λ h names. constant-does (d .args .text .now) names h (d .args .w) (b .take .ensures .0 h) (rw (back32 (d .args .w) (d .fits .w)) at (a .write .ensures .0))
+          (a .write .ensures .1 .0) (a .write .ensures .1 .1),
+      λ h. ahead-wrote (d .args .text .now) _ (a .write .ensures .1 .1) (b .take .ensures .1 h),
+    )
 
 pub constant-spec : {M : Type 1} → statement M
 constant-spec =

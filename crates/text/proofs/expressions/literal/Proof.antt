@@ -1,7 +1,7 @@
 use Rattle.text.specs.Told.{carried}
 use Rattle.text.proofs.DoesLaws.{does-stopped}
 use Rattle.text.proofs.LiteralCode.{literal-nil, literal-false, literal-true, literal-number, literal-none}
-use Rattle.text.proofs.WritingCode.{ahead-refused}
+use Rattle.text.proofs.AheadLaws.{ahead-refused}
 use borrow.Author.Needs.{needs}
 use Rattle.text.proofs.expressions.literal.Statement.{statement}
 use Rattle.text.proofs.expressions.literal.Tie as tie
@@ -39,7 +39,11 @@ same-length-2 c = search needs
 -- src/expressions.rt:83:9
 returns-2 : tie.Need-returns-2
 unfolding carried
-returns-2 c = (λ h names. literal-nil (c .before .before .before .before .before .before .before .before .before .before .before .before .before .args .text .now) names h (c .before .before .before .before .before .before .before .if2 .taken) (c .before .before .before .constant .ensures .0 h names), λ h. c .before .before .before .constant .ensures .1 h)
+returns-2 c =
+    let a = c .before .before .before in
+    let b = a .before .before .before .before in
+    let d = b .before .before .before .before .before .before in
+    (λ h names. literal-nil (d .args .text .now) names h (b .if2 .taken) (a .constant .ensures .0 h names), λ h. a .constant .ensures .1 h)
 
 -- src/expressions.rt:86:9
 constant-requires-2 : tie.Need-constant-requires-2
@@ -56,7 +60,11 @@ same-length-4 c = search needs
 -- src/expressions.rt:87:9
 returns-3 : tie.Need-returns-3
 unfolding carried
-returns-3 c = (λ h names. literal-false (c .before .before .before .before .before .before .before .before .before .before .before .before .before .before .args .text .now) names h (c .before .before .before .before .before .before .before .if3 .taken) (c .before .before .before .constant2 .ensures .0 h names), λ h. c .before .before .before .constant2 .ensures .1 h)
+returns-3 c =
+    let a = c .before .before .before in
+    let b = a .before .before .before .before in
+    let d = b .before .before .before .before .before .before .before in
+    (λ h names. literal-false (d .args .text .now) names h (b .if3 .taken) (a .constant2 .ensures .0 h names), λ h. a .constant2 .ensures .1 h)
 
 -- src/expressions.rt:90:9
 constant-requires-3 : tie.Need-constant-requires-3
@@ -73,7 +81,11 @@ same-length-6 c = search needs
 -- src/expressions.rt:91:9
 returns-4 : tie.Need-returns-4
 unfolding carried
-returns-4 c = (λ h names. literal-true (c .before .before .before .before .before .before .before .before .before .before .before .before .before .before .before .args .text .now) names h (c .before .before .before .before .before .before .before .if4 .taken) (c .before .before .before .constant3 .ensures .0 h names), λ h. c .before .before .before .constant3 .ensures .1 h)
+returns-4 c =
+    let a = c .before .before .before in
+    let b = a .before .before .before .before in
+    let d = b .before .before .before .before .before .before .before .before in
+    (λ h names. literal-true (d .args .text .now) names h (b .if4 .taken) (a .constant3 .ensures .0 h names), λ h. a .constant3 .ensures .1 h)
 
 -- src/expressions.rt:94:9
 number-requires : tie.Need-number-requires
@@ -90,7 +102,11 @@ same-length-8 c = search needs
 -- src/expressions.rt:95:9
 returns-5 : tie.Need-returns-5
 unfolding carried
-returns-5 c = (λ h names. literal-number (c .before .before .before .before .before .before .before .before .before .before .before .before .before .before .before .before .args .text .now) names h (c .before .before .before .before .before .before .before .if5 .taken) (c .before .before .before .number .ensures .0 h names), λ h. c .before .before .before .number .ensures .1 h)
+returns-5 c =
+    let a = c .before .before .before in
+    let b = a .before .before .before .before in
+    let d = b .before .before .before .before .before .before .before .before .before in
+    (λ h names. literal-number (d .args .text .now) names h (b .if5 .taken) (a .number .ensures .0 h names), λ h. a .number .ensures .1 h)
 
 -- src/expressions.rt:97:5
 refused-requires : tie.Need-refused-requires
@@ -99,7 +115,16 @@ refused-requires c κs = search needs
 -- src/expressions.rt:73:1
 returns-6 : tie.Need-returns-6
 unfolding carried
-returns-6 c = (λ h names. literal-none (c .before .before .before .before .before .before .before .before .before .before .before .args .text .now) names h (c .before .before .before .before .before .before .before .if1 .left) (c .before .before .before .before .before .if2 .left) (c .before .before .before .before .if3 .left) (c .before .before .before .if4 .left) (c .before .before .if5 .left) (c .refused .ensures), λ h. ahead-refused (c .before .before .before .before .before .before .before .before .before .before .before .args .text .now) (carried (c .before .before .before .before .before .before .before .before .before .before .before .args .s .now)) (c .refused .ensures) h)
+returns-6 c =
+    let a = c .before .before .before in
+    let b = a .before in
+    let d = b .before in
+    let e = d .before .before in
+    let f = e .before .before .before .before in (
+      λ h names.
+          literal-none (f .args .text .now) names h (e .if1 .left) (d .if2 .left) (b .if3 .left) (a .if4 .left) (c .before .before .if5 .left) (c .refused .ensures),
+      λ h. ahead-refused (f .args .text .now) (carried (f .args .s .now)) (c .refused .ensures) h,
+    )
 
 pub literal-spec : {M : Type 1} → statement M
 literal-spec =

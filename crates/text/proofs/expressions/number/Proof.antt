@@ -3,7 +3,7 @@ use Rattle.words.proofs.Signed.{back32}
 use Rattle.text.specs.Told.{carried}
 use Rattle.text.proofs.WrittenLaws.{passes}
 use Rattle.text.proofs.LiteralCode.{number-outside, number-within}
-use Rattle.text.proofs.WritingCode.{ahead-wrote, ahead-passed}
+use Rattle.text.proofs.AheadLaws.{ahead-wrote, ahead-passed}
 use borrow.Author.Needs.{needs}
 use Rattle.text.proofs.expressions.number.Statement.{statement}
 use Rattle.text.proofs.expressions.number.Tie as tie
@@ -57,7 +57,15 @@ write-requires-2 c κs = search needs
 -- src/expressions.rt:44:1
 returns : tie.Need-returns
 unfolding carried
-returns c = (λ h names. number-outside (c .before .before .before .before .before .before .before .before .before .before .before .args .text .now) names h (c .before .before .before .before .before .before .value .ensures) (c .before .before .before .before .enum-told .given .1) (passes true (carried (c .before .before .before .before .before .before .before .before .before .before .before .args .s .now)) (c .before .before .pass .ensures)) (c .take .ensures .0 (ahead-passed (c .before .before .before .before .before .before .before .before .before .before .before .args .text .now) (carried (c .before .before .before .before .before .before .before .before .before .before .before .args .s .now)) true (c .before .before .pass .ensures) h)), λ h. c .take .ensures .1 (ahead-passed (c .before .before .before .before .before .before .before .before .before .before .before .args .text .now) (carried (c .before .before .before .before .before .before .before .before .before .before .before .args .s .now)) true (c .before .before .pass .ensures) h))
+returns c =
+    let a = c .before .before .before .before in
+    let b = a .before .before in
+    let d = b .before .before .before .before .before in (
+      λ h names. number-outside (d .args .text .now) names h (b .value .ensures) (a .enum-told .given .1)
+          (passes true (carried (d .args .s .now)) (c .before .before .pass .ensures))
+          (c .take .ensures .0 (ahead-passed (d .args .text .now) (carried (d .args .s .now)) true (c .before .before .pass .ensures) h)),
+      λ h. c .take .ensures .1 (ahead-passed (d .args .text .now) (carried (d .args .s .now)) true (c .before .before .pass .ensures) h),
+    )
 
 -- src/expressions.rt:44:1
 same-length : tie.Need-same-length
@@ -70,7 +78,20 @@ same-length-2 c = search needs
 -- src/expressions.rt:44:1
 returns-2 : tie.Need-returns-2
 unfolding carried
-returns-2 c = (λ h names. number-within (c .before .before .before .before .before .before .before .before .before .before .before .before .before .before .before .before .before .before .before .before .before .before .before .before .args .text .now) names h (c .before .before .before .before .before .before .before .before .before .before .before .before .before .before .before .before .before .before .before .value .ensures) (c .before .before .before .before .before .before .before .before .before .before .before .before .before .before .before .before .before .w .given .1) (c .before .before .before .before .before .before .before .before .before .before .before .before .before .before .take2 .ensures .0 h) (c .before .before .before .before .before .before .before .before .before .before .write .ensures .0) (c .before .before .before .before .before .before .before .before .before .before .write .ensures .1 .0) (c .before .before .before .before .before .before .before .before .before .before .write .ensures .1 .1) (rw (back32 (c .before .before .before .before .before .before .before .before .before .before .before .before .before .before .before .before .before .w .given .0 .0) (record { sfits = c .before .before .before .before .before .before .before .before .before .before .before .before .before .before .before .before .known-told .given .0 .1 })) at (c .before .before .before .write2 .ensures .0)) (c .before .before .before .write2 .ensures .1 .0) (c .before .before .before .write2 .ensures .1 .1), λ h. ahead-wrote (c .before .before .before .before .before .before .before .before .before .before .before .before .before .before .before .before .before .before .before .before .before .before .before .before .args .text .now) _ (c .before .before .before .write2 .ensures .1 .1) (ahead-wrote (c .before .before .before .before .before .before .before .before .before .before .before .before .before .before .before .before .before .before .before .before .before .before .before .before .args .text .now) _ (c .before .before .before .before .before .before .before .before .before .before .write .ensures .1 .1) (c .before .before .before .before .before .before .before .before .before .before .before .before .before .before .take2 .ensures .1 h)))
+returns-2 c =
+    let a = c .before .before .before in
+    let b = a .before .before .before .before .before .before .before in
+    let d = b .before .before .before .before in
+    let e = d .before .before in
+    let f = e .before in
+    let g = f .before .before in
+    let j = g .before .before .before .before .before in (
+      λ h names.
+          number-within (j .args .text .now) names h (g .value .ensures) (f .w .given .1) (d .take2 .ensures .0 h) (b .write .ensures .0) (b .write .ensures .1 .0)
+          (b .write .ensures .1 .1) (rw (back32 (f .w .given .0 .0) (record { sfits = e .known-told .given .0 .1 })) at (a .write2 .ensures .0))
+          (a .write2 .ensures .1 .0) (a .write2 .ensures .1 .1),
+      λ h. ahead-wrote (j .args .text .now) _ (a .write2 .ensures .1 .1) (ahead-wrote (j .args .text .now) _ (b .write .ensures .1 .1) (d .take2 .ensures .1 h)),
+    )
 
 pub number-spec : {M : Type 1} → statement M
 number-spec =

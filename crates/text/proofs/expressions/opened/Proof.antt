@@ -3,7 +3,7 @@ use Prim.Native.Nat.{suc, _-_}
 use lib.ListN.{length}
 use Rattle.text.specs.Told.{carried, Ahead}
 use Rattle.text.proofs.LiteralCode.{Opening, opening-starts, opening-stopped, opening-over, opening-ends, opening-goes-on}
-use Rattle.text.proofs.WritingCode.{ahead-counted}
+use Rattle.text.proofs.AheadLaws.{ahead-counted}
 use Rattle.text.proofs.expressions.opened.Statement.{statement}
 use Rattle.text.proofs.expressions.opened.Tie as tie
 use Rattle.text.proofs.expressions.opened.Reads as reads
@@ -41,7 +41,14 @@ count-requires c κs = search needs
 -- src/expressions.rt:165:13
 returns-2 : tie.Need-returns-2 Inv-loop μ-loop
 unfolding carried
-returns-2 c = (λ h. opening-ends (c .before .before .before .before .before .before .before .loop .inv .0 h) (c .before .before .before .before .before .before .loop-test .taken) (c .before .before .before .before .if1 .left) (c .before .before .before .before .before .before .before .loop .inv .1 h) (c .before .before .if2 .taken) (c .count .ensures), λ h. ahead-counted (c .before .before .before .before .before .before .before .before .before .args .text .now) (carried (c .before .before .before .before .before .before .before .loop .s)) (c .before .before .before .before .before .before .before .loop .b) (c .count .ensures) (c .before .before .before .before .before .before .before .loop .inv .1 h))
+returns-2 c =
+    let a = c .before .before .before .before in
+    let d = a .before .before in
+    let e = d .before in
+    let f = e .before .before in (
+      λ h. opening-ends (e .loop .inv .0 h) (d .loop-test .taken) (a .if1 .left) (e .loop .inv .1 h) (c .before .before .if2 .taken) (c .count .ensures),
+      λ h. ahead-counted (f .args .text .now) (carried (e .loop .s)) (e .loop .b) (c .count .ensures) (e .loop .inv .1 h),
+    )
 
 -- src/expressions.rt:167:9
 take-requires : tie.Need-take-requires Inv-loop μ-loop
@@ -58,7 +65,14 @@ loop-less c = search needs
 -- src/expressions.rt:159:5
 loop-again : tie.Need-loop-again Inv-loop μ-loop
 unfolding carried
-loop-again c = (λ h. opening-goes-on (c .before .before .before .before .before .before .before .loop .inv .0 h) (c .before .before .before .before .before .before .loop-test .taken) (c .before .before .before .before .if1 .left) (c .before .before .before .before .before .before .before .loop .inv .1 h) (c .before .before .if2 .left) (c .take .ensures .0 (c .before .before .before .before .before .before .before .loop .inv .1 h)), λ h. c .take .ensures .1 (c .before .before .before .before .before .before .before .loop .inv .1 h))
+loop-again c =
+    let a = c .before .before .before .before in
+    let b = a .before .before in
+    let d = b .before in (
+      λ h. opening-goes-on (d .loop .inv .0 h) (b .loop-test .taken) (a .if1 .left) (d .loop .inv .1 h) (c .before .before .if2 .left)
+          (c .take .ensures .0 (d .loop .inv .1 h)),
+      λ h. c .take .ensures .1 (d .loop .inv .1 h),
+    )
 
 -- src/expressions.rt:170:5
 count-requires-2 : tie.Need-count-requires-2 Inv-loop μ-loop
@@ -66,7 +80,12 @@ count-requires-2 c κs = search needs
 
 -- src/expressions.rt:154:1
 returns-3 : tie.Need-returns-3 Inv-loop μ-loop
-returns-3 c = (λ h. opening-over (c .before .before .before .loop .inv .0 h) (c .before .before .loop-test .left) (c .count2 .ensures), λ h. ahead-counted (c .before .before .before .before .before .args .text .now) (carried (c .before .before .before .loop .s)) (c .before .before .before .loop .b) (c .count2 .ensures) (c .before .before .before .loop .inv .1 h))
+returns-3 c =
+    let a = c .before .before .before in
+    let d = a .before .before in (
+      λ h. opening-over (a .loop .inv .0 h) (c .before .before .loop-test .left) (c .count2 .ensures),
+      λ h. ahead-counted (d .args .text .now) (carried (a .loop .s)) (a .loop .b) (c .count2 .ensures) (a .loop .inv .1 h),
+    )
 
 pub opened-spec : {M : Type 1} → statement M
 opened-spec =

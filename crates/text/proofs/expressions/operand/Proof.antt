@@ -31,7 +31,11 @@ same-length-3 c = search needs
 
 returns-2 : tie.Need-returns-2
 unfolding carried
-returns-2 c = (λ h. operand-named (c .before .before .before .before .before .before .before .before .before .before .before .before .before .before .before .before .before .args .text .now) (c .before .before .before .before .before .before .before .before .before .before .before .before .before .before .before .before .before .args .in-c) h (c .before .before .before .before .before .before .before .before .before .before .if2 .taken) (c .before .before .before .before .before .path-or-same .ensures .0 h), λ h. c .before .before .before .before .before .path-or-same .ensures .1 h)
+returns-2 c =
+    let a = c .before .before .before .before .before in
+    let b = a .before .before .before .before .before in
+    let d = b .before .before .before .before .before .before .before in
+    (λ h. operand-named (d .args .text .now) (d .args .in-c) h (b .if2 .taken) (a .path-or-same .ensures .0 h), λ h. a .path-or-same .ensures .1 h)
 
 literal-requires : tie.Need-literal-requires
 literal-requires c κs = search needs
@@ -44,7 +48,25 @@ same-length-5 c = search needs
 
 returns-3 : tie.Need-returns-3
 unfolding carried
-returns-3 c = (λ h. operand-other (c .before .before .before .before .before .before .before .before .before .before .before .before .before .before .args .text .now) (c .before .before .before .before .before .before .before .before .before .before .before .before .before .before .args .in-c) h (c .before .before .before .before .before .before .before .if2 .left) (c .before .before .before .literal .ensures .0 h (c .before .before .before .before .before .before .before .before .before .before .before .before .before .before .args .names .now)), λ h. c .before .before .before .literal .ensures .1 h)
+returns-3 c =
+    let a = c .before .before .before in
+    let b = a .before .before .before .before in
+    let d = b .before .before .before .before .before .before .before in
+    (λ h. operand-other (d .args .text .now) (d .args .in-c) h (b .if2 .left) (a .literal .ensures .0 h (d .args .names .now)), λ h. a .literal .ensures .1 h)
 
 pub operand-spec : {M : Type 1} → statement M
-operand-spec = tie.close (tie.spec element-copy-out-if1 returns element-copy-out-if2 path-or-same-requires same-length same-length-2 same-length-3 returns-2 literal-requires same-length-4 same-length-5 returns-3)
+operand-spec =
+    tie.close
+    (tie.spec
+    element-copy-out-if1
+    returns
+    element-copy-out-if2
+    path-or-same-requires
+    same-length
+    same-length-2
+    same-length-3
+    returns-2
+    literal-requires
+    same-length-4
+    same-length-5
+    returns-3)

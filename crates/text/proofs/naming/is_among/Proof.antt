@@ -51,7 +51,9 @@ loop-again c = among-goes-on (c .before .before .before .loop .inv) (c .before .
 
 -- src/naming.rt:92:1
 returns-3 : tie.Need-returns-3 Inv-loop μ-loop
-returns-3 c = rw (lt-ltb (c .before .before .before .args .number) (c .before .before .before .args .count) (c .before .before .if1 .left)) (among-ends (c .before .loop .inv) (c .loop-test .left))
+returns-3 c =
+    let a = c .before .before .before in
+    rw (lt-ltb (a .args .number) (a .args .count) (c .before .before .if1 .left)) (among-ends (c .before .loop .inv) (c .loop-test .left))
 
 pub is-among-spec : {M : Type 1} → statement M
 is-among-spec =

@@ -8,7 +8,7 @@ use Rattle.text.specs.Told.{carried}
 use Rattle.text.proofs.WrittenLaws.{passes}
 use Rattle.text.proofs.DoesLaws.{does-stopped}
 use Rattle.text.proofs.PathCode.{steps-over, steps-last, steps-more}
-use Rattle.text.proofs.WritingCode.{ahead-wrote, ahead-passed}
+use Rattle.text.proofs.AheadLaws.{ahead-wrote, ahead-passed}
 use Prim.Native.Nat.{ℕ, _<_}
 use borrow.Fn.Kinds.{In}
 use borrow.Fn.PlainCycle.{Measures, is, falls, and}
@@ -64,7 +64,9 @@ steps-element-copy-out-if2 t c = search needs
 -- src/paths.rt:33:9
 steps-returns-2 : (t : ℕ) → steps-lts.Need-returns-2 (steps-calls t) (steps-at t) steps.Post
 unfolding carried
-steps-returns-2 t c = (λ h. steps-over (c .before .before .before .before .before .before .before .args .text .now) (c .before .before .before .before .before .before .before .args .n) h (c .if2 .taken), λ h. h)
+steps-returns-2 t c =
+    let a = c .before .before .before .before .before .before .before in
+    (λ h. steps-over (a .args .text .now) (a .args .n) h (c .if2 .taken), λ h. h)
 
 -- src/paths.rt:35:5
 steps-take-requires : (t : ℕ) → steps-lts.Need-take-requires (steps-calls t) (steps-at t) steps.Post
@@ -93,7 +95,19 @@ steps-same-length t c = c .before .before .before .label .kept .1 .0
 -- src/paths.rt:41:9
 steps-returns-3 : (t : ℕ) → steps-lts.Need-returns-3 (steps-calls t) (steps-at t) steps.Post
 unfolding carried
-steps-returns-3 t c = (λ h. steps-last (c .before .before .before .before .before .before .before .before .before .before .before .before .before .before .before .before .before .before .before .args .text .now) (c .before .before .before .before .before .before .before .before .before .before .before .before .before .before .if1 .left) h (c .before .before .before .before .before .before .before .before .before .before .before .before .if2 .left) (c .before .before .before .before .before .before .before .before .before .before .take .ensures .0 h) (passes (eqb (c .before .before .before .before .before .before .before .before .before .before .before .before .before .before .before .before .before .before .before .args .n) 0) (carried (c .before .before .before .before .before .before .before .before .before .before .take .last .1 .0)) (c .before .before .before .before .before .before .before .before .pass .ensures)) (c .before .before .before .label .kept .1 .0) (c .before .before .before .label .ensures .0 (ahead-passed (c .before .before .before .before .before .before .before .before .before .before .before .before .before .before .before .before .before .before .before .args .text .now) (carried (c .before .before .before .before .before .before .before .before .before .before .take .last .1 .0)) (eqb (c .before .before .before .before .before .before .before .before .before .before .before .before .before .before .before .before .before .before .before .args .n) 0) (c .before .before .before .before .before .before .before .before .pass .ensures) (c .before .before .before .before .before .before .before .before .before .before .take .ensures .1 h))) (c .before .before .before .before .before .before .before .before .before .before .before .before .before .before .before .before .before .before .before .args .n) (eq-eqb (c .before .before .before .before .before .before .before .before .before .before .before .before .before .before .before .before .before .before .before .args .n) 0 (c .if3 .taken)) (c .if3 .taken), λ h. c .before .before .before .label .ensures .1 (ahead-passed (c .before .before .before .before .before .before .before .before .before .before .before .before .before .before .before .before .before .before .before .args .text .now) (carried (c .before .before .before .before .before .before .before .before .before .before .take .last .1 .0)) (eqb (c .before .before .before .before .before .before .before .before .before .before .before .before .before .before .before .before .before .before .before .args .n) 0) (c .before .before .before .before .before .before .before .before .pass .ensures) (c .before .before .before .before .before .before .before .before .before .before .take .ensures .1 h)))
+steps-returns-3 t c =
+    let a = c .before .before .before in
+    let b = a .before .before .before .before .before in
+    let d = b .before .before in
+    let e = d .before .before in
+    let f = e .before .before in
+    let g = f .before .before .before .before .before in (
+      λ h. steps-last (g .args .text .now) (f .if1 .left) h (e .if2 .left) (d .take .ensures .0 h)
+          (passes (eqb (g .args .n) 0) (carried (d .take .last .1 .0)) (b .pass .ensures)) (a .label .kept .1 .0)
+          (a .label .ensures .0 (ahead-passed (g .args .text .now) (carried (d .take .last .1 .0)) (eqb (g .args .n) 0) (b .pass .ensures) (d .take .ensures .1 h)))
+          (g .args .n) (eq-eqb (g .args .n) 0 (c .if3 .taken)) (c .if3 .taken),
+      λ h. a .label .ensures .1 (ahead-passed (g .args .text .now) (carried (d .take .last .1 .0)) (eqb (g .args .n) 0) (b .pass .ensures) (d .take .ensures .1 h)),
+    )
 
 -- src/paths.rt:43:17
 steps-element-copy-out-named : (t : ℕ) → steps-lts.Need-element-copy-out-named (steps-calls t) (steps-at t) steps.Post
@@ -113,24 +127,60 @@ steps-sub-steps t c = search needs
 
 -- src/paths.rt:45:5
 steps-steps-requires : (t : ℕ) → steps-lts.Need-steps-requires (steps-calls t) (steps-at t) steps.Post
-steps-steps-requires t c κs = omega (arith, c .before .before .before .before .before .before .before .before .before .before .before .before .before .if3 .left, c .before .before .before .before .before .before .before .before .before .before .before .before .before .before .before .before .before .before .before .before .before .before .before .before .before .before .before .before .before .before .before .before .pre .0)
+steps-steps-requires t c κs =
+    let a = c .before .before .before .before .before .before .before .before .before .before .before .before .before in
+    let b = a .before .before .before .before .before .before .before .before .before .before .before .before .before .before .before .before .before .before .before in
+    omega (arith, a .if3 .left, b .pre .0)
 
 -- src/paths.rt:18:1
 steps-same-length-2 : (t : ℕ) → steps-lts.Need-same-length-2 (steps-calls t) (steps-at t) steps.Post
-steps-same-length-2 t c = omega (arith, c .before .before .before .before .before .steps .kept .1 .0, c .before .before .before .before .before .before .before .before .before .before .before .before .before .before .before .before .before .before .before .before .before .before .label .kept .1 .0)
+steps-same-length-2 t c =
+    let a = c .before .before .before .before .before in
+    let b = a .before .before .before .before .before .before .before .before .before .before .before .before .before .before .before .before .before in
+    omega (arith, a .steps .kept .1 .0, b .label .kept .1 .0)
 
 -- src/paths.rt:18:1
 steps-same-length-3 : (t : ℕ) → steps-lts.Need-same-length-3 (steps-calls t) (steps-at t) steps.Post
-steps-same-length-3 t c = omega (arith, c .before .before .before .before .before .steps .kept .1 .1 .0, c .before .before .before .before .before .before .before .before .before .before .before .before .before .write .kept .0)
+steps-same-length-3 t c =
+    let a = c .before .before .before .before .before in
+    let b = a .before .before .before .before .before .before .before .before in
+    omega (arith, a .steps .kept .1 .1 .0, b .write .kept .0)
 
 -- src/paths.rt:18:1
 steps-same-length-4 : (t : ℕ) → steps-lts.Need-same-length-4 (steps-calls t) (steps-at t) steps.Post
-steps-same-length-4 t c = omega (arith, c .before .before .before .before .before .steps .kept .1 .1 .1 .0, c .before .before .before .before .before .before .before .before .before .before .before .before .before .write .kept .1 .0)
+steps-same-length-4 t c =
+    let a = c .before .before .before .before .before in
+    let b = a .before .before .before .before .before .before .before .before in
+    omega (arith, a .steps .kept .1 .1 .1 .0, b .write .kept .1 .0)
 
 -- src/paths.rt:18:1
 steps-returns-4 : (t : ℕ) → steps-lts.Need-returns-4 (steps-calls t) (steps-at t) steps.Post
 unfolding carried
-steps-returns-4 t c = (λ h. steps-more (c .before .before .before .before .before .before .before .before .before .before .before .before .before .before .before .before .before .before .before .before .before .before .before .before .before .before .before .before .before .before .before .before .before .before .before .before .before .before .args .text .now) (c .before .before .before .before .before .before .before .before .before .before .before .before .before .before .before .before .before .before .before .before .before .before .before .before .before .before .before .before .before .before .before .before .before .if1 .left) h (c .before .before .before .before .before .before .before .before .before .before .before .before .before .before .before .before .before .before .before .before .before .before .before .before .before .before .before .before .before .before .before .if2 .left) (c .before .before .before .before .before .before .before .before .before .before .before .before .before .before .before .before .before .before .before .before .before .before .before .before .before .before .before .before .before .take .ensures .0 h) (passes (eqb (c .before .before .before .before .before .before .before .before .before .before .before .before .before .before .before .before .before .before .before .before .before .before .before .before .before .before .before .before .before .before .before .before .before .before .before .before .before .before .args .n) 0) (carried (c .before .before .before .before .before .before .before .before .before .before .before .before .before .before .before .before .before .before .before .before .before .before .before .before .before .before .before .before .before .take .last .1 .0)) (c .before .before .before .before .before .before .before .before .before .before .before .before .before .before .before .before .before .before .before .before .before .before .before .before .before .before .before .pass .ensures)) (c .before .before .before .before .before .before .before .before .before .before .before .before .before .before .before .before .before .before .before .before .before .before .label .kept .1 .0) (c .before .before .before .before .before .before .before .before .before .before .before .before .before .before .before .before .before .before .before .before .before .before .label .ensures .0 (ahead-passed (c .before .before .before .before .before .before .before .before .before .before .before .before .before .before .before .before .before .before .before .before .before .before .before .before .before .before .before .before .before .before .before .before .before .before .before .before .before .before .args .text .now) (carried (c .before .before .before .before .before .before .before .before .before .before .before .before .before .before .before .before .before .before .before .before .before .before .before .before .before .before .before .before .before .take .last .1 .0)) (eqb (c .before .before .before .before .before .before .before .before .before .before .before .before .before .before .before .before .before .before .before .before .before .before .before .before .before .before .before .before .before .before .before .before .before .before .before .before .before .before .args .n) 0) (c .before .before .before .before .before .before .before .before .before .before .before .before .before .before .before .before .before .before .before .before .before .before .before .before .before .before .before .pass .ensures) (c .before .before .before .before .before .before .before .before .before .before .before .before .before .before .before .before .before .before .before .before .before .before .before .before .before .before .before .before .before .take .ensures .1 h))) (c .before .before .before .before .before .before .before .before .before .before .before .before .before .before .before .before .before .before .before .before .before .before .before .before .before .before .before .before .before .before .before .before .before .before .before .before .before .before .args .n) (c .before .before .before .before .before .before .before .before .before .before .before .before .before .before .before .before .before .before .before .before .before .before .before .before .before .before .before .before .before .before .before .before .before .before .before .before .before .before .args .n - 1) (ne-eqb (c .before .before .before .before .before .before .before .before .before .before .before .before .before .before .before .before .before .before .before .before .before .before .before .before .before .before .before .before .before .before .before .before .before .before .before .before .before .before .args .n) 0 (c .before .before .before .before .before .before .before .before .before .before .before .before .before .before .before .before .before .before .before .if3 .left)) (ahead-passed (c .before .before .before .before .before .before .before .before .before .before .before .before .before .before .before .before .before .before .before .before .before .before .before .before .before .before .before .before .before .before .before .before .before .before .before .before .before .before .args .text .now) (carried (c .before .before .before .before .before .before .before .before .before .before .before .before .before .before .before .before .before .before .before .before .before .before .before .before .before .before .before .before .before .take .last .1 .0)) (eqb (c .before .before .before .before .before .before .before .before .before .before .before .before .before .before .before .before .before .before .before .before .before .before .before .before .before .before .before .before .before .before .before .before .before .before .before .before .before .before .args .n) 0) (c .before .before .before .before .before .before .before .before .before .before .before .before .before .before .before .before .before .before .before .before .before .before .before .before .before .before .before .pass .ensures) (c .before .before .before .before .before .before .before .before .before .before .before .before .before .before .before .before .before .before .before .before .before .before .before .before .before .before .before .before .before .take .ensures .1 h)) (rw (back32 (c .before .before .before .before .before .before .before .before .before .before .before .before .before .before .word-of .result) (record { sfits = c .before .before .before .before .before .before .before .before .before .before .before .before .before .before .word-of .ok }), c .before .before .before .before .before .before .before .before .before .before .before .before .before .before .word-of .ensures) at (c .before .before .before .before .before .before .before .before .before .before .before .before .before .write .ensures .0)) (c .before .before .before .before .before .before .before .before .before .before .before .before .before .write .ensures .1 .0) (c .before .before .before .before .before .before .before .before .before .before .before .before .before .write .ensures .1 .1) (omega (arith, c .before .before .before .before .before .before .before .before .before .before .before .before .before .before .before .before .before .before .before .if3 .left)) (c .before .before .before .before .before .steps .ensures .0 (ahead-wrote (c .before .before .before .before .before .before .before .before .before .before .before .before .before .before .before .before .before .before .before .before .before .before .before .before .before .before .before .before .before .before .before .before .before .before .before .before .before .before .args .text .now) _ (c .before .before .before .before .before .before .before .before .before .before .before .before .before .write .ensures .1 .1) (c .before .before .before .before .before .before .before .before .before .before .before .before .before .before .before .before .before .before .before .before .before .before .label .ensures .1 (ahead-passed (c .before .before .before .before .before .before .before .before .before .before .before .before .before .before .before .before .before .before .before .before .before .before .before .before .before .before .before .before .before .before .before .before .before .before .before .before .before .before .args .text .now) (carried (c .before .before .before .before .before .before .before .before .before .before .before .before .before .before .before .before .before .before .before .before .before .before .before .before .before .before .before .before .before .take .last .1 .0)) (eqb (c .before .before .before .before .before .before .before .before .before .before .before .before .before .before .before .before .before .before .before .before .before .before .before .before .before .before .before .before .before .before .before .before .before .before .before .before .before .before .args .n) 0) (c .before .before .before .before .before .before .before .before .before .before .before .before .before .before .before .before .before .before .before .before .before .before .before .before .before .before .before .pass .ensures) (c .before .before .before .before .before .before .before .before .before .before .before .before .before .before .before .before .before .before .before .before .before .before .before .before .before .before .before .before .before .take .ensures .1 h))))), λ h. c .before .before .before .before .before .steps .ensures .1 (ahead-wrote (c .before .before .before .before .before .before .before .before .before .before .before .before .before .before .before .before .before .before .before .before .before .before .before .before .before .before .before .before .before .before .before .before .before .before .before .before .before .before .args .text .now) _ (c .before .before .before .before .before .before .before .before .before .before .before .before .before .write .ensures .1 .1) (c .before .before .before .before .before .before .before .before .before .before .before .before .before .before .before .before .before .before .before .before .before .before .label .ensures .1 (ahead-passed (c .before .before .before .before .before .before .before .before .before .before .before .before .before .before .before .before .before .before .before .before .before .before .before .before .before .before .before .before .before .before .before .before .before .before .before .before .before .before .args .text .now) (carried (c .before .before .before .before .before .before .before .before .before .before .before .before .before .before .before .before .before .before .before .before .before .before .before .before .before .before .before .before .before .take .last .1 .0)) (eqb (c .before .before .before .before .before .before .before .before .before .before .before .before .before .before .before .before .before .before .before .before .before .before .before .before .before .before .before .before .before .before .before .before .before .before .before .before .before .before .args .n) 0) (c .before .before .before .before .before .before .before .before .before .before .before .before .before .before .before .before .before .before .before .before .before .before .before .before .before .before .before .pass .ensures) (c .before .before .before .before .before .before .before .before .before .before .before .before .before .before .before .before .before .before .before .before .before .before .before .before .before .before .before .before .before .take .ensures .1 h)))))
+steps-returns-4 t c =
+    let a = c .before .before .before .before .before in
+    let b = a .before .before .before .before .before .before .before .before in
+    let d = b .before in
+    let e = d .before .before .before .before .before in
+    let f = e .before .before .before in
+    let g = f .before .before .before .before .before in
+    let j = g .before .before in
+    let k = j .before .before in
+    let l = k .before .before in
+    let m = l .before .before .before .before .before in (
+      λ h. steps-more (m .args .text .now) (l .if1 .left) h (k .if2 .left) (j .take .ensures .0 h)
+          (passes (eqb (m .args .n) 0) (carried (j .take .last .1 .0)) (g .pass .ensures)) (f .label .kept .1 .0)
+          (f .label .ensures .0 (ahead-passed (m .args .text .now) (carried (j .take .last .1 .0)) (eqb (m .args .n) 0) (g .pass .ensures) (j .take .ensures .1 h)))
+          (m .args .n) (m .args .n - 1) (ne-eqb (m .args .n) 0 (e .if3 .left))
+          (ahead-passed (m .args .text .now) (carried (j .take .last .1 .0)) (eqb (m .args .n) 0) (g .pass .ensures) (j .take .ensures .1 h))
+          (rw (back32 (d .word-of .result) (record { sfits = d .word-of .ok }), d .word-of .ensures) at (b .write .ensures .0)) (b .write .ensures .1 .0)
+          (b .write .ensures .1 .1) (omega (arith, e .if3 .left))
+          (a .steps .ensures .0
+          (ahead-wrote (m .args .text .now) _ (b .write .ensures .1 .1)
+          (f .label .ensures .1 (ahead-passed (m .args .text .now) (carried (j .take .last .1 .0)) (eqb (m .args .n) 0) (g .pass .ensures) (j .take .ensures .1 h))))),
+      λ h. a .steps .ensures .1
+          (ahead-wrote (m .args .text .now) _ (b .write .ensures .1 .1)
+          (f .label .ensures .1 (ahead-passed (m .args .text .now) (carried (j .take .last .1 .0)) (eqb (m .args .n) 0) (g .pass .ensures) (j .take .ensures .1 h)))),
+    )
 
 pub +steps-spec : {M : Type 1} → statement M
 +steps-spec = close μ-steps λ t. steps-lts.spec (steps-calls t)

@@ -2,7 +2,7 @@ use Rattle.words.proofs.Signed.{back32}
 use native.Mathlib.Omega.{arith}
 use Rattle.text.specs.Told.{carried}
 use Rattle.text.proofs.PathCode.{path-written}
-use Rattle.text.proofs.WritingCode.{ahead-wrote}
+use Rattle.text.proofs.AheadLaws.{ahead-wrote}
 use borrow.Author.Needs.{needs}
 use Rattle.text.proofs.paths.path.Statement.{statement}
 use Rattle.text.proofs.paths.path.Tie as tie
@@ -49,17 +49,68 @@ put-word-requires : tie.Need-put-word-requires
 put-word-requires c κs = search needs
 
 same-length : tie.Need-same-length
-same-length c = omega (arith, c .before .before .before .before .before .before .before .before .before .before .before .before .before .before .steps .kept .1 .0, c .before .before .before .before .before .before .before .before .before .before .before .before .before .before .before .before .before .before .before .before .before .before .before .before .before .before .before .before .before .before .before .before .before .before .before .before .before .before .before .variable .kept .1 .0)
+same-length c =
+    let a = c .before .before .before .before .before .before .before .before .before .before .before .before .before .before in
+    let b = a .before .before .before .before .before .before .before .before .before .before .before .before .before .before .before .before .before .before .before .before .before .before .before .before .before in
+    omega (arith, a .steps .kept .1 .0, b .variable .kept .1 .0)
 
 same-length-2 : tie.Need-same-length-2
-same-length-2 c = omega (arith, c .before .before .before .put-word .kept .0, c .before .before .before .before .before .before .before .before .before .before .before .before .before .before .steps .kept .1 .1 .0, c .before .before .before .before .before .before .before .before .before .before .before .before .before .before .before .before .before .before .before .before .before .before .before .write2 .kept .0, c .before .before .before .before .before .before .before .before .before .before .before .before .before .before .before .before .before .before .before .before .before .before .before .before .before .before .before .before .before .before .before .write .kept .0)
+same-length-2 c =
+    let a = c .before .before .before in
+    let b = a .before .before .before .before .before .before .before .before .before .before .before in
+    let d = b .before .before .before .before .before .before .before .before .before in
+    let e = d .before .before .before .before .before .before .before .before in
+    omega (arith, a .put-word .kept .0, b .steps .kept .1 .1 .0, d .write2 .kept .0, e .write .kept .0)
 
 same-length-3 : tie.Need-same-length-3
-same-length-3 c = omega (arith, c .before .before .before .put-word .kept .1 .0, c .before .before .before .before .before .before .before .before .before .before .before .before .before .before .steps .kept .1 .1 .1 .0, c .before .before .before .before .before .before .before .before .before .before .before .before .before .before .before .before .before .before .before .before .before .before .before .write2 .kept .1 .0, c .before .before .before .before .before .before .before .before .before .before .before .before .before .before .before .before .before .before .before .before .before .before .before .before .before .before .before .before .before .before .before .write .kept .1 .0)
+same-length-3 c =
+    let a = c .before .before .before in
+    let b = a .before .before .before .before .before .before .before .before .before .before .before in
+    let d = b .before .before .before .before .before .before .before .before .before in
+    let e = d .before .before .before .before .before .before .before .before in
+    omega (arith, a .put-word .kept .1 .0, b .steps .kept .1 .1 .1 .0, d .write2 .kept .1 .0, e .write .kept .1 .0)
 
 returns : tie.Need-returns
 unfolding carried
-returns c = (λ h. path-written (c .before .before .before .before .before .before .before .before .before .before .before .before .before .before .before .before .before .before .before .before .before .before .before .before .before .before .before .before .before .before .before .before .before .before .before .before .before .before .before .before .before .before .before .before .before .before .args .text .now) (c .before .before .before .before .before .before .before .before .before .before .before .before .before .before .before .before .before .before .before .before .before .before .before .before .before .before .before .before .before .before .before .before .before .before .before .before .before .before .before .before .before .before .before .before .before .before .args .words .now) (c .before .before .before .before .before .before .before .before .before .before .before .before .before .before .before .before .before .before .before .before .before .before .before .before .before .before .before .before .before .before .before .before .before .before .before .before .before .before .before .before .before .before .before .before .before .before .args .origins .now) h (c .before .before .before .before .before .before .before .before .before .before .before .before .before .before .before .before .before .before .before .before .before .before .before .before .before .before .before .before .before .before .before .before .before .before .before .before .before .before .before .variable .kept .1 .0) (c .before .before .before .before .before .before .before .before .before .before .before .before .before .before .before .before .before .before .before .before .before .before .before .before .before .before .before .before .before .before .before .before .before .before .before .before .before .before .before .variable .ensures .0 h) (rw (back32 (c .before .before .before .before .before .before .before .before .before .before .before .before .before .before .before .before .before .before .before .before .before .before .before .before .before .before .before .before .before .before .before .before .word-of .result) (record { sfits = c .before .before .before .before .before .before .before .before .before .before .before .before .before .before .before .before .before .before .before .before .before .before .before .before .before .before .before .before .before .before .before .before .word-of .ok }), c .before .before .before .before .before .before .before .before .before .before .before .before .before .before .before .before .before .before .before .before .before .before .before .before .before .before .before .before .before .before .before .before .word-of .ensures) at (c .before .before .before .before .before .before .before .before .before .before .before .before .before .before .before .before .before .before .before .before .before .before .before .before .before .before .before .before .before .before .before .write .ensures .0)) (c .before .before .before .before .before .before .before .before .before .before .before .before .before .before .before .before .before .before .before .before .before .before .before .before .before .before .before .before .before .before .before .write .ensures .1 .0) (c .before .before .before .before .before .before .before .before .before .before .before .before .before .before .before .before .before .before .before .before .before .before .before .before .before .before .before .before .before .before .before .write .ensures .1 .1) (c .before .before .before .before .before .before .before .before .before .before .before .before .before .before .before .before .before .before .before .before .before .before .before .write2 .ensures .0) (c .before .before .before .before .before .before .before .before .before .before .before .before .before .before .before .before .before .before .before .before .before .before .before .write2 .ensures .1 .0) (c .before .before .before .before .before .before .before .before .before .before .before .before .before .before .before .before .before .before .before .before .before .before .before .write2 .ensures .1 .1) (c .before .before .before .before .before .before .before .before .before .before .before .before .before .before .steps .ensures .0 (ahead-wrote (c .before .before .before .before .before .before .before .before .before .before .before .before .before .before .before .before .before .before .before .before .before .before .before .before .before .before .before .before .before .before .before .before .before .before .before .before .before .before .before .before .before .before .before .before .before .before .args .text .now) _ (c .before .before .before .before .before .before .before .before .before .before .before .before .before .before .before .before .before .before .before .before .before .before .before .write2 .ensures .1 .1) (ahead-wrote (c .before .before .before .before .before .before .before .before .before .before .before .before .before .before .before .before .before .before .before .before .before .before .before .before .before .before .before .before .before .before .before .before .before .before .before .before .before .before .before .before .before .before .before .before .before .before .args .text .now) _ (c .before .before .before .before .before .before .before .before .before .before .before .before .before .before .before .before .before .before .before .before .before .before .before .before .before .before .before .before .before .before .before .write .ensures .1 .1) (c .before .before .before .before .before .before .before .before .before .before .before .before .before .before .before .before .before .before .before .before .before .before .before .before .before .before .before .before .before .before .before .before .before .before .before .before .before .before .before .variable .ensures .1 h)))) (c .before .before .before .before .before .before .before .less .ensures) (c .before .before .before .before .word-of2 .ensures) (rw (back32 (c .before .before .before .before .word-of2 .result) (record { sfits = c .before .before .before .before .word-of2 .ok })) at (c .before .before .before .put-word .ensures .0)) (c .before .before .before .put-word .ensures .1), λ h. c .before .before .before .before .before .before .before .before .before .before .before .before .before .before .steps .ensures .1 (ahead-wrote (c .before .before .before .before .before .before .before .before .before .before .before .before .before .before .before .before .before .before .before .before .before .before .before .before .before .before .before .before .before .before .before .before .before .before .before .before .before .before .before .before .before .before .before .before .before .before .args .text .now) _ (c .before .before .before .before .before .before .before .before .before .before .before .before .before .before .before .before .before .before .before .before .before .before .before .write2 .ensures .1 .1) (ahead-wrote (c .before .before .before .before .before .before .before .before .before .before .before .before .before .before .before .before .before .before .before .before .before .before .before .before .before .before .before .before .before .before .before .before .before .before .before .before .before .before .before .before .before .before .before .before .before .before .args .text .now) _ (c .before .before .before .before .before .before .before .before .before .before .before .before .before .before .before .before .before .before .before .before .before .before .before .before .before .before .before .before .before .before .before .write .ensures .1 .1) (c .before .before .before .before .before .before .before .before .before .before .before .before .before .before .before .before .before .before .before .before .before .before .before .before .before .before .before .before .before .before .before .before .before .before .before .before .before .before .before .variable .ensures .1 h))))
+returns c =
+    let a = c .before .before .before in
+    let b = a .before in
+    let d = b .before .before .before in
+    let e = d .before .before .before .before .before .before .before in
+    let f = e .before .before .before .before .before .before .before .before .before in
+    let g = f .before .before .before .before .before .before .before .before in
+    let j = g .before in
+    let k = j .before .before .before .before .before .before .before in
+    let l = k .before .before .before .before .before .before .before in (
+      λ h. path-written (l .args .text .now) (l .args .words .now) (l .args .origins .now) h (k .variable .kept .1 .0) (k .variable .ensures .0 h)
+          (rw (back32 (j .word-of .result) (record { sfits = j .word-of .ok }), j .word-of .ensures) at (g .write .ensures .0)) (g .write .ensures .1 .0)
+          (g .write .ensures .1 .1) (f .write2 .ensures .0) (f .write2 .ensures .1 .0) (f .write2 .ensures .1 .1)
+          (e .steps .ensures .0
+          (ahead-wrote (l .args .text .now) _ (f .write2 .ensures .1 .1) (ahead-wrote (l .args .text .now) _ (g .write .ensures .1 .1) (k .variable .ensures .1 h))))
+          (d .less .ensures) (b .word-of2 .ensures) (rw (back32 (b .word-of2 .result) (record { sfits = b .word-of2 .ok })) at (a .put-word .ensures .0))
+          (a .put-word .ensures .1),
+      λ h. e .steps .ensures .1
+          (ahead-wrote (l .args .text .now) _ (f .write2 .ensures .1 .1) (ahead-wrote (l .args .text .now) _ (g .write .ensures .1 .1) (k .variable .ensures .1 h))),
+    )
 
 pub path-spec : {M : Type 1} → statement M
-path-spec = tie.close (tie.spec element-copy-out-p variable-requires element-copy-out-named word-of-requires write-requires element-copy-out-at write-requires-2 element-copy-out-begun steps-requires element-copy-out-less less-requires word-of-requires-2 put-word-requires same-length same-length-2 same-length-3 returns)
+path-spec =
+    tie.close
+    (tie.spec
+    element-copy-out-p
+    variable-requires
+    element-copy-out-named
+    word-of-requires
+    write-requires
+    element-copy-out-at
+    write-requires-2
+    element-copy-out-begun
+    steps-requires
+    element-copy-out-less
+    less-requires
+    word-of-requires-2
+    put-word-requires
+    same-length
+    same-length-2
+    same-length-3
+    returns)

@@ -4,7 +4,8 @@ use lib.ListN.{getD, set}
 use Rattle.text.specs.Told.{carried, nextOf, tookBy, namedLabel}
 use Rattle.text.proofs.NamingLaws.{most-small}
 use Rattle.text.proofs.ToldLaws.{numbers-stopped, label-unnamed, label-full, label-seen, label-stopped, label-named}
-use Rattle.text.proofs.StateLaws.{row-label, took-number, took-numbers, took-label, ahead-refused, ahead-refused-at, ahead-took, ahead-label}
+use Rattle.text.proofs.StateLaws.{row-label, took-number, took-numbers, took-label}
+use Rattle.text.proofs.AheadLaws.{ahead-refused, ahead-refused-at, ahead-took, ahead-label}
 use borrow.Author.Needs.{needs}
 use Rattle.text.proofs.reading.label.Statement.{statement}
 use Rattle.text.proofs.reading.label.Tie as tie

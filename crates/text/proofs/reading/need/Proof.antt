@@ -1,7 +1,8 @@
 use mathlib.Core.Path.{refl}
 use Rattle.text.specs.Told.{carried, nextOf}
 use Rattle.text.proofs.ToldLaws.{follows-stopped, need-refused, need-taken}
-use Rattle.text.proofs.StateLaws.{took-follows, ahead-refused, ahead-took}
+use Rattle.text.proofs.StateLaws.{took-follows}
+use Rattle.text.proofs.AheadLaws.{ahead-refused, ahead-took}
 use borrow.Author.Needs.{needs}
 use Rattle.text.proofs.reading.need.Statement.{statement}
 use Rattle.text.proofs.reading.need.Tie as tie

@@ -20,7 +20,9 @@ element-write-s c = search needs
 
 -- src/reading.rt:55:1
 returns : tie.Need-returns
-returns c = rw (c .before .put .ensures) (row-refused (c .before .before .before .args .s .now) (c .before .before .put-arg .given .0 .1) (c .before .before .before .args .number))
+returns c =
+    let a = c .before .before .before in
+    rw (c .before .put .ensures) (row-refused (a .args .s .now) (c .before .before .put-arg .given .0 .1) (a .args .number))
 
 pub refused-at-spec : {M : Type 1} → statement M
 refused-at-spec = tie.close (tie.spec put-requires element-copy-out-s element-write-s returns)

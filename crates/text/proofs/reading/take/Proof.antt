@@ -1,7 +1,8 @@
 use mathlib.Core.Path.{refl}
 use Rattle.text.specs.Told.{carried, nextOf}
 use Rattle.text.proofs.ToldLaws.{follows-stopped, take-follows}
-use Rattle.text.proofs.StateLaws.{took-follows, ahead-took}
+use Rattle.text.proofs.StateLaws.{took-follows}
+use Rattle.text.proofs.AheadLaws.{ahead-took}
 use borrow.Author.Needs.{needs}
 use Rattle.text.proofs.reading.take.Statement.{statement}
 use Rattle.text.proofs.reading.take.Tie as tie

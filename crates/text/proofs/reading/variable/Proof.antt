@@ -4,7 +4,8 @@ use lib.ListN.{getD, set}
 use Rattle.text.specs.Told.{carried, nextOf, tookBy, namedVariable}
 use Rattle.text.proofs.NamingLaws.{most-small}
 use Rattle.text.proofs.ToldLaws.{numbers-stopped, variable-unnamed, variable-full, variable-stopped, variable-named}
-use Rattle.text.proofs.StateLaws.{row-variable, took-number, took-numbers, took-variable, ahead-refused, ahead-refused-at, ahead-took, ahead-variable}
+use Rattle.text.proofs.StateLaws.{row-variable, took-number, took-numbers, took-variable}
+use Rattle.text.proofs.AheadLaws.{ahead-refused, ahead-refused-at, ahead-took, ahead-variable}
 use borrow.Author.Needs.{needs}
 use Rattle.text.proofs.reading.variable.Statement.{statement}
 use Rattle.text.proofs.reading.variable.Tie as tie

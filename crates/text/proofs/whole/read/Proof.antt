@@ -9,7 +9,7 @@ use Rattle.text.proofs.whole.read.Tie as tie
 use Rattle.text.proofs.whole.read.Reads as reads
 use Rattle.text.proofs.whole.read.Lts as lts
 use Rattle.text.proofs.naming.at_most.Reads as at-most-reads
-use Rattle.text.proofs.whole.answer_with.Reads as answer-with-reads
+use Rattle.words.proofs.answer_with.Reads as answer-with-reads
 use Rattle.text.proofs.whole.are_sized.Reads as are-sized-reads
 use Rattle.text.proofs.whole.tell.Reads as tell-reads
 use Rattle.text.proofs.whole.tell_names.Reads as tell-names-reads

@@ -2,7 +2,8 @@ use native.Mathlib.Omega.{arith}
 use lib.ListN.{length}
 use Rattle.text.specs.Told.{carried}
 use Rattle.text.proofs.RaisedLaws.{inserts-none, inserts-nowhere, inserts}
-use Rattle.text.proofs.WritingCode.{row-grown, ahead-grown}
+use Rattle.text.proofs.WritingCode.{row-grown}
+use Rattle.text.proofs.AheadLaws.{ahead-grown}
 use borrow.Author.Needs.{needs}
 use Rattle.text.proofs.writing.insert.Statement.{statement}
 use Rattle.text.proofs.writing.insert.Tie as tie
@@ -19,17 +20,31 @@ element-copy-out-end c = search needs
 -- src/writing.rt:132:9
 returns : tie.Need-returns
 unfolding carried
-returns c = (inserts-none (c .before .before .before .args .from) (c .before .before .before .args .p) (c .before .before .before .args .gap .now) (c .before .before .before .args .words .now) (c .before .before .before .args .origins .now) (carried (c .before .before .before .args .s .now)) (omega (arith, c .if1 .taken)), λ text h. h)
+returns c =
+    let a = c .before .before .before in (
+      inserts-none (a .args .from) (a .args .p) (a .args .gap .now) (a .args .words .now) (a .args .origins .now) (carried (a .args .s .now))
+          (omega (arith, c .if1 .taken)),
+      λ text h. h,
+    )
 
 -- src/writing.rt:135:9
 returns-2 : tie.Need-returns-2
 unfolding carried
-returns-2 c = (inserts-none (c .before .before .before .before .args .from) (c .before .before .before .before .args .p) (c .before .before .before .before .args .gap .now) (c .before .before .before .before .args .words .now) (c .before .before .before .before .args .origins .now) (carried (c .before .before .before .before .args .s .now)) (omega (arith, c .if2 .taken)), λ text h. h)
+returns-2 c =
+    let a = c .before .before .before .before in (
+      inserts-none (a .args .from) (a .args .p) (a .args .gap .now) (a .args .words .now) (a .args .origins .now) (carried (a .args .s .now))
+          (omega (arith, c .if2 .taken)),
+      λ text h. h,
+    )
 
 -- src/writing.rt:138:9
 returns-3 : tie.Need-returns-3
 unfolding carried
-returns-3 c = (inserts-nowhere (c .before .before .before .before .before .args .from) (c .before .before .before .before .before .args .p) (c .before .before .before .before .before .args .gap .now) (c .before .before .before .before .before .args .words .now) (c .before .before .before .before .before .args .origins .now) (carried (c .before .before .before .before .before .args .s .now)) (c .if3 .taken), λ text h. h)
+returns-3 c =
+    let a = c .before .before .before .before .before in (
+      inserts-nowhere (a .args .from) (a .args .p) (a .args .gap .now) (a .args .words .now) (a .args .origins .now) (carried (a .args .s .now)) (c .if3 .taken),
+      λ text h. h,
+    )
 
 -- src/writing.rt:140:5
 raise-requires : tie.Need-raise-requires
@@ -62,7 +77,17 @@ same-length-2 c = search needs
 -- src/writing.rt:118:1
 returns-4 : tie.Need-returns-4
 unfolding carried
-returns-4 c = (rw (row-grown (c .before .before .before .before .before .before .before .before .before .before .before .before .before .before .before .before .before .before .before .args .s .now) (c .sized .ensures) (length (c .before .before .before .before .before .before .before .before .before .before .before .before .before .before .before .before .before .before .before .args .gap .now))) (inserts (c .before .before .before .before .before .before .before .before .before .before .before .before .before .before .before .before .before .before .before .args .from) (c .before .before .before .before .before .before .before .before .before .before .before .before .before .before .before .before .before .before .before .args .p) (c .before .before .before .before .before .before .before .before .before .before .before .before .before .before .before .before .before .before .before .args .gap .now) (c .before .before .before .before .before .before .before .before .before .before .before .before .before .before .before .before .before .before .before .args .words .now) (c .before .before .before .before .before .before .before .before .before .before .before .before .before .before .before .before .before .before .before .args .origins .now) (carried (c .before .before .before .before .before .before .before .before .before .before .before .before .before .before .before .before .before .before .before .args .s .now)) (c .before .before .before .before .before .before .before .before .before .before .before .before .before .before .if3 .left) (c .before .before .before .before .before .before .before .before .before .before .before .raise .ensures .0) (c .before .before .before .before .before .before .before .before .before .before .before .raise .ensures .1) (c .before .before .before .before .before .fill .ensures .0) (c .before .before .before .before .before .fill .ensures .1)), λ text h. ahead-grown text (carried (c .before .before .before .before .before .before .before .before .before .before .before .before .before .before .before .before .before .before .before .args .s .now)) (length (c .before .before .before .before .before .before .before .before .before .before .before .before .before .before .before .before .before .before .before .args .gap .now)) (row-grown (c .before .before .before .before .before .before .before .before .before .before .before .before .before .before .before .before .before .before .before .args .s .now) (c .sized .ensures) (length (c .before .before .before .before .before .before .before .before .before .before .before .before .before .before .before .before .before .before .before .args .gap .now))) h)
+returns-4 c =
+    let a = c .before .before .before .before .before in
+    let b = a .before .before .before .before .before .before in
+    let d = b .before .before .before in
+    let e = d .before .before .before .before .before in (
+      rw (row-grown (e .args .s .now) (c .sized .ensures) (length (e .args .gap .now)))
+          (inserts (e .args .from) (e .args .p) (e .args .gap .now) (e .args .words .now) (e .args .origins .now) (carried (e .args .s .now)) (d .if3 .left)
+          (b .raise .ensures .0) (b .raise .ensures .1) (a .fill .ensures .0) (a .fill .ensures .1)),
+      λ text h.
+          ahead-grown text (carried (e .args .s .now)) (length (e .args .gap .now)) (row-grown (e .args .s .now) (c .sized .ensures) (length (e .args .gap .now))) h,
+    )
 
 pub insert-spec : {M : Type 1} → statement M
 insert-spec =

@@ -1,6 +1,7 @@
 use Rattle.text.specs.Told.{carried}
 use Rattle.text.proofs.WrittenLaws.{owes-more, owes-much, owes-many}
-use Rattle.text.proofs.WritingCode.{row-owing, ahead-owing}
+use Rattle.text.proofs.WritingCode.{row-owing}
+use Rattle.text.proofs.AheadLaws.{ahead-owing}
 use borrow.Author.Needs.{needs}
 use Rattle.text.proofs.writing.owe.Statement.{statement}
 use Rattle.text.proofs.writing.owe.Tie as tie
@@ -36,7 +37,11 @@ element-write-s c = search needs
 
 -- src/writing.rt:47:1
 returns-3 : tie.Need-returns-3
-returns-3 c = (owes-more (c .before .before .before .before .before .args .k) (carried (c .before .before .before .before .before .args .s .now)) (row-owing (c .before .before .before .before .before .args .s .now) (c .sized .ensures) (c .before .before .before .before .before .args .k)), λ text h. ahead-owing text (carried (c .before .before .before .before .before .args .s .now)) (c .before .before .before .before .before .args .k) (row-owing (c .before .before .before .before .before .args .s .now) (c .sized .ensures) (c .before .before .before .before .before .args .k)) h)
+returns-3 c =
+    let a = c .before .before .before .before .before in (
+      owes-more (a .args .k) (carried (a .args .s .now)) (row-owing (a .args .s .now) (c .sized .ensures) (a .args .k)),
+      λ text h. ahead-owing text (carried (a .args .s .now)) (a .args .k) (row-owing (a .args .s .now) (c .sized .ensures) (a .args .k)) h,
+    )
 
 pub owe-spec : {M : Type 1} → statement M
 owe-spec =

@@ -15,7 +15,11 @@ element-copy-out-at c = search needs
 
 -- src/writing.rt:28:9
 returns : tie.Need-returns
-returns c = (with-none (c .before .before .before .args .s .now) (c .before .before .before .args .words .now) (c .before .before .before .args .w) (c .if1 .taken), (with-none (c .before .before .before .args .s .now) (c .before .before .before .args .origins .now) (c .before .before .before .args .p) (c .if1 .taken), wrote-none (c .before .before .before .args .s .now) (c .if1 .taken)))
+returns c =
+    let a = c .before .before .before in (
+      with-none (a .args .s .now) (a .args .words .now) (a .args .w) (c .if1 .taken),
+      (with-none (a .args .s .now) (a .args .origins .now) (a .args .p) (c .if1 .taken), wrote-none (a .args .s .now) (c .if1 .taken)),
+    )
 
 -- src/writing.rt:30:5
 store-requires : tie.Need-store-requires
@@ -47,7 +51,17 @@ same-length-2 c = search needs
 
 -- src/writing.rt:21:1
 returns-2 : tie.Need-returns-2
-returns-2 c = (with-more (c .before .before .before .before .before .before .before .before .before .before .before .before .args .s .now) (c .before .before .before .before .before .before .before .before .before .before .before .before .args .words .now) (c .before .before .before .before .before .before .before .before .before .before .before .before .args .w) (c .before .before .before .before .before .before .before .before .before .if1 .left) (rw (back32 (c .before .before .before .before .before .before .before .before .before .before .before .before .args .w) (c .before .before .before .before .before .before .before .before .before .before .before .before .fits .w)) at (c .before .before .before .before .before .before .before .store .ensures)), (with-more (c .before .before .before .before .before .before .before .before .before .before .before .before .args .s .now) (c .before .before .before .before .before .before .before .before .before .before .before .before .args .origins .now) (c .before .before .before .before .before .before .before .before .before .before .before .before .args .p) (c .before .before .before .before .before .before .before .before .before .if1 .left) (c .before .before .before .before .put .ensures), row-wrote (c .before .before .before .before .before .before .before .before .before .before .before .before .args .s .now) (c .sized .ensures) (c .before .before .before .before .before .before .before .before .before .if1 .left)))
+returns-2 c =
+    let a = c .before .before .before .before in
+    let b = a .before .before .before in
+    let d = b .before .before in
+    let e = d .before .before .before in (
+      with-more (e .args .s .now) (e .args .words .now) (e .args .w) (d .if1 .left) (rw (back32 (e .args .w) (e .fits .w)) at (b .store .ensures)),
+      (
+        with-more (e .args .s .now) (e .args .origins .now) (e .args .p) (d .if1 .left) (a .put .ensures),
+        row-wrote (e .args .s .now) (c .sized .ensures) (d .if1 .left),
+      ),
+    )
 
 pub write-spec : {M : Type 1} → statement M
 write-spec =

@@ -6,7 +6,7 @@ use Rattle.tokens.proofs.bytes.behind_white.Statement.{statement}
 use Rattle.tokens.proofs.bytes.behind_white.Tie as tie
 use Rattle.tokens.proofs.bytes.behind_white.Reads as reads
 use Rattle.tokens.proofs.bytes.behind_white.Lts as lts
-use Rattle.tokens.proofs.bytes.bytes_from.Reads as bytes-from-reads
+use Rattle.words.proofs.bytes_from.Reads as bytes-from-reads
 use Rattle.tokens.proofs.bytes.run.Reads as run-reads
 
 -- src/bytes.rt:97:19

@@ -32,12 +32,21 @@ is-between-requires-3 c κs = search needs
 -- src/bytes.rt:63:9
 returns-3 : tie.Need-returns-3
 unfolding isNamed
-returns-3 c = rw (sym (c .before .before .before .before .before .is-between .ensures) ∙ c .before .before .before .before .if1 .left, sym (c .before .before .before .is-between2 .ensures) ∙ c .before .before .if2 .left, sym (c .before .is-between3 .ensures) ∙ c .if3 .taken)
+returns-3 c =
+    let a = c .before .before .before in
+    let b = a .before in
+    let d = b .before in
+    rw
+    (sym (d .is-between .ensures) ∙ b .if1 .left, sym (a .is-between2 .ensures) ∙ c .before .before .if2 .left, sym (c .before .is-between3 .ensures) ∙ c .if3 .taken)
 
 -- src/bytes.rt:53:1
 returns-4 : tie.Need-returns-4
 unfolding isNamed
-returns-4 c = rw (sym (c .before .before .before .before .before .is-between .ensures) ∙ c .before .before .before .before .if1 .left, sym (c .before .before .before .is-between2 .ensures) ∙ c .before .before .if2 .left, sym (c .before .is-between3 .ensures) ∙ c .if3 .left)
+returns-4 c =
+    let a = c .before .before .before in
+    let b = a .before in
+    let d = b .before in
+    rw (sym (d .is-between .ensures) ∙ b .if1 .left, sym (a .is-between2 .ensures) ∙ c .before .before .if2 .left, sym (c .before .is-between3 .ensures) ∙ c .if3 .left)
 
 pub is-named-spec : {M : Type 1} → statement M
 is-named-spec =

@@ -18,12 +18,16 @@ returns-2 c = rw (ne-eqb (c .before .before .args .b) 32 (c .before .if1 .left),
 -- src/bytes.rt:47:9
 returns-3 : tie.Need-returns-3
 unfolding isWhite
-returns-3 c = rw (ne-eqb (c .before .before .before .args .b) 32 (c .before .before .if1 .left), ne-eqb (c .before .before .before .args .b) 9 (c .before .if2 .left), eq-eqb (c .before .before .before .args .b) 10 (c .if3 .taken))
+returns-3 c =
+    let a = c .before .before .before in
+    rw (ne-eqb (a .args .b) 32 (c .before .before .if1 .left), ne-eqb (a .args .b) 9 (c .before .if2 .left), eq-eqb (a .args .b) 10 (c .if3 .taken))
 
 -- src/bytes.rt:37:1
 returns-4 : tie.Need-returns-4
 unfolding isWhite
-returns-4 c = rw (ne-eqb (c .before .before .before .args .b) 32 (c .before .before .if1 .left), ne-eqb (c .before .before .before .args .b) 9 (c .before .if2 .left), ne-eqb (c .before .before .before .args .b) 10 (c .if3 .left))
+returns-4 c =
+    let a = c .before .before .before in
+    rw (ne-eqb (a .args .b) 32 (c .before .before .if1 .left), ne-eqb (a .args .b) 9 (c .before .if2 .left), ne-eqb (a .args .b) 10 (c .if3 .left))
 
 pub is-white-spec : {M : Type 1} → statement M
 is-white-spec = tie.close (tie.spec returns returns-2 returns-3 returns-4)

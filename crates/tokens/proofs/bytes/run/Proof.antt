@@ -31,7 +31,10 @@ is-of-requires c κs = search needs
 
 -- src/bytes.rt:86:13
 returns : tie.Need-returns Inv-loop μ-loop
-returns c = running-stops (c .before .before .before .before .loop .inv) (c .before .before .before .loop-test .taken) (sym (c .before .is-of .ensures) ∙ not-true _ (c .if1 .taken))
+returns c =
+    let a = c .before .before .before in
+    let b = a .before in
+    running-stops (b .loop .inv) (a .loop-test .taken) (sym (c .before .is-of .ensures) ∙ not-true _ (c .if1 .taken))
 
 -- src/bytes.rt:88:9
 add-i : tie.Need-add-i Inv-loop μ-loop
@@ -43,7 +46,10 @@ loop-less c = search needs
 
 -- src/bytes.rt:84:5
 loop-again : tie.Need-loop-again Inv-loop μ-loop
-loop-again c = running-goes-on (c .before .before .before .before .loop .inv) (c .before .before .before .loop-test .taken) (sym (c .before .is-of .ensures) ∙ not-false _ (c .if1 .left))
+loop-again c =
+    let a = c .before .before .before in
+    let b = a .before in
+    running-goes-on (b .loop .inv) (a .loop-test .taken) (sym (c .before .is-of .ensures) ∙ not-false _ (c .if1 .left))
 
 -- src/bytes.rt:80:1
 returns-2 : tie.Need-returns-2 Inv-loop μ-loop

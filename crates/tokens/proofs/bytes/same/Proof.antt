@@ -6,8 +6,8 @@ use Rattle.tokens.proofs.bytes.same.Statement.{statement}
 use Rattle.tokens.proofs.bytes.same.Tie as tie
 use Rattle.tokens.proofs.bytes.same.Reads as reads
 use Rattle.tokens.proofs.bytes.same.Lts as lts
-use Rattle.tokens.proofs.bytes.bytes_from.Reads as bytes-from-reads
-use Rattle.tokens.proofs.bytes.bytes_to.Reads as bytes-to-reads
+use Rattle.words.proofs.bytes_from.Reads as bytes-from-reads
+use Rattle.words.proofs.bytes_to.Reads as bytes-to-reads
 use Rattle.tokens.proofs.bytes.spells.Reads as spells-reads
 
 -- src/bytes.rt:121:26
@@ -20,7 +20,10 @@ bytes-to-requires c κs = search needs
 
 -- src/bytes.rt:123:9
 returns : tie.Need-returns
-returns c = same-short (c .before .before .before .before .args .text .now) (c .before .before .before .before .args .a) (c .before .before .before .before .args .b) (c .before .before .before .before .args .n) (c .before .bytes-to .ensures ∙ ap (λ s. take (c .before .before .before .before .args .n) s) (c .before .before .bytes-from .ensures)) (c .if1 .taken)
+returns c =
+    let d = c .before .before .before .before in
+    same-short (d .args .text .now) (d .args .a) (d .args .b) (d .args .n)
+    (c .before .bytes-to .ensures ∙ ap (λ s. take (d .args .n) s) (c .before .before .bytes-from .ensures)) (c .if1 .taken)
 
 -- src/bytes.rt:125:21
 bytes-from-requires-2 : tie.Need-bytes-from-requires-2
@@ -36,7 +39,13 @@ spells-requires c κs = search needs
 
 -- src/bytes.rt:118:1
 returns-2 : tie.Need-returns-2
-returns-2 c = same-whole (c .before .before .before .before .before .before .before .args .text .now) (c .before .before .before .before .before .before .before .args .a) (c .before .before .before .before .before .before .before .args .b) (c .before .before .before .before .before .before .before .args .n) (c .before .before .before .before .bytes-to .ensures ∙ ap (λ s. take (c .before .before .before .before .before .before .before .args .n) s) (c .before .before .before .before .before .bytes-from .ensures)) (c .before .before .before .if1 .left) (c .before .bytes-to2 .ensures ∙ ap (λ s. take (c .before .before .before .before .before .before .before .args .n) s) (c .before .before .bytes-from2 .ensures)) (c .spells .ensures)
+returns-2 c =
+    let d = c .before .before .before in
+    let e = d .before in
+    let f = e .before in
+    let g = f .before .before in
+    same-whole (g .args .text .now) (g .args .a) (g .args .b) (g .args .n) (e .bytes-to .ensures ∙ ap (λ s. take (g .args .n) s) (f .bytes-from .ensures))
+    (d .if1 .left) (c .before .bytes-to2 .ensures ∙ ap (λ s. take (g .args .n) s) (c .before .before .bytes-from2 .ensures)) (c .spells .ensures)
 
 pub same-spec : {M : Type 1} → statement M
 same-spec =

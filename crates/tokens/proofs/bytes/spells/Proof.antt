@@ -33,7 +33,10 @@ shared-slice-read-if2 c = search needs
 
 -- src/bytes.rt:110:13
 returns-2 : tie.Need-returns-2 Inv-loop μ-loop
-returns-2 c = spelling-differs (c .before .before .before .before .loop .inv) (c .before .before .before .loop-test .taken) (λ e. c .if2 .taken (c .before .before .byte .ensures ∙ e))
+returns-2 c =
+    let a = c .before .before .before in
+    let b = a .before in
+    spelling-differs (b .loop .inv) (a .loop-test .taken) (λ e. c .if2 .taken (c .before .before .byte .ensures ∙ e))
 
 -- src/bytes.rt:112:9
 add-i : tie.Need-add-i Inv-loop μ-loop
@@ -45,7 +48,10 @@ loop-less c = search needs
 
 -- src/bytes.rt:108:5
 loop-again : tie.Need-loop-again Inv-loop μ-loop
-loop-again c = spelling-goes-on (c .before .before .before .before .loop .inv) (c .before .before .before .loop-test .taken) (sym (c .before .before .byte .ensures) ∙ c .if2 .left)
+loop-again c =
+    let a = c .before .before .before in
+    let b = a .before in
+    spelling-goes-on (b .loop .inv) (a .loop-test .taken) (sym (c .before .before .byte .ensures) ∙ c .if2 .left)
 
 -- src/bytes.rt:101:1
 returns-3 : tie.Need-returns-3 Inv-loop μ-loop

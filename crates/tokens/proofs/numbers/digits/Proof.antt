@@ -33,7 +33,10 @@ digit-requires c κs = search needs
 
 -- src/numbers.rt:37:13
 add-n : tie.Need-add-n Inv-loop μ-loop
-add-n c = omega (arith, c .before .before .before .loop .inv .small, c .digit .ensures, digit-small (getD (c .before .before .before .before .before .args .s .now) (c .before .before .before .loop .i) 0))
+add-n c =
+    let a = c .before .before .before in
+    let b = a .before .before in
+    omega (arith, a .loop .inv .small, c .digit .ensures, digit-small (getD (b .args .s .now) (a .loop .i) 0))
 
 -- src/numbers.rt:39:13
 returns : tie.Need-returns Inv-loop μ-loop

@@ -31,7 +31,11 @@ minus-requires c κs = search needs
 
 -- src/numbers.rt:55:1
 returns-3 : tie.Need-returns-3
-returns-3 c = c .minus .ensures ∙ negative-less (c .before .before .before .before .args .n) (c .before .before .before .if1 .left) (c .before .before .if2 .left) (back32 (c .before .word-of .result) (record { sfits = c .before .word-of .ok }) ∙ c .before .word-of .ensures)
+returns-3 c =
+    let a = c .before .before .before in
+    let b = a .before in
+    c .minus .ensures ∙ negative-less (b .args .n) (a .if1 .left) (c .before .before .if2 .left)
+    (back32 (c .before .word-of .result) (record { sfits = c .before .word-of .ok }) ∙ c .before .word-of .ensures)
 
 pub negative-spec : {M : Type 1} → statement M
 negative-spec =

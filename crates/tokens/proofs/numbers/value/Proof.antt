@@ -9,8 +9,8 @@ use Rattle.tokens.proofs.numbers.value.Tie as tie
 use Rattle.tokens.proofs.numbers.value.Reads as reads
 use Rattle.tokens.proofs.numbers.value.Lts as lts
 use Rattle.tokens.proofs.bytes.byte.Reads as byte-reads
-use Rattle.tokens.proofs.bytes.bytes_from.Reads as bytes-from-reads
-use Rattle.tokens.proofs.bytes.bytes_to.Reads as bytes-to-reads
+use Rattle.words.proofs.bytes_from.Reads as bytes-from-reads
+use Rattle.words.proofs.bytes_to.Reads as bytes-to-reads
 use Rattle.tokens.proofs.numbers.digits.Reads as digits-reads
 use Rattle.tokens.proofs.numbers.negative.Reads as negative-reads
 use Rattle.tokens.proofs.numbers.positive.Reads as positive-reads
@@ -46,7 +46,16 @@ negative-requires c κs = search needs
 
 -- src/numbers.rt:73:9
 returns : tie.Need-returns
-returns c = value-negative (c .before .before .before .before .before .bytes-to .result .now) (sym (c .before .before .before .before .byte .ensures) ∙ c .before .before .before .if1 .taken) (c .before .before .bytes-from2 .ensures) (c .before .digits .ensures) (c .negative .ensures) ∙ ap valueOf (c .before .before .before .before .before .bytes-to .ensures ∙ ap (λ k. take k (c .before .before .before .before .before .before .before .bytes-from .result .now)) (c .before .before .before .before .before .before .less .ensures) ∙ ap (λ s. take (c .before .before .before .before .before .before .before .before .before .args .end - c .before .before .before .before .before .before .before .before .before .args .place) s) (c .before .before .before .before .before .before .before .bytes-from .ensures))
+returns c =
+    let a = c .before .before .before in
+    let b = a .before in
+    let d = b .before in
+    let e = d .before in
+    let f = e .before in
+    let g = f .before .before in
+    value-negative (d .bytes-to .result .now) (sym (b .byte .ensures) ∙ a .if1 .taken) (c .before .before .bytes-from2 .ensures) (c .before .digits .ensures)
+    (c .negative .ensures) ∙ ap valueOf
+    (d .bytes-to .ensures ∙ ap (λ k. take k (f .bytes-from .result .now)) (e .less .ensures) ∙ ap (λ s. take (g .args .end - g .args .place) s) (f .bytes-from .ensures))
 
 -- src/numbers.rt:75:14
 digits-requires-2 : tie.Need-digits-requires-2
@@ -58,7 +67,15 @@ positive-requires c κs = search needs
 
 -- src/numbers.rt:68:1
 returns-2 : tie.Need-returns-2
-returns-2 c = value-positive (c .before .before .before .before .bytes-to .result .now) (λ e. c .before .before .if1 .left (c .before .before .before .byte .ensures ∙ e)) (c .before .digits2 .ensures) (c .positive .ensures) ∙ ap valueOf (c .before .before .before .before .bytes-to .ensures ∙ ap (λ k. take k (c .before .before .before .before .before .before .bytes-from .result .now)) (c .before .before .before .before .before .less .ensures) ∙ ap (λ s. take (c .before .before .before .before .before .before .before .before .args .end - c .before .before .before .before .before .before .before .before .args .place) s) (c .before .before .before .before .before .before .bytes-from .ensures))
+returns-2 c =
+    let a = c .before .before .before in
+    let b = a .before in
+    let d = b .before in
+    let f = d .before in
+    let g = f .before .before in
+    value-positive (b .bytes-to .result .now) (λ e. c .before .before .if1 .left (a .byte .ensures ∙ e)) (c .before .digits2 .ensures) (c .positive .ensures) ∙ ap
+    valueOf
+    (b .bytes-to .ensures ∙ ap (λ k. take k (f .bytes-from .result .now)) (d .less .ensures) ∙ ap (λ s. take (g .args .end - g .args .place) s) (f .bytes-from .ensures))
 
 pub value-spec : {M : Type 1} → statement M
 value-spec =

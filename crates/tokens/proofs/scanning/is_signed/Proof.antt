@@ -23,7 +23,9 @@ byte-requires c κs = search needs
 -- src/scanning.rt:75:9
 returns-2 : tie.Need-returns-2
 unfolding signs
-returns-2 c = rw (not-false (c .before .before .before .before .args .due) (c .before .before .if1 .left), ne-eqb (getD (c .before .before .before .before .args .s .now) 0 0) 45 (λ e. c .if2 .taken (c .before .byte .ensures ∙ e)))
+returns-2 c =
+    let a = c .before .before .before .before in
+    rw (not-false (a .args .due) (c .before .before .if1 .left), ne-eqb (getD (a .args .s .now) 0 0) 45 (λ e. c .if2 .taken (c .before .byte .ensures ∙ e)))
 
 -- src/scanning.rt:77:25
 byte-requires-2 : tie.Need-byte-requires-2
@@ -36,7 +38,12 @@ is-of-requires c κs = search needs
 -- src/scanning.rt:68:1
 returns-3 : tie.Need-returns-3
 unfolding signs
-returns-3 c = rw (not-false (c .before .before .before .before .before .before .args .due) (c .before .before .before .before .if1 .left), eq-eqb (getD (c .before .before .before .before .before .before .args .s .now) 0 0) 45 (sym (c .before .before .before .byte .ensures) ∙ c .before .before .if2 .left)) (c .is-of .ensures ∙ ap isDigit (c .before .byte2 .ensures))
+returns-3 c =
+    let a = c .before .before .before in
+    let b = a .before in
+    let d = b .before .before in
+    rw (not-false (d .args .due) (b .if1 .left), eq-eqb (getD (d .args .s .now) 0 0) 45 (sym (a .byte .ensures) ∙ c .before .before .if2 .left))
+    (c .is-of .ensures ∙ ap isDigit (c .before .byte2 .ensures))
 
 pub is-signed-spec : {M : Type 1} → statement M
 is-signed-spec =

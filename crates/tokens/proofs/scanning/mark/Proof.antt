@@ -24,7 +24,9 @@ single-mark-requires c κs = search needs
 
 -- src/scanning.rt:55:9
 returns : tie.Need-returns
-returns c = c .single-mark .ensures ∙ ap singleAt (c .before .before .byte .ensures) ∙ mark-last (c .before .before .before .before .args .s .now) (c .before .if1 .taken)
+returns c =
+    let a = c .before .before .before .before in
+    c .single-mark .ensures ∙ ap singleAt (c .before .before .byte .ensures) ∙ mark-last (a .args .s .now) (c .before .if1 .taken)
 
 -- src/scanning.rt:57:24
 shared-slice-read-pair : tie.Need-shared-slice-read-pair
@@ -40,11 +42,21 @@ single-mark-requires-2 c κs = search needs
 
 -- src/scanning.rt:59:9
 returns-2 : tie.Need-returns-2
-returns-2 c = c .single-mark2 .ensures ∙ ap singleAt (c .before .before .before .before .before .byte .ensures) ∙ mark-single (c .before .before .before .before .before .before .before .args .s .now) (c .before .before .before .before .if1 .left) (sym (c .before .before .pair .ensures ∙ ap (λ b. codeOf noToken pairs (b ∷ getD (c .before .before .before .before .before .before .before .args .s .now) 1 0 ∷ [])) (c .before .before .before .before .before .byte .ensures)) ∙ c .before .if2 .taken)
+returns-2 c =
+    let a = c .before .before .before .before in
+    let d = a .before in
+    let e = d .before .before in
+    c .single-mark2 .ensures ∙ ap singleAt (d .byte .ensures) ∙ mark-single (e .args .s .now) (a .if1 .left)
+    (sym (c .before .before .pair .ensures ∙ ap (λ b. codeOf noToken pairs (b ∷ getD (e .args .s .now) 1 0 ∷ [])) (d .byte .ensures)) ∙ c .before .if2 .taken)
 
 -- src/scanning.rt:50:1
 returns-3 : tie.Need-returns-3
-returns-3 c = let e = (c .before .pair .ensures ∙ ap (λ b. codeOf noToken pairs (b ∷ getD (c .before .before .before .before .before .before .args .s .now) 1 0 ∷ [])) (c .before .before .before .before .byte .ensures)) in ap (λ k. piece k 2) e ∙ mark-pair (c .before .before .before .before .before .before .args .s .now) (c .before .before .before .if1 .left) (λ z. c .if2 .left (e ∙ z))
+returns-3 c =
+    let a = c .before .before .before in
+    let d = a .before in
+    let f = d .before .before in
+    let e = (c .before .pair .ensures ∙ ap (λ b. codeOf noToken pairs (b ∷ getD (f .args .s .now) 1 0 ∷ [])) (d .byte .ensures)) in ap (λ k. piece k 2) e ∙ mark-pair
+    (f .args .s .now) (a .if1 .left) (λ z. c .if2 .left (e ∙ z))
 
 pub mark-spec : {M : Type 1} → statement M
 mark-spec =

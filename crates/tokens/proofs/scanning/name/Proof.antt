@@ -4,7 +4,7 @@ use Rattle.tokens.proofs.scanning.name.Statement.{statement}
 use Rattle.tokens.proofs.scanning.name.Tie as tie
 use Rattle.tokens.proofs.scanning.name.Reads as reads
 use Rattle.tokens.proofs.scanning.name.Lts as lts
-use Rattle.tokens.proofs.bytes.bytes_to.Reads as bytes-to-reads
+use Rattle.words.proofs.bytes_to.Reads as bytes-to-reads
 use Rattle.tokens.proofs.scanning.name_length.Reads as name-length-reads
 use Rattle.tokens.proofs.spelling.keyword.Reads as keyword-reads
 

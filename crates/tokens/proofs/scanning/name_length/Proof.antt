@@ -19,7 +19,9 @@ byte-requires c κs = search needs
 
 -- src/scanning.rt:24:16
 add-result : tie.Need-add-result
-add-result c = omega (arith, byte-inside (c .before .before .before .before .args .s .now) (c .before .before .run .result) (sym (c .before .byte .ensures) ∙ c .if1 .taken))
+add-result c =
+    let a = c .before .before .before .before in
+    omega (arith, byte-inside (a .args .s .now) (c .before .before .run .result) (sym (c .before .byte .ensures) ∙ c .if1 .taken))
 
 -- src/scanning.rt:24:9
 returns : tie.Need-returns

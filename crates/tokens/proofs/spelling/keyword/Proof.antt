@@ -34,7 +34,11 @@ spells-requires-2 c κs = search needs
 -- src/spelling.rt:16:9
 returns-2 : tie.Need-returns-2
 unfolding keywords
-returns-2 c = row-at nameCode 1 keywords (c .before .before .before .before .before .before .before .args .word .now) (sym (c .before .before .before .before .spells .ensures) ∙ c .before .before .before .if1 .left, tt) refl (sym (c .before .spells2 .ensures) ∙ c .if2 .taken)
+returns-2 c =
+    let a = c .before .before .before in
+    let b = a .before in
+    let d = b .before .before .before in
+    row-at nameCode 1 keywords (d .args .word .now) (sym (b .spells .ensures) ∙ a .if1 .left, tt) refl (sym (c .before .spells2 .ensures) ∙ c .if2 .taken)
 
 -- src/spelling.rt:18:21
 slice-aggregate-spells-3 : tie.Need-slice-aggregate-spells-3
@@ -47,7 +51,14 @@ spells-requires-3 c κs = search needs
 -- src/spelling.rt:19:9
 returns-3 : tie.Need-returns-3
 unfolding keywords
-returns-3 c = row-at nameCode 2 keywords (c .before .before .before .before .before .before .before .before .before .before .args .word .now) (sym (c .before .before .before .before .before .before .before .spells .ensures) ∙ c .before .before .before .before .before .before .if1 .left, (sym (c .before .before .before .before .spells2 .ensures) ∙ c .before .before .before .if2 .left, tt)) refl (sym (c .before .spells3 .ensures) ∙ c .if3 .taken)
+returns-3 c =
+    let a = c .before .before .before in
+    let b = a .before in
+    let d = b .before .before in
+    let e = d .before in
+    let f = e .before .before .before in
+    row-at nameCode 2 keywords (f .args .word .now) (sym (e .spells .ensures) ∙ d .if1 .left, (sym (b .spells2 .ensures) ∙ a .if2 .left, tt)) refl
+    (sym (c .before .spells3 .ensures) ∙ c .if3 .taken)
 
 -- src/spelling.rt:21:21
 slice-aggregate-spells-4 : tie.Need-slice-aggregate-spells-4
@@ -60,7 +71,17 @@ spells-requires-4 c κs = search needs
 -- src/spelling.rt:22:9
 returns-4 : tie.Need-returns-4
 unfolding keywords
-returns-4 c = row-at nameCode 3 keywords (c .before .before .before .before .before .before .before .before .before .before .before .before .before .args .word .now) (sym (c .before .before .before .before .before .before .before .before .before .before .spells .ensures) ∙ c .before .before .before .before .before .before .before .before .before .if1 .left, (sym (c .before .before .before .before .before .before .before .spells2 .ensures) ∙ c .before .before .before .before .before .before .if2 .left, (sym (c .before .before .before .before .spells3 .ensures) ∙ c .before .before .before .if3 .left, tt))) refl (sym (c .before .spells4 .ensures) ∙ c .if4 .taken)
+returns-4 c =
+    let a = c .before .before .before in
+    let b = a .before in
+    let d = b .before .before in
+    let e = d .before in
+    let f = e .before .before in
+    let g = f .before in
+    let j = g .before .before .before in
+    row-at nameCode 3 keywords (j .args .word .now)
+    (sym (g .spells .ensures) ∙ f .if1 .left, (sym (e .spells2 .ensures) ∙ d .if2 .left, (sym (b .spells3 .ensures) ∙ a .if3 .left, tt))) refl
+    (sym (c .before .spells4 .ensures) ∙ c .if4 .taken)
 
 -- src/spelling.rt:24:21
 slice-aggregate-spells-5 : tie.Need-slice-aggregate-spells-5
@@ -73,7 +94,20 @@ spells-requires-5 c κs = search needs
 -- src/spelling.rt:25:9
 returns-5 : tie.Need-returns-5
 unfolding keywords
-returns-5 c = row-at nameCode 4 keywords (c .before .before .before .before .before .before .before .before .before .before .before .before .before .before .before .before .args .word .now) (sym (c .before .before .before .before .before .before .before .before .before .before .before .before .before .spells .ensures) ∙ c .before .before .before .before .before .before .before .before .before .before .before .before .if1 .left, (sym (c .before .before .before .before .before .before .before .before .before .before .spells2 .ensures) ∙ c .before .before .before .before .before .before .before .before .before .if2 .left, (sym (c .before .before .before .before .before .before .before .spells3 .ensures) ∙ c .before .before .before .before .before .before .if3 .left, (sym (c .before .before .before .before .spells4 .ensures) ∙ c .before .before .before .if4 .left, tt)))) refl (sym (c .before .spells5 .ensures) ∙ c .if5 .taken)
+returns-5 c =
+    let a = c .before .before .before in
+    let b = a .before in
+    let d = b .before .before in
+    let e = d .before in
+    let f = e .before .before in
+    let g = f .before in
+    let j = g .before .before in
+    let k = j .before in
+    let l = k .before .before .before in
+    row-at nameCode 4 keywords (l .args .word .now) (
+      sym (k .spells .ensures) ∙ j .if1 .left,
+      (sym (g .spells2 .ensures) ∙ f .if2 .left, (sym (e .spells3 .ensures) ∙ d .if3 .left, (sym (b .spells4 .ensures) ∙ a .if4 .left, tt))),
+    ) refl (sym (c .before .spells5 .ensures) ∙ c .if5 .taken)
 
 -- src/spelling.rt:27:21
 slice-aggregate-spells-6 : tie.Need-slice-aggregate-spells-6
@@ -86,7 +120,25 @@ spells-requires-6 c κs = search needs
 -- src/spelling.rt:28:9
 returns-6 : tie.Need-returns-6
 unfolding keywords
-returns-6 c = row-at nameCode 5 keywords (c .before .before .before .before .before .before .before .before .before .before .before .before .before .before .before .before .before .before .before .args .word .now) (sym (c .before .before .before .before .before .before .before .before .before .before .before .before .before .before .before .before .spells .ensures) ∙ c .before .before .before .before .before .before .before .before .before .before .before .before .before .before .before .if1 .left, (sym (c .before .before .before .before .before .before .before .before .before .before .before .before .before .spells2 .ensures) ∙ c .before .before .before .before .before .before .before .before .before .before .before .before .if2 .left, (sym (c .before .before .before .before .before .before .before .before .before .before .spells3 .ensures) ∙ c .before .before .before .before .before .before .before .before .before .if3 .left, (sym (c .before .before .before .before .before .before .before .spells4 .ensures) ∙ c .before .before .before .before .before .before .if4 .left, (sym (c .before .before .before .before .spells5 .ensures) ∙ c .before .before .before .if5 .left, tt))))) refl (sym (c .before .spells6 .ensures) ∙ c .if6 .taken)
+returns-6 c =
+    let a = c .before .before .before in
+    let b = a .before in
+    let d = b .before .before in
+    let e = d .before in
+    let f = e .before .before in
+    let g = f .before in
+    let j = g .before .before in
+    let k = j .before in
+    let l = k .before .before in
+    let m = l .before in
+    let n = m .before .before .before in
+    row-at nameCode 5 keywords (n .args .word .now) (
+      sym (m .spells .ensures) ∙ l .if1 .left,
+      (
+        sym (k .spells2 .ensures) ∙ j .if2 .left,
+        (sym (g .spells3 .ensures) ∙ f .if3 .left, (sym (e .spells4 .ensures) ∙ d .if4 .left, (sym (b .spells5 .ensures) ∙ a .if5 .left, tt))),
+      ),
+    ) refl (sym (c .before .spells6 .ensures) ∙ c .if6 .taken)
 
 -- src/spelling.rt:30:21
 slice-aggregate-spells-7 : tie.Need-slice-aggregate-spells-7
@@ -99,7 +151,30 @@ spells-requires-7 c κs = search needs
 -- src/spelling.rt:31:9
 returns-7 : tie.Need-returns-7
 unfolding keywords
-returns-7 c = row-at nameCode 6 keywords (c .before .before .before .before .before .before .before .before .before .before .before .before .before .before .before .before .before .before .before .before .before .before .args .word .now) (sym (c .before .before .before .before .before .before .before .before .before .before .before .before .before .before .before .before .before .before .before .spells .ensures) ∙ c .before .before .before .before .before .before .before .before .before .before .before .before .before .before .before .before .before .before .if1 .left, (sym (c .before .before .before .before .before .before .before .before .before .before .before .before .before .before .before .before .spells2 .ensures) ∙ c .before .before .before .before .before .before .before .before .before .before .before .before .before .before .before .if2 .left, (sym (c .before .before .before .before .before .before .before .before .before .before .before .before .before .spells3 .ensures) ∙ c .before .before .before .before .before .before .before .before .before .before .before .before .if3 .left, (sym (c .before .before .before .before .before .before .before .before .before .before .spells4 .ensures) ∙ c .before .before .before .before .before .before .before .before .before .if4 .left, (sym (c .before .before .before .before .before .before .before .spells5 .ensures) ∙ c .before .before .before .before .before .before .if5 .left, (sym (c .before .before .before .before .spells6 .ensures) ∙ c .before .before .before .if6 .left, tt)))))) refl (sym (c .before .spells7 .ensures) ∙ c .if7 .taken)
+returns-7 c =
+    let a = c .before .before .before in
+    let b = a .before in
+    let d = b .before .before in
+    let e = d .before in
+    let f = e .before .before in
+    let g = f .before in
+    let j = g .before .before in
+    let k = j .before in
+    let l = k .before .before in
+    let m = l .before in
+    let n = m .before .before in
+    let o = n .before in
+    let p = o .before .before .before in
+    row-at nameCode 6 keywords (p .args .word .now) (
+      sym (o .spells .ensures) ∙ n .if1 .left,
+      (
+        sym (m .spells2 .ensures) ∙ l .if2 .left,
+        (
+          sym (k .spells3 .ensures) ∙ j .if3 .left,
+          (sym (g .spells4 .ensures) ∙ f .if4 .left, (sym (e .spells5 .ensures) ∙ d .if5 .left, (sym (b .spells6 .ensures) ∙ a .if6 .left, tt))),
+        ),
+      ),
+    ) refl (sym (c .before .spells7 .ensures) ∙ c .if7 .taken)
 
 -- src/spelling.rt:33:21
 slice-aggregate-spells-8 : tie.Need-slice-aggregate-spells-8
@@ -112,7 +187,35 @@ spells-requires-8 c κs = search needs
 -- src/spelling.rt:34:9
 returns-8 : tie.Need-returns-8
 unfolding keywords
-returns-8 c = row-at nameCode 7 keywords (c .before .before .before .before .before .before .before .before .before .before .before .before .before .before .before .before .before .before .before .before .before .before .before .before .before .args .word .now) (sym (c .before .before .before .before .before .before .before .before .before .before .before .before .before .before .before .before .before .before .before .before .before .before .spells .ensures) ∙ c .before .before .before .before .before .before .before .before .before .before .before .before .before .before .before .before .before .before .before .before .before .if1 .left, (sym (c .before .before .before .before .before .before .before .before .before .before .before .before .before .before .before .before .before .before .before .spells2 .ensures) ∙ c .before .before .before .before .before .before .before .before .before .before .before .before .before .before .before .before .before .before .if2 .left, (sym (c .before .before .before .before .before .before .before .before .before .before .before .before .before .before .before .before .spells3 .ensures) ∙ c .before .before .before .before .before .before .before .before .before .before .before .before .before .before .before .if3 .left, (sym (c .before .before .before .before .before .before .before .before .before .before .before .before .before .spells4 .ensures) ∙ c .before .before .before .before .before .before .before .before .before .before .before .before .if4 .left, (sym (c .before .before .before .before .before .before .before .before .before .before .spells5 .ensures) ∙ c .before .before .before .before .before .before .before .before .before .if5 .left, (sym (c .before .before .before .before .before .before .before .spells6 .ensures) ∙ c .before .before .before .before .before .before .if6 .left, (sym (c .before .before .before .before .spells7 .ensures) ∙ c .before .before .before .if7 .left, tt))))))) refl (sym (c .before .spells8 .ensures) ∙ c .if8 .taken)
+returns-8 c =
+    let a = c .before .before .before in
+    let b = a .before in
+    let d = b .before .before in
+    let e = d .before in
+    let f = e .before .before in
+    let g = f .before in
+    let j = g .before .before in
+    let k = j .before in
+    let l = k .before .before in
+    let m = l .before in
+    let n = m .before .before in
+    let o = n .before in
+    let p = o .before .before in
+    let q = p .before in
+    let u = q .before .before .before in
+    row-at nameCode 7 keywords (u .args .word .now) (
+      sym (q .spells .ensures) ∙ p .if1 .left,
+      (
+        sym (o .spells2 .ensures) ∙ n .if2 .left,
+        (
+          sym (m .spells3 .ensures) ∙ l .if3 .left,
+          (
+            sym (k .spells4 .ensures) ∙ j .if4 .left,
+            (sym (g .spells5 .ensures) ∙ f .if5 .left, (sym (e .spells6 .ensures) ∙ d .if6 .left, (sym (b .spells7 .ensures) ∙ a .if7 .left, tt))),
+          ),
+        ),
+      ),
+    ) refl (sym (c .before .spells8 .ensures) ∙ c .if8 .taken)
 
 -- src/spelling.rt:36:5
 later-keyword-requires : tie.Need-later-keyword-requires
@@ -121,7 +224,41 @@ later-keyword-requires c κs = search needs
 -- src/spelling.rt:9:1
 returns-9 : tie.Need-returns-9
 unfolding keywords
-returns-9 c = c .later-keyword .ensures ∙ passed nameCode 8 keywords (c .before .before .before .before .before .before .before .before .before .before .before .before .before .before .before .before .before .before .before .before .before .before .before .before .before .before .args .word .now) (sym (c .before .before .before .before .before .before .before .before .before .before .before .before .before .before .before .before .before .before .before .before .before .before .before .spells .ensures) ∙ c .before .before .before .before .before .before .before .before .before .before .before .before .before .before .before .before .before .before .before .before .before .before .if1 .left, (sym (c .before .before .before .before .before .before .before .before .before .before .before .before .before .before .before .before .before .before .before .before .spells2 .ensures) ∙ c .before .before .before .before .before .before .before .before .before .before .before .before .before .before .before .before .before .before .before .if2 .left, (sym (c .before .before .before .before .before .before .before .before .before .before .before .before .before .before .before .before .before .spells3 .ensures) ∙ c .before .before .before .before .before .before .before .before .before .before .before .before .before .before .before .before .if3 .left, (sym (c .before .before .before .before .before .before .before .before .before .before .before .before .before .before .spells4 .ensures) ∙ c .before .before .before .before .before .before .before .before .before .before .before .before .before .if4 .left, (sym (c .before .before .before .before .before .before .before .before .before .before .before .spells5 .ensures) ∙ c .before .before .before .before .before .before .before .before .before .before .if5 .left, (sym (c .before .before .before .before .before .before .before .before .spells6 .ensures) ∙ c .before .before .before .before .before .before .before .if6 .left, (sym (c .before .before .before .before .before .spells7 .ensures) ∙ c .before .before .before .before .if7 .left, (sym (c .before .before .spells8 .ensures) ∙ c .before .if8 .left, tt))))))))
+returns-9 c =
+    let a = c .before .before .before .before in
+    let b = a .before in
+    let d = b .before .before in
+    let e = d .before in
+    let f = e .before .before in
+    let g = f .before in
+    let j = g .before .before in
+    let k = j .before in
+    let l = k .before .before in
+    let m = l .before in
+    let n = m .before .before in
+    let o = n .before in
+    let p = o .before .before in
+    let q = p .before in
+    let u = q .before .before .before in
+    c .later-keyword .ensures ∙ passed nameCode 8 keywords (u .args .word .now) (
+      sym (q .spells .ensures) ∙ p .if1 .left,
+      (
+        sym (o .spells2 .ensures) ∙ n .if2 .left,
+        (
+          sym (m .spells3 .ensures) ∙ l .if3 .left,
+          (
+            sym (k .spells4 .ensures) ∙ j .if4 .left,
+            (
+              sym (g .spells5 .ensures) ∙ f .if5 .left,
+              (
+                sym (e .spells6 .ensures) ∙ d .if6 .left,
+                (sym (b .spells7 .ensures) ∙ a .if7 .left, (sym (c .before .before .spells8 .ensures) ∙ c .before .if8 .left, tt)),
+              ),
+            ),
+          ),
+        ),
+      ),
+    )
 
 pub keyword-spec : {M : Type 1} → statement M
 keyword-spec =

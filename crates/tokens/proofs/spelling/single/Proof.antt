@@ -79,7 +79,23 @@ returns-14 c = rw (c .match .keys14)
 -- src/spelling.rt:103:1
 returns-15 : tie.Need-returns-15
 unfolding codeOf singles spelt
-returns-15 c = let z = c .match .rest in rw (ne-eqb (c .before .args .b) 58 (z .0 .0 .0 .0 .0 .0 .0 .0 .0 .0 .0 .0 .0 .1), ne-eqb (c .before .args .b) 44 (z .0 .0 .0 .0 .0 .0 .0 .0 .0 .0 .0 .0 .1), ne-eqb (c .before .args .b) 46 (z .0 .0 .0 .0 .0 .0 .0 .0 .0 .0 .0 .1), ne-eqb (c .before .args .b) 59 (z .0 .0 .0 .0 .0 .0 .0 .0 .0 .0 .1), ne-eqb (c .before .args .b) 123 (z .0 .0 .0 .0 .0 .0 .0 .0 .0 .1), ne-eqb (c .before .args .b) 125 (z .0 .0 .0 .0 .0 .0 .0 .0 .1), ne-eqb (c .before .args .b) 40 (z .0 .0 .0 .0 .0 .0 .0 .1), ne-eqb (c .before .args .b) 41 (z .0 .0 .0 .0 .0 .0 .1), ne-eqb (c .before .args .b) 43 (z .0 .0 .0 .0 .0 .1), ne-eqb (c .before .args .b) 45 (z .0 .0 .0 .0 .1), ne-eqb (c .before .args .b) 42 (z .0 .0 .0 .1), ne-eqb (c .before .args .b) 60 (z .0 .0 .1), ne-eqb (c .before .args .b) 61 (z .0 .1), ne-eqb (c .before .args .b) 62 (z .1))
+returns-15 c =
+    let z = c .match .rest in rw (
+      ne-eqb (c .before .args .b) 58 (z .0 .0 .0 .0 .0 .0 .0 .0 .0 .0 .0 .0 .0 .1),
+      ne-eqb (c .before .args .b) 44 (z .0 .0 .0 .0 .0 .0 .0 .0 .0 .0 .0 .0 .1),
+      ne-eqb (c .before .args .b) 46 (z .0 .0 .0 .0 .0 .0 .0 .0 .0 .0 .0 .1),
+      ne-eqb (c .before .args .b) 59 (z .0 .0 .0 .0 .0 .0 .0 .0 .0 .0 .1),
+      ne-eqb (c .before .args .b) 123 (z .0 .0 .0 .0 .0 .0 .0 .0 .0 .1),
+      ne-eqb (c .before .args .b) 125 (z .0 .0 .0 .0 .0 .0 .0 .0 .1),
+      ne-eqb (c .before .args .b) 40 (z .0 .0 .0 .0 .0 .0 .0 .1),
+      ne-eqb (c .before .args .b) 41 (z .0 .0 .0 .0 .0 .0 .1),
+      ne-eqb (c .before .args .b) 43 (z .0 .0 .0 .0 .0 .1),
+      ne-eqb (c .before .args .b) 45 (z .0 .0 .0 .0 .1),
+      ne-eqb (c .before .args .b) 42 (z .0 .0 .0 .1),
+      ne-eqb (c .before .args .b) 60 (z .0 .0 .1),
+      ne-eqb (c .before .args .b) 61 (z .0 .1),
+      ne-eqb (c .before .args .b) 62 (z .1),
+    )
 
 pub single-spec : {M : Type 1} → statement M
 single-spec =

@@ -38,7 +38,15 @@ returns-5 c = rw (c .match .keys5)
 -- src/spelling.rt:73:1
 returns-6 : tie.Need-returns-6
 unfolding codeOf pairs spelt
-returns-6 c = let z = c .match .rest in rw (ne-eqb (c .before .args .b) 58 (z .0 .0 .0 .0 .1), ne-eqb (c .before .args .b) 61 (z .0 .0 .0 .1), ne-eqb (c .before .args .b) 60 (z .0 .0 .1), ne-eqb (c .before .args .b) 33 (z .0 .1), ne-eqb (c .before .args .b) 62 (z .1), and-false (eqb (c .before .args .b) 47) false refl)
+returns-6 c =
+    let z = c .match .rest in rw (
+      ne-eqb (c .before .args .b) 58 (z .0 .0 .0 .0 .1),
+      ne-eqb (c .before .args .b) 61 (z .0 .0 .0 .1),
+      ne-eqb (c .before .args .b) 60 (z .0 .0 .1),
+      ne-eqb (c .before .args .b) 33 (z .0 .1),
+      ne-eqb (c .before .args .b) 62 (z .1),
+      and-false (eqb (c .before .args .b) 47) false refl,
+    )
 
 pub with-equals-spec : {M : Type 1} → statement M
 with-equals-spec = tie.close (tie.spec returns returns-2 returns-3 returns-4 returns-5 returns-6)

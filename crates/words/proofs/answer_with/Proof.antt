@@ -1,11 +1,11 @@
 use mathlib.Core.Path.{refl}
 use Rattle.words.proofs.Signed.{back32}
 use borrow.Author.Needs.{needs}
-use Rattle.text.proofs.whole.answer_with.Statement.{statement}
-use Rattle.text.proofs.whole.answer_with.Tie as tie
-use Rattle.text.proofs.whole.answer_with.Reads as reads
-use Rattle.text.proofs.whole.answer_with.Lts as lts
+use Rattle.words.proofs.answer_with.Statement.{statement}
+use Rattle.words.proofs.answer_with.Tie as tie
+use Rattle.words.proofs.answer_with.Reads as reads
+use Rattle.words.proofs.answer_with.Lts as lts
 use Rattle.words.proofs.word_of.Reads as word-of-reads
 
 -- src/whole.rt:85:9
 word-of-requires : tie.Need-word-of-requires
