@@ -37,6 +37,9 @@ NESTING = {
 # The calls, and how many bytes fail.
 CALLS = {"cordbasin_run": 65536, "cordbasin_read": 131072}
 MEMORY = {"memcpy", "memmove", "memset", "memcmp"}
+# A large frame is taken a page at a time, in a loop that ends at an address worked out here. On x86-64 %r11 is so far below %rsp, or a copy of
+# %rsp from which so much is taken.
+PAGED = re.compile(r"\bsub\s+x\d+, sp, #(?P<pages>0x[0-9a-f]+), lsl #12|\b(?:lea\s+-0x(?P<far>[0-9a-f]+)\(%rsp\)|sub\s+\$0x(?P<less>[0-9a-f]+)),%r11")
 
 
 def disassembled(archive):
@@ -54,7 +57,7 @@ def functions(archive):
     said = disassembled(archive)
     # a call stores the address to return to, on AArch64 in the frame
     entry = 8 if "x86-64" in said else 0
-    found, name, calls_itself, probed = {}, None, False, False
+    found, name, calls_itself, probed, before = {}, None, False, False, ""
     for line in said.splitlines():
         head = re.match(r"^[0-9a-f]+ <(.+)>:$", line)
         if head:
@@ -64,12 +67,13 @@ def functions(archive):
         if name is None:
             continue
         frame, calls = found[name]
-        # a large frame is taken a page at a time, in a loop that ends at this address
-        page = re.search(r"\bsub\s+x\d+, sp, #(0x[0-9a-f]+)(, lsl #12)|\blea\s+-0x([0-9a-f]+)\(%rsp\),%r11", line)
+        paged = PAGED.search(line)
+        if paged and paged["less"] and not before.endswith("%rsp,%r11"):
+            paged = None
+        before = line.rstrip()
         grown = re.search(r"\bsub\s+sp, sp, #(0x[0-9a-f]+|\d+)(, lsl #12)?|\[sp, #-(\d+)\]!|\bsub\s+\$0x([0-9a-f]+),%rsp", line)
-        if page:
-            size, shifted, wide = page.groups()
-            found[name][0] = frame + (int(size, 0) << 12 if shifted else int(wide, 16))
+        if paged:
+            found[name][0] = frame + (int(paged["pages"], 0) << 12 if paged["pages"] else int(paged["far"] or paged["less"], 16))
             probed = True
         elif grown and probed:
             probed = False

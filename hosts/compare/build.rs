@@ -1,18 +1,19 @@
-//! Links the proved archives. That of crates/sheet is for this machine. That of
-//! crates/compared is x86-64 code; on another machine it goes into a small
-//! program that the kit's emulator runs. That of crates/cordbasin comes with the
-//! crate of hosts/rust.
+//! Links the proved archives. That of crates/sheet is for this machine, and so
+//! is that of crates/cordbasin, which comes with the crate of hosts/rust. That
+//! of crates/compared is x86-64 code; on another machine it goes into a small
+//! program that the kit's emulator runs, with the x86-64 code of crates/cordbasin.
 
 use std::path::{Path, PathBuf};
 use std::process::{exit, Command};
 
 const COMPARED: &str = "../../target/staticlib/libcompared.a";
+const CORDBASIN: &str = "../../target/staticlib/libcordbasin.a";
 const NATIVE: [&str; 1] = ["sheet"];
 const BRIDGE: &str = "bridge/bridge.c";
 
 fn main() {
     let root = PathBuf::from(variable("CARGO_MANIFEST_DIR"));
-    for file in [COMPARED, BRIDGE] {
+    for file in [COMPARED, CORDBASIN, BRIDGE] {
         println!("cargo:rerun-if-changed={file}");
     }
     let compared = root.join(COMPARED);
@@ -22,7 +23,11 @@ fn main() {
     if variable("CARGO_CFG_TARGET_ARCH") == "x86_64" {
         link(&compared, "compared");
     } else {
-        bridge(&root.join(BRIDGE), &compared);
+        let cordbasin = root.join(CORDBASIN);
+        if !cordbasin.is_file() {
+            fail("target/staticlib/libcordbasin.a is missing: run `rt staticlib cordbasin` first");
+        }
+        bridge(&root.join(BRIDGE), &[&compared, &cordbasin]);
     }
     for name in NATIVE {
         let file = format!("../../target/native/lib{name}.a");
@@ -43,7 +48,7 @@ fn link(archive: &Path, name: &str) {
     println!("cargo:rustc-link-lib=static={name}");
 }
 
-fn bridge(source: &Path, archive: &Path) {
+fn bridge(source: &Path, archives: &[&Path]) {
     let tools = tools();
     let program = PathBuf::from(variable("OUT_DIR")).join("bridge");
     let done = Command::new(tools.join("clang"))
@@ -55,7 +60,8 @@ fn bridge(source: &Path, archive: &Path) {
         ])
         .args(["-ffreestanding", "-fno-stack-protector", "-fno-pic"])
         .args(["-nostdlib", "-static", "-fuse-ld=lld", "-o"])
-        .args([&program, source, archive])
+        .args([&program, source])
+        .args(archives)
         .status();
     if !done.is_ok_and(|status| status.success()) {
         fail("the kit's clang did not make the bridge");

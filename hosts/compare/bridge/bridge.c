@@ -1,12 +1,14 @@
-/* Answers from the proved archive, for a machine that cannot link it. A question on standard input begins with a 0 or a 1.
+/* Answers from the proved archives, for a machine that cannot link them. A question on standard input begins with a 0, a 1 or a 2.
    0, of the reader: three counts, of the program's words, places and tables; the places; the program; the tables. The
    answer is the program's number, then one for each place and each table.
    1, of pieces: five counts, of the words of the program, the environment, the heap and the constraints, and of pieces;
-   each piece's call and first word; the program; the tables. The answer is four words for each piece. */
+   each piece's call and first word; the program; the tables. The answer is four words for each piece.
+   2, of a text: four counts, of its bytes and of the words of program, origins and names; the bytes; these words. The answer
+   is the four words of the reading's answer, how many words the program has, and program, origins and names. */
 typedef __INT32_TYPE__ word;
 typedef __SIZE_TYPE__ number;
 
-enum { WORDS = 8192, PLACES = 1024, TABLES = 64, TABLE_WORDS = 98, PIECES = 256 };
+enum { WORDS = 8192, PLACES = 1024, TABLES = 64, TABLE_WORDS = 98, PIECES = 256, BYTES = 1 << 20, LENT = 3 };
 
 number compared_program(const word *program, number words);
 number compared_statement(const word *program, number words, number at);
@@ -17,9 +19,12 @@ void compared_test(const word *environment, number e, const word *heap, number h
 void compared_parts(const word *environment, number e, const word *heap, number h, const word *p, number n, word *answer, number a);
 void compared_kept(const word *program, number words, const word *environment, number e, const word *heap, number h,
                    const word *constraints, number c, word *answer, number a);
+number cordbasin_read(const unsigned char *text, number bytes, word *program, number p, word *origins, number o, word *names,
+                      number n, word *answer);
 
 static number what, counts[5], places[PLACES], answers[1 + PLACES + TABLES], pieces[PIECES][2];
-static word program[WORDS], tables[TABLES][TABLE_WORDS], environment[WORDS], heap[WORDS], constraints[WORDS], fours[PIECES][4];
+static word program[WORDS], tables[TABLES][TABLE_WORDS], environment[WORDS], heap[WORDS], constraints[WORDS], fours[PIECES][4], lent[LENT][WORDS];
+static unsigned char text[BYTES];
 
 static long call(long what, long first, const void *second, number third)
 {
@@ -28,11 +33,18 @@ static long call(long what, long first, const void *second, number third)
     return result;
 }
 
-/* The archive's own call for a row of equal bytes; there is no C library here. */
+/* The archives' own calls for a row of equal bytes, and for a copy; there is no C library here. */
 void *memset(void *to, int byte, number count)
 {
     void *at = to;
     __asm__ volatile("rep stosb" : "+D"(at), "+c"(count) : "a"(byte) : "memory");
+    return to;
+}
+
+void *memcpy(void *to, const void *from, number count)
+{
+    void *at = to;
+    __asm__ volatile("rep movsb" : "+D"(at), "+S"(from), "+c"(count) : : "memory");
     return to;
 }
 
@@ -100,14 +112,30 @@ static void answer_pieces(void)
     pass(1, fours, counts[4] * sizeof *fours, 0);
 }
 
+static void answer_text(void)
+{
+    pass(0, counts, 4 * sizeof *counts, 0);
+    if (counts[0] > BYTES || counts[1] > WORDS || counts[2] > WORDS || counts[3] > WORDS)
+        leave(2);
+    pass(0, text, counts[0], 0);
+    for (int i = 0; i < LENT; i++)
+        pass(0, lent[i], counts[1 + i] * sizeof **lent, 0);
+    answers[0] = cordbasin_read(text, counts[0], lent[0], counts[1], lent[1], counts[2], lent[2], counts[3], fours[0]);
+    pass(1, fours[0], sizeof fours[0], 0);
+    pass(1, answers, sizeof *answers, 0);
+    for (int i = 0; i < LENT; i++)
+        pass(1, lent[i], counts[1 + i] * sizeof **lent, 0);
+}
+
 __attribute__((noreturn, used)) static void serve(void)
 {
     for (;;) {
         pass(0, &what, sizeof what, 1);
-        if (what == 0)
-            answer_reader();
-        else
-            answer_pieces();
+        switch (what) {
+        case 0: answer_reader(); break;
+        case 1: answer_pieces(); break;
+        default: answer_text();
+        }
     }
 }
 

@@ -1,6 +1,6 @@
-//! The proved archive in a program of its own, run by the kit's emulator.
+//! The proved archives in a program of their own, run by the kit's emulator.
 
-use super::{Answer, Four, Pieces, Question};
+use super::{Answer, Four, Pieces, Question, Reading};
 use std::io::{self, BufReader, Read, Write};
 use std::process::{Child, ChildStdin, ChildStdout, Command, Stdio};
 
@@ -42,6 +42,18 @@ impl Proved {
         (0..question.pieces.len()).map(|_| self.four()).collect()
     }
 
+    /// What `cordbasin_read` answers and how many words it returns; program,
+    /// origins and names are lent.
+    pub fn read(&mut self, text: &[u8], lent: &mut [Vec<i32>; 3]) -> io::Result<Option<Reading>> {
+        self.send(&text_bytes(text, lent))?;
+        let four = self.four()?;
+        let words = self.number()?;
+        for word in lent.iter_mut().flatten() {
+            *word = self.word()?;
+        }
+        Ok(Some((four, words)))
+    }
+
     fn send(&mut self, bytes: &[u8]) -> io::Result<()> {
         let questions = self.questions.as_mut();
         let questions = questions.ok_or(io::ErrorKind::BrokenPipe)?;
@@ -52,11 +64,15 @@ impl Proved {
     fn four(&mut self) -> io::Result<Four> {
         let mut four = [0; 4];
         for word in &mut four {
-            let mut bytes = [0; 4];
-            self.answers.read_exact(&mut bytes)?;
-            *word = i32::from_le_bytes(bytes);
+            *word = self.word()?;
         }
         Ok(four)
+    }
+
+    fn word(&mut self) -> io::Result<i32> {
+        let mut bytes = [0; 4];
+        self.answers.read_exact(&mut bytes)?;
+        Ok(i32::from_le_bytes(bytes))
     }
 
     fn numbers(&mut self, count: usize) -> io::Result<Vec<usize>> {
@@ -114,5 +130,13 @@ fn piece_bytes(question: &Pieces) -> Vec<u8> {
             .flatten()
             .flat_map(|word| word.to_le_bytes()),
     );
+    bytes
+}
+
+fn text_bytes(text: &[u8], lent: &[Vec<i32>; 3]) -> Vec<u8> {
+    let counts = [2, text.len()].into_iter().chain(lent.iter().map(Vec::len));
+    let mut bytes: Vec<u8> = counts.flat_map(usize::to_le_bytes).collect();
+    bytes.extend(text);
+    bytes.extend(lent.iter().flatten().flat_map(|word| word.to_le_bytes()));
     bytes
 }

@@ -1,6 +1,6 @@
 //! The proved archive linked into this program.
 
-use super::{Answer, Call, Four, Piece, Pieces, Question};
+use super::{Answer, Call, Four, Piece, Pieces, Question, Reading};
 use std::io;
 
 extern "C" {
@@ -87,6 +87,11 @@ impl Proved {
     pub fn ask_pieces(&mut self, question: &Pieces) -> io::Result<Vec<Four>> {
         let pieces = question.pieces.iter();
         Ok(pieces.map(|piece| answer(question, *piece)).collect())
+    }
+
+    /// Nothing here: the call of hosts/rust is x86-64 code already.
+    pub fn read(&mut self, _text: &[u8], _lent: &mut [Vec<i32>; 3]) -> io::Result<Option<Reading>> {
+        Ok(None)
     }
 }
 

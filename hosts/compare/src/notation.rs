@@ -1,14 +1,19 @@
 //! The papers' notation: what the C call and the independent program read from
-//! the same text.
+//! the same text. Where the call is not x86-64 code, that code reads it too.
 
 use crate::comparison::Stop;
+use crate::proved::Proved;
 use reference::generator::texts;
 use reference::text::{self, NAME_WORDS, PROGRAM_WORDS};
 use std::collections::BTreeMap;
 use std::fmt;
+use std::io;
 
 /// What the lent words hold before a text is read.
 const BEFORE: i32 = -77;
+
+/// The words of program, origins and names.
+const LENGTHS: [usize; 3] = [PROGRAM_WORDS, PROGRAM_WORDS, NAME_WORDS];
 
 /// In a table of names the labels follow so many variables.
 const VARIABLES: usize = 64;
@@ -19,6 +24,8 @@ pub struct Tally {
     pub outcomes: BTreeMap<i32, u64>,
     pub bytes: usize,
     pub words: usize,
+    /// How many of them were read by x86-64 code under the emulator too.
+    pub emulated: u64,
 }
 
 /// All that a reading leaves.
@@ -35,12 +42,17 @@ struct Left {
 }
 
 pub fn compare(seed: u64, count: u64) -> Result<Tally, Stop> {
+    let mut proved = Proved::start()?;
     let mut tally = Tally::default();
     for index in 0..count {
         let text = texts::text(seed, index);
-        let (outcome, words) = compare_text(&text).map_err(|difference| {
-            Stop::Difference(format!("text {index} of seed {seed}\n{difference}"))
-        })?;
+        let named =
+            |difference| Stop::Difference(format!("text {index} of seed {seed}\n{difference}"));
+        let (outcome, words) = compare_text(&text).map_err(named)?;
+        if let Some(left) = emulated(&mut proved, &text)? {
+            same(&text, left, read(&text, LENGTHS)).map_err(named)?;
+            tally.emulated += 1;
+        }
         *tally.outcomes.entry(outcome).or_default() += 1;
         tally.bytes += text.len();
         tally.words += words;
@@ -51,16 +63,15 @@ pub fn compare(seed: u64, count: u64) -> Result<Tally, Stop> {
 /// Outcome and number of words, where both leave the same: in words of the
 /// right lengths, and in some of another length.
 pub fn compare_text(text: &[u8]) -> Result<(i32, usize), String> {
-    let lengths = [PROGRAM_WORDS, PROGRAM_WORDS, NAME_WORDS];
-    let read = compare_lent(text, lengths)?;
-    let wrong = lengths.get(text.len() % 3).copied().unwrap_or_default();
-    compare_lent(text, lengths.map(|n| if n == wrong { n - 1 } else { n }))?;
+    let read = compare_lent(text, LENGTHS)?;
+    let wrong = LENGTHS.get(text.len() % 3).copied().unwrap_or_default();
+    compare_lent(text, LENGTHS.map(|n| if n == wrong { n - 1 } else { n }))?;
     Ok(read)
 }
 
 /// The whole answer of the C call in the lines of a `.read` of sheets/notation.
 pub fn answer(text: &[u8]) -> String {
-    let left = call(text, [PROGRAM_WORDS, PROGRAM_WORDS, NAME_WORDS]);
+    let left = call(text, LENGTHS);
     let mut lines = vec![
         format!("outcome={}", left.outcome),
         format!("place={}", left.place),
@@ -91,7 +102,10 @@ fn named((number, name): (usize, &[i32])) -> String {
 }
 
 fn compare_lent(text: &[u8], lengths: [usize; 3]) -> Result<(i32, usize), String> {
-    let (proved, independent) = (call(text, lengths), read(text, lengths));
+    same(text, call(text, lengths), read(text, lengths))
+}
+
+fn same(text: &[u8], proved: Left, independent: Left) -> Result<(i32, usize), String> {
     if proved == independent {
         return Ok((proved.outcome, proved.words));
     }
@@ -104,16 +118,12 @@ fn compare_lent(text: &[u8], lengths: [usize; 3]) -> Result<(i32, usize), String
     ))
 }
 
-fn lent([program, origins, names]: [usize; 3]) -> (Vec<i32>, Vec<i32>, Vec<i32>) {
-    (
-        vec![BEFORE; program],
-        vec![BEFORE; origins],
-        vec![BEFORE; names],
-    )
+fn lent(lengths: [usize; 3]) -> [Vec<i32>; 3] {
+    lengths.map(|length| vec![BEFORE; length])
 }
 
 fn call(text: &[u8], lengths: [usize; 3]) -> Left {
-    let (mut program, mut origins, mut names) = lent(lengths);
+    let [mut program, mut origins, mut names] = lent(lengths);
     let reading = cordbasin::read_words(text, &mut program, &mut origins, &mut names);
     Left {
         outcome: reading.outcome.number(),
@@ -127,8 +137,28 @@ fn call(text: &[u8], lengths: [usize; 3]) -> Left {
     }
 }
 
+/// What x86-64 code leaves, where the call is other code.
+fn emulated(proved: &mut Proved, text: &[u8]) -> io::Result<Option<Left>> {
+    let mut lent = lent(LENGTHS);
+    let told = proved.read(text, &mut lent)?;
+    let [program, origins, names] = lent;
+    let number = |word: i32| usize::try_from(word).unwrap_or(usize::MAX);
+    Ok(
+        told.map(|([outcome, place, variables, labels], words)| Left {
+            outcome,
+            place: number(place),
+            variables: number(variables),
+            labels: number(labels),
+            words,
+            program,
+            origins,
+            names,
+        }),
+    )
+}
+
 fn read(text: &[u8], lengths: [usize; 3]) -> Left {
-    let (mut program, mut origins, mut names) = lent(lengths);
+    let [mut program, mut origins, mut names] = lent(lengths);
     let answer = text::read_into(text, &mut program, &mut origins, &mut names);
     Left {
         outcome: answer.outcome,
@@ -153,6 +183,9 @@ impl fmt::Display for Tally {
         for (outcome, texts) in &self.outcomes {
             write!(out, " {outcome}: {texts}")?;
         }
-        Ok(())
+        match self.emulated {
+            0 => Ok(()),
+            texts => write!(out, "; {texts} of them by x86-64 code too"),
+        }
     }
 }

@@ -1,4 +1,5 @@
-//! The proved functions of crates/compared.
+//! The proved functions of crates/compared, and the x86-64 code of the call
+//! that reads texts.
 
 #[cfg_attr(target_arch = "x86_64", path = "linked.rs")]
 #[cfg_attr(not(target_arch = "x86_64"), path = "bridged.rs")]
@@ -39,6 +40,9 @@ pub struct Pieces {
 /// expression: kind, payload, words left. A test: 1 or 0. Constraints: 1 where
 /// all parts are satisfied, 1 where the required ones are.
 pub type Four = [i32; 4];
+
+/// The four words of a reading's answer, and how many words its program has.
+pub type Reading = (Four, usize);
 
 /// All that is asked about one program; each table has 98 words.
 #[derive(Debug, Default)]
