@@ -1,14 +1,16 @@
-/* Answers from the proved archives, for a machine that cannot link them. A question on standard input begins with a 0, a 1 or a 2.
+/* Answers from the proved archives, for a machine that cannot link them. A question on standard input begins with a number, 0 to 3.
    0, of the reader: three counts, of the program's words, places and tables; the places; the program; the tables. The
    answer is the program's number, then one for each place and each table.
    1, of pieces: five counts, of the words of the program, the environment, the heap and the constraints, and of pieces;
    each piece's call and first word; the program; the tables. The answer is four words for each piece.
    2, of a text: four counts, of its bytes and of the words of program, origins and names; the bytes; these words. The answer
-   is the four words of the reading's answer, how many words the program has, and program, origins and names. */
+   is the four words of the reading's answer, how many words the program has, and program, origins and names.
+   3, of a run: five counts, of the words of program, environment, heap, constraints and proposals; the budget; these words.
+   The answer is the four words of the run's answer, how many words of the proposals are unread, and the three tables. */
 typedef __INT32_TYPE__ word;
 typedef __SIZE_TYPE__ number;
 
-enum { WORDS = 8192, PLACES = 1024, TABLES = 64, TABLE_WORDS = 98, PIECES = 256, BYTES = 1 << 20, LENT = 3 };
+enum { WORDS = 8192, PLACES = 1024, TABLES = 64, TABLE_WORDS = 98, PIECES = 256, BYTES = 1 << 20, LENT = 3, ROWS = 5 };
 
 number compared_program(const word *program, number words);
 number compared_statement(const word *program, number words, number at);
@@ -21,9 +23,11 @@ void compared_kept(const word *program, number words, const word *environment, n
                    const word *constraints, number c, word *answer, number a);
 number cordbasin_read(const unsigned char *text, number bytes, word *program, number p, word *origins, number o, word *names,
                       number n, word *answer);
+number cordbasin_run(const word *program, number p, word *environment, number e, word *heap, number h, word *constraints, number c,
+                     const word *proposals, number r, word budget, word *answer);
 
 static number what, counts[5], places[PLACES], answers[1 + PLACES + TABLES], pieces[PIECES][2];
-static word program[WORDS], tables[TABLES][TABLE_WORDS], environment[WORDS], heap[WORDS], constraints[WORDS], fours[PIECES][4], lent[LENT][WORDS];
+static word program[WORDS], tables[TABLES][TABLE_WORDS], environment[WORDS], heap[WORDS], constraints[WORDS], fours[PIECES][4], lent[LENT][WORDS], rows[ROWS][WORDS], budget;
 static unsigned char text[BYTES];
 
 static long call(long what, long first, const void *second, number third)
@@ -127,6 +131,23 @@ static void answer_text(void)
         pass(1, lent[i], counts[1 + i] * sizeof **lent, 0);
 }
 
+static void answer_run(void)
+{
+    pass(0, counts, ROWS * sizeof *counts, 0);
+    pass(0, &budget, sizeof budget, 0);
+    for (int i = 0; i < ROWS; i++) {
+        if (counts[i] > WORDS)
+            leave(2);
+        pass(0, rows[i], counts[i] * sizeof **rows, 0);
+    }
+    answers[0] = cordbasin_run(rows[0], counts[0], rows[1], counts[1], rows[2], counts[2], rows[3], counts[3], rows[4], counts[4],
+                               budget, fours[0]);
+    pass(1, fours[0], sizeof fours[0], 0);
+    pass(1, answers, sizeof *answers, 0);
+    for (int i = 1; i <= LENT; i++)
+        pass(1, rows[i], counts[i] * sizeof **rows, 0);
+}
+
 __attribute__((noreturn, used)) static void serve(void)
 {
     for (;;) {
@@ -134,7 +155,8 @@ __attribute__((noreturn, used)) static void serve(void)
         switch (what) {
         case 0: answer_reader(); break;
         case 1: answer_pieces(); break;
-        default: answer_text();
+        case 2: answer_text(); break;
+        default: answer_run();
         }
     }
 }

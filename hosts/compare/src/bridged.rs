@@ -1,6 +1,6 @@
 //! The proved archives in a program of their own, run by the kit's emulator.
 
-use super::{Answer, Four, Pieces, Question, Reading};
+use super::{Answer, Four, Pieces, Question, Told};
 use std::io::{self, BufReader, Read, Write};
 use std::process::{Child, ChildStdin, ChildStdout, Command, Stdio};
 
@@ -42,16 +42,33 @@ impl Proved {
         (0..question.pieces.len()).map(|_| self.four()).collect()
     }
 
-    /// What `cordbasin_read` answers and how many words it returns; program,
-    /// origins and names are lent.
-    pub fn read(&mut self, text: &[u8], lent: &mut [Vec<i32>; 3]) -> io::Result<Option<Reading>> {
+    /// What `cordbasin_read` answers and returns; program, origins and names
+    /// are lent.
+    pub fn read(&mut self, text: &[u8], lent: &mut [Vec<i32>; 3]) -> io::Result<Option<Told>> {
         self.send(&text_bytes(text, lent))?;
+        self.told(lent)
+    }
+
+    /// What `cordbasin_run` answers and returns; environment, heap and
+    /// constraints are lent.
+    pub fn run(
+        &mut self,
+        program: &[i32],
+        tables: &mut [Vec<i32>; 3],
+        proposals: &[i32],
+        budget: i32,
+    ) -> io::Result<Option<Told>> {
+        self.send(&run_bytes(program, tables, proposals, budget))?;
+        self.told(tables)
+    }
+
+    fn told(&mut self, lent: &mut [Vec<i32>; 3]) -> io::Result<Option<Told>> {
         let four = self.four()?;
-        let words = self.number()?;
+        let number = self.number()?;
         for word in lent.iter_mut().flatten() {
             *word = self.word()?;
         }
-        Ok(Some((four, words)))
+        Ok(Some((four, number)))
     }
 
     fn send(&mut self, bytes: &[u8]) -> io::Result<()> {
@@ -138,5 +155,20 @@ fn text_bytes(text: &[u8], lent: &[Vec<i32>; 3]) -> Vec<u8> {
     let mut bytes: Vec<u8> = counts.flat_map(usize::to_le_bytes).collect();
     bytes.extend(text);
     bytes.extend(lent.iter().flatten().flat_map(|word| word.to_le_bytes()));
+    bytes
+}
+
+fn run_bytes(program: &[i32], tables: &[Vec<i32>; 3], proposals: &[i32], budget: i32) -> Vec<u8> {
+    let [environment, heap, constraints] = tables;
+    let lists = [program, environment, heap, constraints, proposals];
+    let counts = [3].into_iter().chain(lists.map(<[i32]>::len));
+    let mut bytes: Vec<u8> = counts.flat_map(usize::to_le_bytes).collect();
+    bytes.extend(budget.to_le_bytes());
+    bytes.extend(
+        lists
+            .into_iter()
+            .flatten()
+            .flat_map(|word| word.to_le_bytes()),
+    );
     bytes
 }

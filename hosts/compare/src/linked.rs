@@ -1,6 +1,6 @@
 //! The proved archive linked into this program.
 
-use super::{Answer, Call, Four, Piece, Pieces, Question, Reading};
+use super::{Answer, Call, Four, Piece, Pieces, Question, Told};
 use std::io;
 
 extern "C" {
@@ -89,8 +89,19 @@ impl Proved {
         Ok(pieces.map(|piece| answer(question, *piece)).collect())
     }
 
-    /// Nothing here: the call of hosts/rust is x86-64 code already.
-    pub fn read(&mut self, _text: &[u8], _lent: &mut [Vec<i32>; 3]) -> io::Result<Option<Reading>> {
+    /// Nothing here: the calls of hosts/rust are x86-64 code already.
+    pub fn read(&mut self, _text: &[u8], _lent: &mut [Vec<i32>; 3]) -> io::Result<Option<Told>> {
+        Ok(None)
+    }
+
+    /// As `read`.
+    pub fn run(
+        &mut self,
+        _program: &[i32],
+        _tables: &mut [Vec<i32>; 3],
+        _proposals: &[i32],
+        _budget: i32,
+    ) -> io::Result<Option<Told>> {
         Ok(None)
     }
 }

@@ -1,5 +1,5 @@
-//! The proved functions of crates/compared, and the x86-64 code of the call
-//! that reads texts.
+//! The proved functions of crates/compared, and the x86-64 code of the calls
+//! of crates/cordbasin.
 
 #[cfg_attr(target_arch = "x86_64", path = "linked.rs")]
 #[cfg_attr(not(target_arch = "x86_64"), path = "bridged.rs")]
@@ -41,8 +41,8 @@ pub struct Pieces {
 /// all parts are satisfied, 1 where the required ones are.
 pub type Four = [i32; 4];
 
-/// The four words of a reading's answer, and how many words its program has.
-pub type Reading = (Four, usize);
+/// The four words of a call's answer, and the number that it returns.
+pub type Told = (Four, usize);
 
 /// All that is asked about one program; each table has 98 words.
 #[derive(Debug, Default)]

@@ -1,6 +1,8 @@
 //! Whole sheets: the C call and the independent program on the same words.
+//! Where the call is not x86-64 code, that code runs them too.
 
 use crate::comparison::Stop;
+use crate::proved::Proved;
 use reference::batch::{Finish, Sheet};
 use reference::generator;
 use reference::outcome::Outcome;
@@ -17,6 +19,8 @@ const OUTCOMES: usize = Outcome::ALL.len();
 #[derive(Debug)]
 pub struct Tally {
     pub outcomes: [u64; OUTCOMES],
+    /// How many of them x86-64 code ran under the emulator too.
+    pub emulated: u64,
     pub seconds: f64,
 }
 
@@ -24,6 +28,7 @@ pub struct Tally {
 #[derive(Default)]
 struct Seen {
     outcomes: [u64; OUTCOMES],
+    emulated: u64,
     difference: Option<(u64, String)>,
 }
 
@@ -39,25 +44,34 @@ pub fn compare(seed: u64, count: u64) -> Result<Tally, Stop> {
             .map(|own| scope.spawn(move || work(own)))
             .collect();
         let ended = started.into_iter().map(|thread| thread.join());
-        ended.collect::<Result<Vec<Seen>, _>>()
+        ended.collect::<Result<io::Result<Vec<Seen>>, _>>()
     });
-    let all = all.map_err(|_| io::Error::other("a thread panicked"))?;
+    let all = all.map_err(|_| io::Error::other("a thread panicked"))??;
     let differences = all.iter().filter_map(|seen| seen.difference.as_ref());
     if let Some((_, text)) = differences.min() {
         return Err(Stop::Difference(text.clone()));
     }
     Ok(Tally {
         outcomes: std::array::from_fn(|n| all.iter().map(|seen| seen.outcomes[n]).sum()),
+        emulated: all.iter().map(|seen| seen.emulated).sum(),
         seconds: start.elapsed().as_secs_f64(),
     })
 }
 
 /// Compares the sheets of these numbers up to the end, which the first
 /// difference of any thread brings nearer.
-fn compare_some(seed: u64, end: &AtomicU64, numbers: impl Iterator<Item = u64>) -> Seen {
+fn compare_some(
+    seed: u64,
+    end: &AtomicU64,
+    numbers: impl Iterator<Item = u64>,
+) -> io::Result<Seen> {
+    let mut proved = Proved::start()?;
     let mut seen = Seen::default();
     for index in numbers.take_while(|index| *index < end.load(Ordering::Relaxed)) {
-        match compare_sheet(&generator::sheet(seed, index)) {
+        let sheet = generator::sheet(seed, index);
+        let emulated = emulated(&mut proved, &sheet)?;
+        seen.emulated += u64::from(emulated.is_some());
+        match compare_sheet(&sheet, emulated) {
             Ok(outcome) => seen.outcomes[outcome] += 1,
             Err(text) => {
                 end.fetch_min(index, Ordering::Relaxed);
@@ -66,12 +80,19 @@ fn compare_some(seed: u64, end: &AtomicU64, numbers: impl Iterator<Item = u64>) 
             }
         }
     }
-    seen
+    Ok(seen)
 }
 
-/// The outcome, where both give the same answer and tables.
-fn compare_sheet(sheet: &Sheet) -> Result<usize, String> {
-    let (proved, independent) = (call(sheet), sheet.answer());
+/// The outcome, where all give the same answer and tables.
+fn compare_sheet(sheet: &Sheet, emulated: Option<Finish>) -> Result<usize, String> {
+    let independent = sheet.answer();
+    if let Some(finish) = emulated {
+        same(sheet, &finish, &independent)?;
+    }
+    same(sheet, &call(sheet), &independent)
+}
+
+fn same(sheet: &Sheet, proved: &Finish, independent: &Finish) -> Result<usize, String> {
     match usize::try_from(independent.answer.outcome) {
         Ok(outcome) if outcome < OUTCOMES && proved == independent => Ok(outcome),
         _ => Err(format!(
@@ -110,12 +131,36 @@ pub fn call(sheet: &Sheet) -> Finish {
     }
 }
 
+/// What x86-64 code gives, where the call is other code.
+fn emulated(proved: &mut Proved, sheet: &Sheet) -> io::Result<Option<Finish>> {
+    let mut tables = [&sheet.environment, &sheet.heap, &sheet.constraints].map(Vec::clone);
+    let told = proved.run(&sheet.program, &mut tables, &sheet.proposals, sheet.budget)?;
+    let [environment, heap, constraints] = tables;
+    Ok(
+        told.map(|([outcome, place, steps, accepted], unread)| Finish {
+            answer: Answer {
+                outcome,
+                place: usize::try_from(place).unwrap_or(usize::MAX),
+                steps: u32::try_from(steps).unwrap_or(u32::MAX),
+                accepted: u32::try_from(accepted).unwrap_or(u32::MAX),
+                unread,
+            },
+            environment,
+            heap,
+            constraints,
+        }),
+    )
+}
+
 impl fmt::Display for Tally {
     fn fmt(&self, out: &mut fmt::Formatter<'_>) -> fmt::Result {
         let sheets: u64 = self.outcomes.iter().sum();
         write!(out, "{sheets} sheets the same; outcomes")?;
         for (outcome, sheets) in self.outcomes.iter().enumerate() {
             write!(out, " {outcome}: {sheets}")?;
+        }
+        if self.emulated > 0 {
+            write!(out, "; {} of them by x86-64 code too", self.emulated)?;
         }
         write!(out, "; {:.0} sheets a second", sheets as f64 / self.seconds)
     }
