@@ -14,7 +14,7 @@ use Rattle.text.specs.Grammar.{Meaning, Labels, Path, Expression}
 pub heads : {a b : ℕ} {s t : List ℤ} → pos a ∷ s ≡ pos b ∷ t → a ≡ b
 heads e = cc
 
-pub tails : {a b : ℤ} {s t : List ℤ} → a ∷ s ≡ b ∷ t → s ≡ t
+pub tails : {A : Type 0} {a b : A} {s t : List A} → a ∷ s ≡ b ∷ t → s ≡ t
 tails e = cc
 
 -- ---- paths

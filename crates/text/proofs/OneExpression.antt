@@ -10,13 +10,11 @@ use lib.ListN.{length, length-append}
 use Rattle.tokens.specs.declared.Token.{Token}
 use Rattle.tokens.specs.Codes.{nameCode, numberCode, trueCode, falseCode, nilCode, dotCode, openBracketCode, closeBracketCode, identicalCode}
 use Rattle.text.specs.Grammar.{Meaning, Labels, Path, Level, Expression}
+use Rattle.text.proofs.Cuts.{tails}
 use Rattle.text.proofs.OperatorsRead.{is-operator, Stops, stops-looser, stops-by, stops-operator}
 
 pub first : {a b : Token} {s t : List Token} → a ∷ s ≡ b ∷ t → a ≡ b
 first e = cc
-
-pub others : {a b : Token} {s t : List Token} → a ∷ s ≡ b ∷ t → s ≡ t
-others e = cc
 
 pub codes : {a b : Token} {s t : List Token} → a ∷ s ≡ b ∷ t → a .code ≡ b .code
 codes e = ap (λ (t : Token). t .code) (first e)
@@ -43,14 +41,14 @@ module _ (M : Meaning) where
   labels-one r s Labels.none (Labels.one d l {ts = ts} c e f) q h k = absurd (h d (l ∷ (ts ++ s)) q c)
   labels-one r s (Labels.one d l {ts = ts} c e f) Labels.none q h k = absurd (k d (l ∷ (ts ++ r)) (sym q) c)
   labels-one r s (Labels.one d l c e f) (Labels.one d' l' c' e' f') q h k =
-      let i = labels-one r s f f' (others (others q)) h k in
-      let p : l ≡ l' = first (others q) in
+      let i = labels-one r s f f' (tails (tails q)) h k in
+      let p : l ≡ l' = first (tails q) in
       (ap suc (i .0), record { rest = i .1 .rest; words = cc (p, i .1 .words); origins = cc (p, i .1 .origins) })
 
   pub path-one : {a b : List Token} (r s : List Token) {ws vs : List ℤ} {os us : List ℕ} → Path M a ws os → Path M b vs us
       → a ++ r ≡ b ++ s → Not dotCode r → Not dotCode s → Same r s ws vs os us
   path-one r s (Path.path x n f) (Path.path y m g) q h k =
-      let i = labels-one r s f g (others q) h k in
+      let i = labels-one r s f g (tails q) h k in
       let p : x ≡ y = first q in
       record { rest = i .1 .rest; words = cc (p, i .0, i .1 .words); origins = cc (p, i .1 .origins) }
 
@@ -127,7 +125,7 @@ module _ (M : Meaning) (inC : Bool) where
   operands-one : (n : ℕ) → One 0 n → {a b : List Token} (r s : List Token) {ws vs : List ℤ} {os us : List ℕ} → Operand a ws os → Operand b vs us → length a ≤ n
       → a ++ r ≡ b ++ s → Stopped inC 5 r → Stopped inC 5 s → Same r s ws vs os us
   operands-one n ih r s (Operand.word t x y e f) (Operand.word u x' y' e' f') l q h k =
-      record { rest = others q; words = e ∙ ap literal (first q) ∙ sym e'; origins = f ∙ ap places (first q) ∙ sym f' }
+      record { rest = tails q; words = e ∙ ap literal (first q) ∙ sym e'; origins = f ∙ ap places (first q) ∙ sym f' }
   operands-one n ih r s (Operand.word t x y e f) (Operand.path u (Path.path v m g)) l q h k = absurd (x (codes q ∙ m))
   operands-one n ih r s (Operand.word t x y e f) (Operand.same i w (Path.path v m g) j p) l q h k = absurd (x (codes q ∙ m))
   operands-one n ih r s (Operand.word t x y e f) (Operand.brackets o c m p w) l q h k = absurd (y (codes q ∙ m))
@@ -146,16 +144,16 @@ module _ (M : Meaning) (inC : Bool) where
   operands-one n ih r s (Operand.same {a = a} {b = b} e z w m v) (Operand.same {a = a'} {b = b'} e' z' w' m' v') l q h k =
       let i = path-one M (e ∷ (b ++ r)) (e' ∷ (b' ++ s)) w w' (sym (append-assoc a (e ∷ b) r) ∙ q ∙ append-assoc a' (e' ∷ b') s) (not-at dotCode (λ z. omega arith))
       (not-at dotCode (λ z. omega arith)) in
-      let j = path-one M r s v v' (others (i .rest)) (undotted h) (undotted k) in
+      let j = path-one M r s v v' (tails (i .rest)) (undotted h) (undotted k) in
       record { rest = j .rest; words = cc (i .words, j .words); origins = cc (first (i .rest), i .origins, j .origins) }
   operands-one n ih r s (Operand.same e z (Path.path v m g) j p) (Operand.brackets o c x y w) l q h k = absurd (omega (arith, codes q))
   operands-one n ih r s (Operand.brackets o c m p w) (Operand.word t x y e f) l q h k = absurd (y (sym (codes q) ∙ m))
   operands-one n ih r s (Operand.brackets o c x p w) (Operand.path t (Path.path v m g)) l q h k = absurd (omega (arith, codes q))
   operands-one n ih r s (Operand.brackets o c x y w) (Operand.same e z (Path.path v m g) j p) l q h k = absurd (omega (arith, codes q))
   operands-one n ih r s (Operand.brackets {ts = a} o c {ws = ws} {os = os} m p w) (Operand.brackets {ts = b} o' c' {ws = vs} {os = us} m' p' w') l q h k =
-      let e : a ++ c ∷ r ≡ b ++ c' ∷ s = sym (append-assoc a (c ∷ []) r) ∙ others q ∙ append-assoc b (c' ∷ []) s in
+      let e : a ++ c ∷ r ≡ b ++ c' ∷ s = sym (append-assoc a (c ∷ []) r) ∙ tails q ∙ append-assoc b (c' ∷ []) s in
       let i = ih a b (c ∷ r) (c' ∷ s) ws vs os us p p' (omega (arith, length-append a (c ∷ []))) e (closes w) (closes w') in
-      record { rest = others (i .rest); words = i .words; origins = i .origins }
+      record { rest = tails (i .rest); words = i .words; origins = i .origins }
 
   -- ---- operators of one level
 
@@ -221,7 +219,7 @@ module _ (M : Meaning) (inC : Bool) where
   chain-one l n ih r s Chain.done (Chain.more {b = b} {ts = ts} o m v p c) e f z q h k = absurd (goes-on o m v (h o ((b ++ ts) ++ s) q))
   chain-one l n ih r s (Chain.more {b = b} {ts = ts} o m v p c) Chain.done e f z q h k = absurd (goes-on o m v (k o ((b ++ ts) ++ r) (sym q)))
   chain-one l n ih r s (Chain.more {k = x} {b = a} {ts = ts} o {vb = va} {ob = oa} m v p c) (Chain.more {k = y} {b = b} {ts = us} u {vb = vb} {ob = ob} m' v' p' c') e f z q h k =
-      let g : a ++ (ts ++ r) ≡ b ++ (us ++ s) = sym (append-assoc a ts r) ∙ others q ∙ append-assoc b us s in
+      let g : a ++ (ts ++ r) ≡ b ++ (us ++ s) = sym (append-assoc a ts r) ∙ tails q ∙ append-assoc b us s in
       let i = ih a b (ts ++ r) (us ++ s) va vb oa ob p p' (omega (arith, length-append a ts)) g (chain-stops c h) (chain-stops c' k) in
       let w : x ≡ y = omega (arith, codes q) in
       chain-one l n ih r s c c' (cc (w, e, i .words)) (cc (first q, f, i .origins)) (omega (arith, length-append a ts)) (i .rest) h k

@@ -10,8 +10,9 @@ use Rattle.tokens.specs.Codes.{newCode, weakCode}
 use Rattle.tokens.specs.Codes.{colonCode, commaCode, dotCode, identicalCode, besideCode}
 use Rattle.text.specs.Reading.{isOperator}
 use Rattle.text.specs.Grammar.{Meaning, Path, Expression, Part, Parts, Constraint, Fields}
+use Rattle.text.proofs.Cuts.{tails}
 use Rattle.text.proofs.OperatorsRead.{stops-by}
-use Rattle.text.proofs.OneExpression.{first, others, codes, Same, Not, Stopped, stopped-at, expression-one}
+use Rattle.text.proofs.OneExpression.{first, codes, Same, Not, Stopped, stopped-at, expression-one}
 
 -- ---- how an expression begins
 
@@ -46,7 +47,7 @@ module _ (M : Meaning) where
   part-one : {a b : List Token} (r s : List Token) {ws vs : List ℤ} {os us : List ℕ} → Part M a ws os → Part M b vs us → a ++ r ≡ b ++ s → Stopped true 0 r → Stopped true 0 s
       → Same r s ws vs os us
   part-one r s (Part.said {k = k} t h m n x) (Part.said {k = l} u h' m' n' y) q f g =
-      let i = expression-one M true r s x y (others q) f g in
+      let i = expression-one M true r s x y (tails q) f g in
       let e : k ≡ l = omega (arith, codes q) in
       record { rest = i .rest; words = cc (e, i .words); origins = cc (first q, i .origins) }
   part-one r s (Part.said t {ts = ts} h m n x) (Part.unsaid u y) q f g = absurd (begins s t (ts ++ r) y (sym q) .unsaid h m n)
@@ -67,7 +68,7 @@ module _ (M : Meaning) where
       let i = part-one (j ∷ (b ++ r)) s y x (sym (append-assoc a (j ∷ b) r) ∙ q) (joined n) g in absurd (k j (b ++ r) (sym (i .rest)) n)
   parts-one r s (Parts.more {a = a} {b = b} j x n y) (Parts.more {a = a'} {b = b'} j' x' n' y') q f g h k =
       let i = part-one (j ∷ (b ++ r)) (j' ∷ (b' ++ s)) x x' (sym (append-assoc a (j ∷ b) r) ∙ q ∙ append-assoc a' (j' ∷ b') s) (joined n) (joined n') in
-      let l = parts-one r s y y' (others (i .rest)) f g h k in
+      let l = parts-one r s y y' (tails (i .rest)) f g h k in
       (ap suc (l .0), record { rest = l .1 .rest; words = cc (i .words, l .1 .words); origins = cc (i .origins, l .1 .origins) })
 
   pub constraint-one : {a b : List Token} (r s : List Token) {ws vs : List ℤ} {os us : List ℕ} → Constraint M a ws os → Constraint M b vs us → a ++ r ≡ b ++ s
@@ -84,14 +85,14 @@ module _ (M : Meaning) where
   pub fields-one : {n m : ℕ} {a b : List Token} (r s : List Token) {ws vs : List ℤ} {os us : List ℕ} → Fields M n a ws os → Fields M m b vs us → a ++ r ≡ b ++ s
       → Stopped false 0 r → Stopped false 0 s → Not commaCode r → Not commaCode s → (n ≡ m) × Same r s ws vs os us
   fields-one r s (Fields.one l c n m x) (Fields.one l' c' n' m' y) q f g h k =
-      let i = expression-one M false r s x y (others (others q)) f g in
+      let i = expression-one M false r s x y (tails (tails q)) f g in
       (refl, record { rest = i .rest; words = cc (first q, i .words); origins = cc (first q, i .origins) })
   fields-one r s (Fields.one l c n m x) (Fields.more l' c' j {a = a} {b = b} n' m' y p z) q f g h k =
-      let i = expression-one M false r (j ∷ (b ++ s)) x y (others (others q) ∙ append-assoc a (j ∷ b) s) f (parted p) in absurd (h j (b ++ s) (i .rest) p)
+      let i = expression-one M false r (j ∷ (b ++ s)) x y (tails (tails q) ∙ append-assoc a (j ∷ b) s) f (parted p) in absurd (h j (b ++ s) (i .rest) p)
   fields-one r s (Fields.more l c j {a = a} {b = b} n m x p z) (Fields.one l' c' n' m' y) q f g h k =
-      let i = expression-one M false (j ∷ (b ++ r)) s x y (sym (append-assoc a (j ∷ b) r) ∙ others (others q)) (parted p) g in absurd (k j (b ++ r) (sym (i .rest)) p)
+      let i = expression-one M false (j ∷ (b ++ r)) s x y (sym (append-assoc a (j ∷ b) r) ∙ tails (tails q)) (parted p) g in absurd (k j (b ++ r) (sym (i .rest)) p)
   fields-one r s (Fields.more l c j {a = a} {b = b} n m x p z) (Fields.more l' c' j' {a = a'} {b = b'} n' m' x' p' z') q f g h k =
-      let i = expression-one M false (j ∷ (b ++ r)) (j' ∷ (b' ++ s)) x x' (sym (append-assoc a (j ∷ b) r) ∙ others (others q) ∙ append-assoc a' (j' ∷ b') s) (parted p) (parted p')
+      let i = expression-one M false (j ∷ (b ++ r)) (j' ∷ (b' ++ s)) x x' (sym (append-assoc a (j ∷ b) r) ∙ tails (tails q) ∙ append-assoc a' (j' ∷ b') s) (parted p) (parted p')
       in
-      let v = fields-one r s z z' (others (i .rest)) f g h k in
+      let v = fields-one r s z z' (tails (i .rest)) f g h k in
       (ap suc (v .0), record { rest = v .1 .rest; words = cc (first q, i .words, v .1 .words); origins = cc (first q, i .origins, v .1 .origins) })

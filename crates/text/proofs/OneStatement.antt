@@ -14,8 +14,9 @@ use Rattle.tokens.specs.Codes.{becomesCode, dotCode, commaCode, semicolonCode, 
 use Rattle.tokens.proofs.ByteLaws.{true≢false}
 use Rattle.text.specs.Grammar.{Meaning, Labels, Path, Expression, Part, Parts, Constraint, Fields, statement, row, block, Yields, Text}
 use Rattle.text.specs.Names.{Each}
+use Rattle.text.proofs.Cuts.{tails}
 use Rattle.text.proofs.BlocksRead.{row-first}
-use Rattle.text.proofs.OneExpression.{first, others, codes, Same, Not, not-at, path-one, Stopped, expression-one}
+use Rattle.text.proofs.OneExpression.{first, codes, Same, Not, not-at, path-one, Stopped, expression-one}
 use Rattle.text.proofs.OnePart.{begins, ends-by, constraint-one, fields-one}
 
 -- ---- no `==` stands in a constraint
@@ -100,7 +101,7 @@ apart : (e : Token) {ts a : List Token} (r s : List Token) → Each Unlike ts �
 apart e r s Each.none Each.none q n h = let i = h e s q .1 in omega arith
 apart e r s Each.none (Each.more {t = x} {ts = a} k y) q n h = let i = h x (a ++ e ∷ s) q .0 in omega arith
 apart e r s (Each.more k x) Each.none q n h = k (codes q ∙ n)
-apart e r s (Each.more k x) (Each.more l y) q n h = apart e r s x y (others q) n h
+apart e r s (Each.more k x) (Each.more l y) q n h = apart e r s x y (tails q) n h
 
 -- ---- statements by their first token
 
@@ -119,7 +120,7 @@ headOf c =
     (cond (eqb c ifCode) Head.branches Head.repeats)))
 
 module _ (M : Meaning) where
-  -- a statement from its first token and the others, `always` and `once` as one
+  -- a statement from its first token and the tails, `always` and `once` as one
   data Begun : Head → Token → List Token → List ℤ → List ℕ → Type 0 where
     skip : (t : Token) → Begun Head.skips t [] (pos 0 ∷ []) (t .place ∷ [])
     assign : (x b : Token) {a ts : List Token} {va ws : List ℤ} {oa os : List ℕ}
@@ -191,7 +192,7 @@ module _ (M : Meaning) where
       let f : x ∷ (a ++ b ∷ (ts ++ r)) ≡ y ∷ c ∷ w ∷ s = cc (e, g) in
       let k : Path M (y ∷ []) (pos (M .variable y) ∷ pos 0 ∷ []) (y .place ∷ y .place ∷ []) = Path.path y m Labels.none in
       let i = path-one M (b ∷ (ts ++ r)) (c ∷ w ∷ s) p k f (not-at dotCode (λ z. omega arith)) (not-at dotCode (λ z. omega arith)) in
-      begins r w s z (others (i .rest)) .unmade v
+      begins r w s z (tails (i .rest)) .unmade v
 
   braced : {t : Token} {us : List Token} → t .code ≡ closeBraceCode → Ended (t ∷ us)
   braced e = ended-at (omega arith) (omega arith)
@@ -204,25 +205,25 @@ module _ (M : Meaning) where
       let d : a ++ b ∷ (ts ++ r) ≡ a' ++ c ∷ (ts' ++ s) = sym (append-assoc a (b ∷ ts) r) ∙ q ∙ append-assoc a' (c ∷ ts') s in
       let v : x ∷ (a ++ b ∷ (ts ++ r)) ≡ y ∷ (a' ++ c ∷ (ts' ++ s)) = cc (e, d) in
       let i = path-one M (b ∷ (ts ++ r)) (c ∷ (ts' ++ s)) p p' v (not-at dotCode (λ z. omega arith)) (not-at dotCode (λ z. omega arith)) in
-      let j = expression-one M false r s z z' (others (i .rest)) (stopped f) (stopped g) in
+      let j = expression-one M false r s z z' (tails (i .rest)) (stopped f) (stopped g) in
       record { rest = j .rest; words = cc (i .words, j .words); origins = cc (e, i .origins, j .origins) }
   begun-one n ih r s (Begun.assign x b p m z) (Begun.new-empty y c w o k d h v t) e l q f g = absurd (made x b y c w r (o ∷ k ∷ s) p m z d h v e q)
   begun-one n ih r s (Begun.assign x b p m z) (Begun.new y c w o k {ts = ts} d h v i t) e l q f g = absurd (made x b y c w r (o ∷ ((ts ++ k ∷ []) ++ s)) p m z d h v e q)
   begun-one n ih r s (Begun.new-empty y c w o k d h v t) (Begun.assign x b p m z) e l q f g = absurd (made x b y c w s (o ∷ k ∷ r) p m z d h v (sym e) (sym q))
   begun-one n ih r s (Begun.new-empty x b w o c d h v t) (Begun.new-empty x' b' w' o' c' d' h' v' t') e l q f g =
-      record { rest = others (others (others (others q))); words = cc e; origins = cc (e, first (others (others q))) }
+      record { rest = tails (tails (tails (tails q))); words = cc e; origins = cc (e, first (tails (tails q))) }
   begun-one n ih r s (Begun.new-empty x b w o c d h v t) (Begun.new x' b' w' o' c' {ts = ts} d' h' v' i t') e l q f g =
-      let k : (ts ++ c' ∷ []) ++ s ≡ c ∷ r = sym (others (others (others q))) in
+      let k : (ts ++ c' ∷ []) ++ s ≡ c ∷ r = sym (tails (tails (tails q))) in
       absurd (omega (arith, fields-first (c' ∷ s) c r i (sym (append-assoc ts (c' ∷ []) s) ∙ k)))
   begun-one n ih r s (Begun.new y c w o k {ts = ts} d h v i t) (Begun.assign x b p m z) e l q f g = absurd
       (made x b y c w s (o ∷ ((ts ++ k ∷ []) ++ r)) p m z d h v (sym e) (sym q))
   begun-one n ih r s (Begun.new x b w o c {ts = ts} d h v i t) (Begun.new-empty x' b' w' o' c' d' h' v' t') e l q f g =
-      let k : (ts ++ c ∷ []) ++ r ≡ c' ∷ s = others (others (others q)) in
+      let k : (ts ++ c ∷ []) ++ r ≡ c' ∷ s = tails (tails (tails q)) in
       absurd (omega (arith, fields-first (c ∷ r) c' s i (sym (append-assoc ts (c ∷ []) r) ∙ k)))
   begun-one n ih r s (Begun.new x b w o c {ts = ts} d h v i t) (Begun.new x' b' w' o' c' {ts = ts'} d' h' v' i' t') e l q f g =
-      let k : ts ++ c ∷ r ≡ ts' ++ c' ∷ s = sym (append-assoc ts (c ∷ []) r) ∙ others (others (others q)) ∙ append-assoc ts' (c' ∷ []) s in
+      let k : ts ++ c ∷ r ≡ ts' ++ c' ∷ s = sym (append-assoc ts (c ∷ []) r) ∙ tails (tails (tails q)) ∙ append-assoc ts' (c' ∷ []) s in
       let j = fields-one M (c ∷ r) (c' ∷ s) i i' k (stopped (braced t)) (stopped (braced t')) (not-at commaCode (λ z. omega arith)) (not-at commaCode (λ z. omega arith)) in
-      record { rest = others (j .1 .rest); words = cc (e, j .0, j .1 .words); origins = cc (e, first (others (others q)), j .1 .origins) }
+      record { rest = tails (j .1 .rest); words = cc (e, j .0, j .1 .words); origins = cc (e, first (tails (tails q)), j .1 .origins) }
   begun-one n ih r s (Begun.stated {k = x} t m c) (Begun.stated {k = y} u m' c') e l q f g =
       let i = constraint-one M r s c c' q (stopped f) (stopped g) (unjoined f) (unjoined g) in
       let w : x ≡ y = omega (arith, ap (λ (t : Token). t .code) e) in
@@ -234,7 +235,7 @@ module _ (M : Meaning) where
   begun-one n ih r s (Begun.same {k = x} t d {a = a} {b = b} m p k v) (Begun.same {k = y} u d' {a = a'} {b = b'} m' p' k' v') e l q f g =
       let i = path-one M (d ∷ (b ++ r)) (d' ∷ (b' ++ s)) p p' (sym (append-assoc a (d ∷ b) r) ∙ q ∙ append-assoc a' (d' ∷ b') s) (not-at dotCode (λ z. omega arith))
       (not-at dotCode (λ z. omega arith)) in
-      let j = path-one M r s v v' (others (i .rest)) (λ t us z. stopped {inC = true} f t us z .undotted) (λ t us z. stopped {inC = true} g t us z .undotted) in
+      let j = path-one M r s v v' (tails (i .rest)) (λ t us z. stopped {inC = true} f t us z .undotted) (λ t us z. stopped {inC = true} g t us z .undotted) in
       let w : x ≡ y = omega (arith, ap (λ (t : Token). t .code) e) in
       record { rest = j .rest; words = cc (w, i .words, j .words); origins = cc (e, i .origins, j .origins) }
   begun-one n ih r s (Begun.branch t h k {a = a} {b = b} {c = c} {vb = wb} {vc = wc} {ob = pb} {oc = pc} x m y o z)
@@ -244,15 +245,15 @@ module _ (M : Meaning) where
       let i = expression-one M false (h ∷ (b ++ k ∷ (c ++ r))) (h' ∷ (b' ++ k' ∷ (c' ++ s))) x x' d (behind-then m) (behind-then m') in
       let v : length (a ++ h ∷ (b ++ k ∷ c)) ≡ length a + (suc (length b + suc (length c))) = length-append a (h ∷ (b ++ k ∷ c)) ∙ ap (λ (w : ℕ). length a + suc w)
       (length-append b (k ∷ c)) in
-      let j = ih b b' (k ∷ (c ++ r)) (k' ∷ (c' ++ s)) wb wb' pb pb' y y' (omega arith) (others (i .rest)) in
-      let p = ih c c' r s wc wc' pc pc' z z' (omega arith) (others (j .rest)) in
+      let j = ih b b' (k ∷ (c ++ r)) (k' ∷ (c' ++ s)) wb wb' pb pb' y y' (omega arith) (tails (i .rest)) in
+      let p = ih c c' r s wc wc' pc pc' z z' (omega arith) (tails (j .rest)) in
       record { rest = p .rest; words = cc (i .words, j .words, p .words); origins = cc (e, i .origins, j .origins, p .origins) }
     where
       behind-then : {t : Token} {us : List Token} → t .code ≡ thenCode → Stopped false 0 (t ∷ us)
       behind-then e = ends-by thenCode e (λ z. omega arith) (λ z. omega arith) (λ z. omega arith) refl
   begun-one n ih r s (Begun.loop t h {a = a} {b = b} {vb = wb} {ob = pb} x m y) (Begun.loop u h' {a = a'} {b = b'} {vb = wb'} {ob = pb'} x' m' y') e l q f g =
       let i = expression-one M false (h ∷ (b ++ r)) (h' ∷ (b' ++ s)) x x' (sym (append-assoc a (h ∷ b) r) ∙ q ∙ append-assoc a' (h' ∷ b') s) (behind-do m) (behind-do m') in
-      let j = ih b b' r s wb wb' pb pb' y y' (omega (arith, length-append a (h ∷ b))) (others (i .rest)) in
+      let j = ih b b' r s wb wb' pb pb' y y' (omega (arith, length-append a (h ∷ b))) (tails (i .rest)) in
       record { rest = j .rest; words = cc (i .words, j .words); origins = cc (e, i .origins, j .origins) }
     where
       behind-do : {t : Token} {us : List Token} → t .code ≡ doCode → Stopped false 0 (t ∷ us)
@@ -266,7 +267,7 @@ module _ (M : Meaning) where
       let d : i .token ∷ (i .behind ++ r) ≡ j .token ∷ (j .behind ++ s) = ap (λ (x : List Token). x ++ r) (sym (i .is)) ∙ q ∙ ap (λ (x : List Token). x ++ s) (j .is) in
       let h : j .head ≡ i .head = sym (j .class) ∙ ap headOf (sym (codes d)) ∙ i .class in
       let k : Begun (i .head) (j .token) (j .behind) vs us = rw h at (j .form) in
-      begun-one n ih r s (i .form) k (first d) (omega (arith, ap length (i .is))) (others d) f g
+      begun-one n ih r s (i .form) k (first d) (omega (arith, ap length (i .is))) (tails d) f g
 
   rows-one : (n : ℕ) → Blocks n → {m k : ℕ} {a b : List Token} (r s : List Token) {ws vs : List ℤ} {os us : List ℕ} → Yields M (row m) a ws os → Yields M (row k) b vs us
       → length a ≤ n → a ++ r ≡ b ++ s → Ended r → Ended s → Not semicolonCode r → Not semicolonCode s → (m ≡ k) × Same r s ws vs os us
@@ -279,7 +280,7 @@ module _ (M : Meaning) where
   rows-one n ih r s (Yields.more {a = a} {b = b} j x m y) (Yields.more {a = a'} {b = b'} j' x' m' y') l q f g h k =
       let i = statement-one n ih (j ∷ (b ++ r)) (j' ∷ (b' ++ s)) x x' (omega (arith, length-append a (j ∷ b))) (sym (append-assoc a (j ∷ b) r) ∙ q ∙ append-assoc a' (j' ∷ b') s)
       (ended-at (omega arith) (omega arith)) (ended-at (omega arith) (omega arith)) in
-      let v = rows-one n ih r s y y' (omega (arith, length-append a (j ∷ b))) (others (i .rest)) f g h k in
+      let v = rows-one n ih r s y y' (omega (arith, length-append a (j ∷ b))) (tails (i .rest)) f g h k in
       (ap suc (v .0), record { rest = v .1 .rest; words = cc (i .words, v .1 .words); origins = cc (i .origins, v .1 .origins) })
 
   -- a row does not begin with a brace
@@ -292,14 +293,14 @@ module _ (M : Meaning) where
       omega (arith, codes z)
 
   block-one : (n : ℕ) → Blocks n → Blocks (suc n)
-  block-one n ih a b r s ws vs os us (Yields.empty o c m k) (Yields.empty o' c' m' k') l q = record { rest = others (others q); words = refl; origins = cc (first q) }
-  block-one n ih a b r s ws vs os us (Yields.empty o c m k) (Yields.braces o' c' m' x k') l q = absurd (unbraced c c' r s x k (others q))
-  block-one n ih a b r s ws vs os us (Yields.braces o' c' m' x k') (Yields.empty o c m k) l q = absurd (unbraced c c' s r x k (sym (others q)))
+  block-one n ih a b r s ws vs os us (Yields.empty o c m k) (Yields.empty o' c' m' k') l q = record { rest = tails (tails q); words = refl; origins = cc (first q) }
+  block-one n ih a b r s ws vs os us (Yields.empty o c m k) (Yields.braces o' c' m' x k') l q = absurd (unbraced c c' r s x k (tails q))
+  block-one n ih a b r s ws vs os us (Yields.braces o' c' m' x k') (Yields.empty o c m k) l q = absurd (unbraced c c' s r x k (sym (tails q)))
   block-one n ih a b r s ws vs os us (Yields.braces o c {ts = ts} m x k) (Yields.braces o' c' {ts = ts'} m' x' k') l q =
-      let e : ts ++ c ∷ r ≡ ts' ++ c' ∷ s = sym (append-assoc ts (c ∷ []) r) ∙ others q ∙ append-assoc ts' (c' ∷ []) s in
+      let e : ts ++ c ∷ r ≡ ts' ++ c' ∷ s = sym (append-assoc ts (c ∷ []) r) ∙ tails q ∙ append-assoc ts' (c' ∷ []) s in
       let i = rows-one n ih (c ∷ r) (c' ∷ s) x x' (omega (arith, length-append ts (c ∷ []))) e (braced k) (braced k') (not-at semicolonCode (λ z. omega arith))
       (not-at semicolonCode (λ z. omega arith)) in
-      record { rest = others (i .1 .rest); words = cc (i .0, i .1 .words); origins = cc (first q, i .1 .origins) }
+      record { rest = tails (i .1 .rest); words = cc (i .0, i .1 .words); origins = cc (first q, i .1 .origins) }
 
   blocks : (n : ℕ) → Blocks n
   blocks zero a b r s ws vs os us x y l q = absurd (omega arith)

@@ -18,18 +18,14 @@ use Rattle.tokens.specs.Codes.{besideCode, openBracketCode, nameCode}
 use Rattle.text.specs.Reading.{Fault, Reader, Form, wordThen, andThen, empty, owing, passing, is, peek, take, variable, path}
 use Rattle.text.specs.Reading.{pathOrSame, literal, literalAt, outside, operand, enough, opened, climb, expression, priority, partAt, partsOn, constraintOn}
 use Rattle.text.specs.Told.{Carried, readerOf, Peeks, Follows}
-use Rattle.text.specs.Written.{with1, wroteOne, passBy, Passes, Owes}
+use Rattle.text.specs.Written.{with1, wroteOne, Passes, Owes}
 use Rattle.text.specs.Pieces.{Lent, lent, formOf, Fit, Does, Piece, Expression, Onward, behindFirst}
 use Rattle.text.proofs.PieceLaws.{either-way}
-use Rattle.text.proofs.WrittenLaws.{passes}
 use Rattle.text.proofs.RowsLaws.{fit-from}
 use Rattle.text.proofs.AnswerSteps.{beside, flat, following, worded, behind-first, passing-none, passing-one, take-never, variable-never}
 use Rattle.text.proofs.DoesLaws.{ended, does-then, does-as, does-wider, does-nothing, does-stopped, does-take, does-pass, does-owe, does-word, does-first, does-piece}
 use Rattle.text.proofs.DoesLaws.{expression-piece, form-none, form-length}
 use Rattle.text.proofs.StepLaws.{does-given}
-
-pub passed-on : {r s : Carried} {b : Bool} → s ≡ passBy b r → Passes b r s
-passed-on {r = r} {b = b} is = passes b r is
 
 -- ---- a part
 

@@ -4,7 +4,7 @@ use mathlib.Core.Bool.{Bool, true, false, not, cond, _&&_}
 use mathlib.Core.List.{List}
 use Prim.Native.Nat.{ℕ, _+_, _≤_, _<_}
 use native.Mathlib.Omega.{arith}
-use borrow.Author.Tests.{lt-leb, leb-true, eq-eqb, ne-eqb}
+use borrow.Author.Tests.{leb-true, eq-eqb, ne-eqb}
 use lib.Dec.{eqb, ltb, leb}
 use lib.ListN.{length}
 use Rattle.words.specs.Answer.{Answer, got, stop}
@@ -31,17 +31,9 @@ numbers-stopped {r = r} h = record { reads = λ long. rw (ne-eqb (r .number) 0 h
 -- ---- room
 
 module _ (r : Carried) (k : ℕ) where
-  pub room-passed : r .passed ≡ true → false ≡ roomWith k r
-  unfolding roomWith
-  room-passed e = rw e
-
   pub room-is : r .passed ≡ false → leb (r .certain + r .owed + k) 4096 ≡ roomWith k r
   unfolding roomWith
   room-is e = rw e
-
-  pub room-none : 4096 < r .certain + r .owed + k → false ≡ roomWith k r
-  unfolding roomWith
-  room-none h = cases (r .passed) (λ e. rw e) (λ e. rw (e, lt-leb (r .certain + r .owed + k) 4096 h))
 
   pub room-small : roomWith k r ≡ true → r .certain + r .owed + k ≤ 4096
   unfolding roomWith

@@ -1,6 +1,7 @@
 // Statements and blocks.
 use super::assignments::assignment;
 use super::constraints::stated;
+use super::expressions::constant;
 use super::expressions::expression;
 use super::reading::need;
 use super::reading::refused;
@@ -14,13 +15,11 @@ use crate::START;
 use crate::WRITTEN;
 ghost use mathlib.Core.Path.{_≡_};
 ghost use mathlib.Core.Bool.{false};
-ghost use mathlib.Core.List.{List};
-ghost use Prim.Native.Nat.{ℕ, _<_};
-ghost use lib.IntN.{pos};
+ghost use Prim.Native.Nat.{_<_};
 ghost use Rattle.tokens.specs.Codes.{ifCode, whileCode};
 ghost use Rattle.text.specs.Reading.{statementAt, blockAt};
 ghost use Rattle.text.specs.Told.{carried, Ahead};
-ghost use Rattle.text.specs.Pieces.{lent, Piece, Onward, behindFirst, nextCode, constantBy, rowBy};
+ghost use Rattle.text.specs.Pieces.{lent, Piece, Onward, behindFirst, nextCode, rowBy};
 
 const SKIP: i32 = 0;
 
@@ -74,16 +73,6 @@ fn repeated(
     block(text, names, words, origins, s, d);
 }
 
-// skip.
-fn skip(text: &[u8], words: &mut [i32], origins: &mut [usize], s: &mut [usize; 15])
-    ensures { λ _. ⌜ (Ahead (now (text .entry)) (carried (now (s .entry))) → (names : List ℕ) → Piece 3 0 (lent names (now (words .entry)) (now (origins .entry))) (carried (now (s .entry))) (λ q. constantBy (now (text .entry)) (pos 0) q) (lent names (now (words .exit)) (now (origins .exit))) (carried (now (s .exit)))) ⌝ }
-    ensures { λ _. ⌜ (Ahead (now (text .entry)) (carried (now (s .entry))) → Ahead (now (text .entry)) (carried (now (s .exit)))) ⌝ }
-{
-    let p = s[START];
-    take(text, s, 1);
-    write(words, origins, s, SKIP, p);
-}
-
 // A statement, whose blocks nest at most d deep.
 fn statement(
     text: &[u8],
@@ -105,7 +94,7 @@ fn statement(
         return;
     }
     if code == tokens::SKIP {
-        skip(text, words, origins, s);
+        constant(text, words, origins, s, SKIP);
         return;
     }
     if code == tokens::ALWAYS {

@@ -58,8 +58,14 @@ fn number(text: &[u8], words: &mut [i32], origins: &mut [usize], s: &mut [usize;
     }
 }
 
-// The one word of another literal.
-fn constant(text: &[u8], words: &mut [i32], origins: &mut [usize], s: &mut [usize; 15], w: i32)
+// A token that gives one word, always the same: nil, a truth value, skip.
+pub(crate) fn constant(
+    text: &[u8],
+    words: &mut [i32],
+    origins: &mut [usize],
+    s: &mut [usize; 15],
+    w: i32,
+)
     ensures { λ _. ⌜ (Ahead (now (text .entry)) (carried (now (s .entry))) → (names : List ℕ) → Piece 3 0 (lent names (now (words .entry)) (now (origins .entry))) (carried (now (s .entry))) (λ q. constantBy (now (text .entry)) w q) (lent names (now (words .exit)) (now (origins .exit))) (carried (now (s .exit)))) ⌝ }
     ensures { λ _. ⌜ (Ahead (now (text .entry)) (carried (now (s .entry))) → Ahead (now (text .entry)) (carried (now (s .exit)))) ⌝ }
 {

@@ -4,7 +4,7 @@ ghost use mathlib.Core.Path.{_≡_};
 ghost use mathlib.Core.Bool.{_&&_};
 ghost use Prim.Native.Nat.{_<_};
 ghost use lib.Dec.{ltb};
-ghost use lib.ListN.{length, getD, set};
+ghost use lib.ListN.{getD, set};
 ghost use Rattle.program.specs.Reading.{among};
 ghost use Rattle.text.specs.Reading.{numberIn};
 ghost use Rattle.text.specs.Told.{nameAt, isName, namesFrom, atMost, tableWith, countWith};
@@ -15,11 +15,6 @@ pub(crate) fn word(names: &[usize], i: usize) -> usize
 {
     if i < names.len() { names[i] } else { 0 }
 }
-
-// A row has its 15 words.
-pub(crate) fn sized(row: [usize; 15])
-    ensures { λ _. ⌜ length row ≡ 15 ⌝ }
-{}
 
 // Stores w at i; past the end nothing is stored.
 pub(crate) fn put(names: &mut [usize], i: usize, w: usize)

@@ -1,6 +1,5 @@
 // Words and the places that they come from, one after the other in two lent arrays.
 use super::naming::put;
-use super::naming::sized;
 use super::naming::word;
 use crate::DEPTH;
 use crate::NAMED;
@@ -29,8 +28,7 @@ pub(crate) fn write(words: &mut [i32], origins: &mut [usize], s: &mut [usize; 15
     }
     words::store(words, at, w);
     put(origins, at, p);
-    sized(*s);
-    s[WRITTEN] = at + 1;
+    put(s, WRITTEN, at + 1);
 }
 
 // The next token passes a limit where b says so.
@@ -38,8 +36,7 @@ pub(crate) fn pass(s: &mut [usize; 15], b: bool)
     ensures { λ _. ⌜ (carried (now (s .exit))) ≡ passBy b (carried (now (s .entry))) ⌝ }
 {
     if b {
-        sized(*s);
-        s[PASSED] = 1;
+        put(s, PASSED, 1);
     }
 }
 
@@ -55,8 +52,7 @@ pub(crate) fn owe(s: &mut [usize; 15], k: usize)
     if program::MOST_WORDS < k {
         return;
     }
-    sized(*s);
-    s[OWED] = owed + k;
+    put(s, OWED, owed + k);
 }
 
 // The word at i and the place that it comes from, stored; past the end nothing is stored.
@@ -72,16 +68,14 @@ pub(crate) fn put_word(words: &mut [i32], origins: &mut [usize], i: usize, w: i3
 pub(crate) fn deepen(s: &mut [usize; 15], d: usize)
     ensures { λ _. ⌜ (carried (now (s .exit))) ≡ deepBy d (carried (now (s .entry))) ⌝ }
 {
-    sized(*s);
-    s[DEPTH] = d;
+    put(s, DEPTH, d);
 }
 
 // The number that was read last is n.
 pub(crate) fn count(s: &mut [usize; 15], n: usize)
     ensures { λ _. ⌜ (carried (now (s .exit))) ≡ numberedBy n (carried (now (s .entry))) ⌝ }
 {
-    sized(*s);
-    s[NAMED] = n;
+    put(s, NAMED, n);
 }
 
 // The words from a place on and the places that they come from, k further up.
@@ -139,6 +133,5 @@ pub(crate) fn insert(
     }
     raise(words, origins, from, end, k);
     fill(words, origins, from, gap, p);
-    sized(*s);
-    s[WRITTEN] = end + k;
+    put(s, WRITTEN, end + k);
 }

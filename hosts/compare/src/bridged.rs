@@ -113,18 +113,9 @@ impl Drop for Proved {
 
 fn bytes(question: &Question) -> Vec<u8> {
     let (program, tables) = (&question.program, &question.tables);
-    let places = &question.places;
-    let mut bytes = Vec::new();
-    for number in [0, program.len(), places.len(), tables.len()] {
-        bytes.extend(number.to_le_bytes());
-    }
-    for place in places {
-        bytes.extend(place.to_le_bytes());
-    }
-    for word in program.iter().chain(tables.iter().flatten()) {
-        bytes.extend(word.to_le_bytes());
-    }
-    bytes
+    let mut counts = vec![0, program.len(), question.places.len(), tables.len()];
+    counts.extend(&question.places);
+    [numbers(counts), words([program]), words(tables)].concat()
 }
 
 fn piece_bytes(question: &Pieces) -> Vec<u8> {
@@ -134,41 +125,39 @@ fn piece_bytes(question: &Pieces) -> Vec<u8> {
         &question.heap,
         &question.constraints,
     ];
-    let mut numbers = vec![1];
-    numbers.extend(lists.map(Vec::len));
-    numbers.push(question.pieces.len());
+    let mut counts = vec![1];
+    counts.extend(lists.map(Vec::len));
+    counts.push(question.pieces.len());
     for piece in &question.pieces {
-        numbers.extend([piece.call as usize, piece.start]);
+        counts.extend([piece.call as usize, piece.start]);
     }
-    let mut bytes: Vec<u8> = numbers.into_iter().flat_map(usize::to_le_bytes).collect();
-    bytes.extend(
-        lists
-            .into_iter()
-            .flatten()
-            .flat_map(|word| word.to_le_bytes()),
-    );
-    bytes
+    [numbers(counts), words(lists)].concat()
 }
 
 fn text_bytes(text: &[u8], lent: &[Vec<i32>; 3]) -> Vec<u8> {
     let counts = [2, text.len()].into_iter().chain(lent.iter().map(Vec::len));
-    let mut bytes: Vec<u8> = counts.flat_map(usize::to_le_bytes).collect();
-    bytes.extend(text);
-    bytes.extend(lent.iter().flatten().flat_map(|word| word.to_le_bytes()));
-    bytes
+    [numbers(counts), text.to_vec(), words(lent)].concat()
 }
 
 fn run_bytes(program: &[i32], tables: &[Vec<i32>; 3], proposals: &[i32], budget: i32) -> Vec<u8> {
     let [environment, heap, constraints] = tables;
     let lists = [program, environment, heap, constraints, proposals];
     let counts = [3].into_iter().chain(lists.map(<[i32]>::len));
-    let mut bytes: Vec<u8> = counts.flat_map(usize::to_le_bytes).collect();
-    bytes.extend(budget.to_le_bytes());
-    bytes.extend(
-        lists
-            .into_iter()
-            .flatten()
-            .flat_map(|word| word.to_le_bytes()),
-    );
-    bytes
+    [numbers(counts), words([[budget]]), words(lists)].concat()
+}
+
+fn numbers(numbers: impl IntoIterator<Item = usize>) -> Vec<u8> {
+    numbers.into_iter().flat_map(usize::to_le_bytes).collect()
+}
+
+fn words(lists: impl IntoIterator<Item = impl AsRef<[i32]>>) -> Vec<u8> {
+    let lists = lists.into_iter();
+    lists
+        .flat_map(|list| {
+            let words = list.as_ref().iter();
+            words
+                .flat_map(|word| word.to_le_bytes())
+                .collect::<Vec<u8>>()
+        })
+        .collect()
 }

@@ -30,7 +30,7 @@ use Rattle.text.proofs.blocks.statements.Reads as statements
 use Rattle.text.proofs.blocks.statements.Kinds as statements-kinds
 use Rattle.text.proofs.blocks.+block+conditional+repeated+statement+statements.Lts-statements as statements-lts
 use Rattle.text.proofs.assignments.assignment.Reads as assignment-reads
-use Rattle.text.proofs.blocks.skip.Reads as skip-reads
+use Rattle.text.proofs.expressions.constant.Reads as constant-reads
 use Rattle.text.proofs.constraints.stated.Reads as stated-reads
 use Rattle.text.proofs.expressions.expression.Reads as expression-reads
 use Rattle.text.proofs.reading.need.Reads as need-reads
@@ -140,8 +140,8 @@ abbrev statement-calls : ℕ → statement-lts.Claims
 statement-calls t = (
   assignment-reads.Asked,
   assignment-reads.Learnt,
-  skip-reads.Asked,
-  skip-reads.Learnt,
+  constant-reads.Asked,
+  constant-reads.Learnt,
   stated-reads.Asked,
   stated-reads.Learnt,
   conditional-below t,
@@ -482,8 +482,8 @@ statement-returns-2 t c =
     )
 
 -- src/blocks.rt:108:9
-statement-skip-requires : (t : ℕ) → statement-lts.Need-skip-requires (statement-calls t) (statement-at t) statement′.Post
-statement-skip-requires t c κs = search needs
+statement-constant-requires : (t : ℕ) → statement-lts.Need-constant-requires (statement-calls t) (statement-at t) statement′.Post
+statement-constant-requires t c κs = search needs
 
 -- src/blocks.rt:109:9
 statement-same-length-4 : (t : ℕ) → statement-lts.Need-same-length-4 (statement-calls t) (statement-at t) statement′.Post
@@ -501,8 +501,8 @@ statement-returns-3 t c =
     let d = b .before .before .before .before in
     let e = d .before .before .before .before .before .before .before .before in
     let a = e .args in (
-      λ h. code-skip (a .text .now) (a .d) (carried (a .s .now)) (nextOf (carried (a .s .now))) h (d .if3 .taken) (b .skip .ensures .0 h (a .names .now)),
-      λ h. b .skip .ensures .1 h,
+      λ h. code-skip (a .text .now) (a .d) (carried (a .s .now)) (nextOf (carried (a .s .now))) h (d .if3 .taken) (b .constant .ensures .0 h (a .names .now)),
+      λ h. b .constant .ensures .1 h,
     )
 
 -- src/blocks.rt:112:9
@@ -874,8 +874,8 @@ pub +block+conditional+repeated+statement+statements-spec : {M : Type 1} → sta
     (λ t. statement-lts.spec (
       assignment-reads.Asked,
       assignment-reads.Learnt,
-      skip-reads.Asked,
-      skip-reads.Learnt,
+      constant-reads.Asked,
+      constant-reads.Learnt,
       stated-reads.Asked,
       stated-reads.Learnt,
       conditional-below t,
@@ -895,7 +895,7 @@ pub +block+conditional+repeated+statement+statements-spec : {M : Type 1} → sta
     (statement-same-length-2 t)
     (statement-same-length-3 t)
     (statement-returns-2 t)
-    (statement-skip-requires t)
+    (statement-constant-requires t)
     (statement-same-length-4 t)
     (statement-same-length-5 t)
     (statement-returns-3 t)

@@ -7,7 +7,8 @@ use lib.ListN.{length}
 use Rattle.words.proofs.Signed.{back32}
 use Rattle.text.specs.Told.{carried, Ahead}
 use Rattle.text.specs.Pieces.{lent}
-use Rattle.text.proofs.PartCode.{passed-on, Parted, parted-starts, parted-stopped, parted-full, parted-last, parted-on}
+use Rattle.text.proofs.WrittenLaws.{passes}
+use Rattle.text.proofs.PartCode.{Parted, parted-starts, parted-stopped, parted-full, parted-last, parted-on}
 use Rattle.text.proofs.AheadLaws.{ahead-passed}
 use Rattle.text.proofs.constraints.constraint_on.Statement.{statement}
 use Rattle.text.proofs.constraints.constraint_on.Tie as tie
@@ -133,7 +134,7 @@ loop-again c =
               (b .before .before .take .ensures .1 (i .0)) in (
                 a .part-at .ensures .1 j,
                 parted-on (i .1) (e .loop-test .taken) (d .before .before .if1 .left) (i .0) (d .if2 .left) (b .before .before .take .ensures .0 (i .0))
-                    (passed-on (b .pass .ensures)) refl (a .part-at .ensures .0 j)
+                    (passes (eqb (e .before .loop .m) 16) (carried (b .before .before .take .last .1 .0)) (b .pass .ensures)) refl (a .part-at .ensures .0 j)
                     (a .part-at .kept .1 .0) (a .part-at .kept .1 .1 .0) (a .part-at .kept .1 .1 .1 .0),
               ),
         ),

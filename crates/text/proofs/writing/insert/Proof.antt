@@ -1,3 +1,4 @@
+use mathlib.Core.Path.{ap, _∙_}
 use native.Mathlib.Omega.{arith}
 use lib.ListN.{length}
 use Rattle.text.specs.Told.{carried}
@@ -9,7 +10,7 @@ use Rattle.text.proofs.writing.insert.Statement.{statement}
 use Rattle.text.proofs.writing.insert.Tie as tie
 use Rattle.text.proofs.writing.insert.Reads as reads
 use Rattle.text.proofs.writing.insert.Lts as lts
-use Rattle.text.proofs.naming.sized.Reads as sized-reads
+use Rattle.text.proofs.naming.put.Reads as put-reads
 use Rattle.text.proofs.writing.fill.Reads as fill-reads
 use Rattle.text.proofs.writing.raise.Reads as raise-reads
 
@@ -55,16 +56,12 @@ fill-requires : tie.Need-fill-requires
 fill-requires c κs = search needs
 
 -- src/writing.rt:142:5
-sized-requires : tie.Need-sized-requires
-sized-requires c κs = search needs
+add-put : tie.Need-add-put
+add-put c = search needs
 
--- src/writing.rt:143:18
-add-s : tie.Need-add-s
-add-s c = search needs
-
--- src/writing.rt:143:5
-element-write-s : tie.Need-element-write-s
-element-write-s c = search needs
+-- src/writing.rt:142:5
+put-requires : tie.Need-put-requires
+put-requires c κs = search needs
 
 -- src/writing.rt:118:1
 same-length : tie.Need-same-length
@@ -81,12 +78,13 @@ returns-4 c =
     let a = c .before .before .before .before .before in
     let b = a .before .before .before .before .before .before in
     let d = b .before .before .before in
-    let e = d .before .before .before .before .before in (
-      rw (row-grown (e .args .s .now) (c .sized .ensures) (length (e .args .gap .now)))
+    let e = d .before .before .before .before .before in
+    let grown = ap carried (c .put .ensures) ∙ row-grown (e .args .s .now) (c .before .put-arg .given .0 .1) (length (e .args .gap .now)) in (
+      rw grown
           (inserts (e .args .from) (e .args .p) (e .args .gap .now) (e .args .words .now) (e .args .origins .now) (carried (e .args .s .now)) (d .if3 .left)
           (b .raise .ensures .0) (b .raise .ensures .1) (a .fill .ensures .0) (a .fill .ensures .1)),
       λ text h.
-          ahead-grown text (carried (e .args .s .now)) (length (e .args .gap .now)) (row-grown (e .args .s .now) (c .sized .ensures) (length (e .args .gap .now))) h,
+          ahead-grown text (carried (e .args .s .now)) (length (e .args .gap .now)) grown h,
     )
 
 pub insert-spec : {M : Type 1} → statement M
@@ -99,9 +97,8 @@ insert-spec =
     returns-3
     raise-requires
     fill-requires
-    sized-requires
-    add-s
-    element-write-s
+    add-put
+    put-requires
     same-length
     same-length-2
     returns-4)

@@ -1,3 +1,4 @@
+use mathlib.Core.Path.{ap, _∙_}
 use Rattle.text.specs.Told.{carried}
 use Rattle.text.proofs.WrittenLaws.{owes-more, owes-much, owes-many}
 use Rattle.text.proofs.WritingCode.{row-owing}
@@ -7,7 +8,7 @@ use Rattle.text.proofs.writing.owe.Statement.{statement}
 use Rattle.text.proofs.writing.owe.Tie as tie
 use Rattle.text.proofs.writing.owe.Reads as reads
 use Rattle.text.proofs.writing.owe.Lts as lts
-use Rattle.text.proofs.naming.sized.Reads as sized-reads
+use Rattle.text.proofs.naming.put.Reads as put-reads
 
 -- src/writing.rt:51:16
 element-copy-out-owed : tie.Need-element-copy-out-owed
@@ -24,23 +25,20 @@ unfolding carried
 returns-2 c = (owes-many (c .before .before .before .args .k) (carried (c .before .before .before .args .s .now)) (c .if2 .taken), λ text h. h)
 
 -- src/writing.rt:58:5
-sized-requires : tie.Need-sized-requires
-sized-requires c κs = search needs
+add-put : tie.Need-add-put
+add-put c = search needs
 
--- src/writing.rt:59:15
-add-s : tie.Need-add-s
-add-s c = search needs
-
--- src/writing.rt:59:5
-element-write-s : tie.Need-element-write-s
-element-write-s c = search needs
+-- src/writing.rt:58:5
+put-requires : tie.Need-put-requires
+put-requires c κs = search needs
 
 -- src/writing.rt:47:1
 returns-3 : tie.Need-returns-3
 returns-3 c =
-    let a = c .before .before .before .before .before in (
-      owes-more (a .args .k) (carried (a .args .s .now)) (row-owing (a .args .s .now) (c .sized .ensures) (a .args .k)),
-      λ text h. ahead-owing text (carried (a .args .s .now)) (a .args .k) (row-owing (a .args .s .now) (c .sized .ensures) (a .args .k)) h,
+    let a = c .before .before .before .before .before in
+    let owes = ap carried (c .put .ensures) ∙ row-owing (a .args .s .now) (c .before .put-arg .given .0 .1) (a .args .k) in (
+      owes-more (a .args .k) (carried (a .args .s .now)) owes,
+      λ text h. ahead-owing text (carried (a .args .s .now)) (a .args .k) owes h,
     )
 
 pub owe-spec : {M : Type 1} → statement M
@@ -50,7 +48,6 @@ owe-spec =
     element-copy-out-owed
     returns
     returns-2
-    sized-requires
-    add-s
-    element-write-s
+    add-put
+    put-requires
     returns-3)

@@ -1,3 +1,5 @@
+use mathlib.Core.Path.{ap, _∙_}
+use Rattle.text.specs.Told.{carried}
 use Rattle.words.proofs.Signed.{back32}
 use Rattle.text.proofs.WritingCode.{row-wrote, wrote-none, with-none, with-more}
 use borrow.Author.Needs.{needs}
@@ -6,7 +8,6 @@ use Rattle.text.proofs.writing.write.Tie as tie
 use Rattle.text.proofs.writing.write.Reads as reads
 use Rattle.text.proofs.writing.write.Lts as lts
 use Rattle.text.proofs.naming.put.Reads as put-reads
-use Rattle.text.proofs.naming.sized.Reads as sized-reads
 use Rattle.words.proofs.store.Reads as store-reads
 
 -- src/writing.rt:26:14
@@ -30,16 +31,12 @@ put-requires : tie.Need-put-requires
 put-requires c κs = search needs
 
 -- src/writing.rt:32:5
-sized-requires : tie.Need-sized-requires
-sized-requires c κs = search needs
+add-put : tie.Need-add-put
+add-put c = search needs
 
--- src/writing.rt:33:18
-add-s : tie.Need-add-s
-add-s c = search needs
-
--- src/writing.rt:33:5
-element-write-s : tie.Need-element-write-s
-element-write-s c = search needs
+-- src/writing.rt:32:5
+put-requires-2 : tie.Need-put-requires-2
+put-requires-2 c κs = search needs
 
 -- src/writing.rt:21:1
 same-length : tie.Need-same-length
@@ -59,7 +56,7 @@ returns-2 c =
       with-more (e .args .s .now) (e .args .words .now) (e .args .w) (d .if1 .left) (rw (back32 (e .args .w) (e .fits .w)) at (b .store .ensures)),
       (
         with-more (e .args .s .now) (e .args .origins .now) (e .args .p) (d .if1 .left) (a .put .ensures),
-        row-wrote (e .args .s .now) (c .sized .ensures) (d .if1 .left),
+        ap carried (c .put2 .ensures) ∙ row-wrote (e .args .s .now) (c .before .put-arg2 .given .0 .1) (d .if1 .left),
       ),
     )
 
@@ -71,9 +68,8 @@ write-spec =
     returns
     store-requires
     put-requires
-    sized-requires
-    add-s
-    element-write-s
+    add-put
+    put-requires-2
     same-length
     same-length-2
     returns-2)
