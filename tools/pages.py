@@ -1,7 +1,8 @@
 #!/usr/bin/env python3
 """Tests README.md, docs/OUTCOMES.md and docs/NOTATION.md: the inputs and outputs that they show are those of sheets/, the second page has a section with a sheet for every outcome
-from 0 to 19 and for `input=`, and each sheet of sheets/outcomes is named after what it answers. Every text of the third is a file, every refusal is its `.read` as hosts/rust
-prints it, and 20, 21 and 22 have a section each. `...` on a page stands for what is left out. That the sheets give their outputs is tested elsewhere."""
+from 0 to 19 and for `input=`, and each sheet of sheets/outcomes is named after what it answers. Every text of the first two is a file, and its refusal the `.shown` beside it; 7, 8,
+9, 15, 17 and 19 have such texts. Every text of the third is a file, every refusal is its `.read` as hosts/rust prints it, and 20, 21 and 22 have a section each. `...` on a page
+stands for what is left out. That the sheets give their outputs is tested elsewhere."""
 import pathlib
 import re
 import sys
@@ -12,6 +13,7 @@ SHOWN = re.compile(r"`sheets/([a-z0-9/-]+)` reads\n\n```\n(.*?)```\n\nand prints
 ANSWERED = re.compile(r"`sheets/([a-z0-9/-]+)\.txt` answers\n\n```\n(.*?)```", re.S)
 TYPED = re.compile(r"`sheets/([a-z0-9/-]+)` types\n\n```\n(.*?)\n```(?:\n\nand is refused:\n\n```\n(.*?)\n```)?", re.S)
 TYPED_ROW = re.compile(r"^\| `([^`]+)` \| (?:(\d\d, column \d+) \| )?.* \| `([a-z0-9-]+)` \|$", re.M)
+SHOWN_IN_TEXT = ["7", "8", "9", "15", "17", "19"]
 faults = []
 
 
@@ -47,6 +49,21 @@ def test_shown(text):
     return answers
 
 
+def test_refused(text):
+    """Every text that a page types is its file, and is refused as its `.shown` says. How many refusals there are is given back."""
+    typed = TYPED.findall(text)
+    for name, shown, told in typed:
+        file = SHEETS / f"{name}.text"
+        if not file.is_file() or not is_cut(shown, file.read_text().removesuffix("\n")):
+            faults.append(f"{name}.text is not as shown")
+        display = SHEETS / f"{name}.shown"
+        if told != (display.read_text().removesuffix("\n") if display.is_file() else ""):
+            faults.append(f"{name}.shown is not as shown")
+    if len(typed) != text.count("` types\n"):
+        faults.append("a text is shown in another form")
+    return sum(1 for _, _, told in typed if told)
+
+
 def test_outcomes(page):
     sections = re.split(r"^## ", page, flags=re.M)[1:]
     headings = [section.split(":")[0] for section in sections]
@@ -57,6 +74,8 @@ def test_outcomes(page):
         wanted = {"input-1", "input-2", "input-3"} if "input" in heading else {heading.zfill(2)}
         if answers != wanted:
             faults.append(f"the section on {heading} shows {sorted(answers)}")
+        if (test_refused(section) > 0) != (heading in SHOWN_IN_TEXT):
+            faults.append(f"the section on {heading} shows texts or none")
     return len(sections)
 
 
@@ -123,8 +142,10 @@ def test_typed():
 def main():
     page = (ROOT / "docs" / "OUTCOMES.md").read_text()
     sections, sheets = test_outcomes(page), test_names(page)
-    if not test_shown((ROOT / "README.md").read_text()):
+    readme = (ROOT / "README.md").read_text()
+    if not test_shown(readme):
         faults.append("README.md shows no sheet")
+    test_refused(readme)
     texts = test_notation((ROOT / "docs" / "NOTATION.md").read_text())
     test_typed()
     print("\n".join(faults) or f"{sections} outcomes explained, {sheets} sheets of them; {texts} texts of the notation")

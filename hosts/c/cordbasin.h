@@ -33,8 +33,9 @@ enum {
 };
 
 /* Outcomes, and the place that each comes with. 1 to 4 are tried in this order; they cost no steps, accept no proposal and change no
-   table. From 5 on the place is the word of the statement that is refused (the while's for a later test of it), and the tables hold
-   what the last accepted statement left. */
+   table. From 5 on the tables hold what the last accepted statement left. 7, 8, 9 and 15 come with the word at fault; the place of the
+   others from 5 on is the word of the statement that is refused (the while's where a later test cannot be paid). For a program that
+   was read from a text, origins[place] is the byte to show. */
 enum {
     /* place: the program's length */
     CORDBASIN_FINISHED = 0,
@@ -50,11 +51,12 @@ enum {
     CORDBASIN_BUDGET_SPENT = 5,
     /* no proposal words are left */
     CORDBASIN_NO_PROPOSAL = 6,
-    /* an absent variable, a missing field, or a path through what is no record */
+    /* an absent variable, a missing field, or a path through what is no record; place: the path's variable word */
     CORDBASIN_NO_CELL = 7,
-    /* a value of the wrong kind */
+    /* a value of the wrong kind; place: the first word of the operation (its 25) or of the test, the priority of the part, or the
+       variable word of the identity's side */
     CORDBASIN_WRONG_KIND = 8,
-    /* a sum, difference or product, outside constraints, leaves 32 bits */
+    /* a sum, difference or product, outside constraints, leaves 32 bits; place: its first word (its 25) */
     CORDBASIN_OUT_OF_RANGE = 9,
     /* there are 64 records already */
     CORDBASIN_HEAP_FULL = 10,
@@ -66,7 +68,7 @@ enum {
     CORDBASIN_PLAIN_IDENTITY = 13,
     /* there is no room for a position that is not yet kept */
     CORDBASIN_NO_ROOM = 14,
-    /* a kept value constraint no longer reads */
+    /* a kept value constraint no longer reads; place: the word that 7 or 8 would have in the first such constraint, in kept order */
     CORDBASIN_LOST_CONSTRAINT = 15,
     /* the proposal is cut short, its n is out of range, or its locations do not rise or are outside 0 to 575 */
     CORDBASIN_UNFIT_PROPOSAL = 16,

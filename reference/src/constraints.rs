@@ -1,16 +1,17 @@
 //! Value constraints: whether they read and which parts hold.
 
 use crate::evaluate;
-use crate::outcome::Outcome;
+use crate::outcome::{Fault, Outcome};
 use crate::program::{Constraint, Part, Priority};
 use crate::tables::{Kind, Tables, Value};
 
 /// C reads if its paths exist, its operators get their kinds and each part
-/// is boolean; parts are judged one after the other.
-pub fn reads(tables: &Tables, constraint: &Constraint) -> Result<(), Outcome> {
+/// is boolean; parts are judged one after the other. A part that is no boolean
+/// is 8 at its priority.
+pub fn reads(tables: &Tables, constraint: &Constraint) -> Result<(), Fault> {
     for part in &constraint.parts {
         if evaluate::kind(tables, &part.expression)? != Kind::Boolean {
-            return Err(Outcome::WrongKind);
+            return Err(Outcome::WrongKind.at(part.position));
         }
     }
     Ok(())

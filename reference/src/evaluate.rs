@@ -1,43 +1,50 @@
-//! Paths and expressions in a state of the tables.
+//! Paths and expressions in a state of the tables. A refusal has its word.
 
-use crate::outcome::Outcome;
+use crate::outcome::{Fault, Outcome};
 use crate::program::{Expression, Identity, Operator, Path, Term};
 use crate::tables::{Kind, Location, Tables, Value};
 
 /// The next cell on a path: from a cell that holds a record to a field of it.
-fn step(tables: &Tables, cell: Location, label: usize) -> Result<Location, Outcome> {
+fn step(tables: &Tables, cell: Location, label: usize) -> Option<Location> {
     match tables.cell(cell) {
-        Some(Value::Reference(record)) => tables.field(record, label).ok_or(Outcome::NoCell),
-        _ => Err(Outcome::NoCell),
+        Some(Value::Reference(record)) => tables.field(record, label),
+        _ => None,
     }
 }
 
+/// 7, at the path's variable word.
+fn no_cell(path: &Path) -> Fault {
+    Outcome::NoCell.at(path.position)
+}
+
 /// The cell a path names, which may be an absent variable.
-pub fn locate(tables: &Tables, path: &Path) -> Result<Location, Outcome> {
+pub fn locate(tables: &Tables, path: &Path) -> Result<Location, Fault> {
     let mut cell = path.variable;
     for label in &path.labels {
-        cell = step(tables, cell, *label)?;
+        cell = step(tables, cell, *label).ok_or_else(|| no_cell(path))?;
     }
     Ok(cell)
 }
 
 /// The cells on the way to the one a path names, without that one itself.
-pub fn prefix(tables: &Tables, path: &Path) -> Result<Vec<Location>, Outcome> {
+pub fn prefix(tables: &Tables, path: &Path) -> Result<Vec<Location>, Fault> {
     let mut cells = Vec::with_capacity(path.labels.len());
     let mut cell = path.variable;
     for label in &path.labels {
         cells.push(cell);
-        cell = step(tables, cell, *label)?;
+        cell = step(tables, cell, *label).ok_or_else(|| no_cell(path))?;
     }
     Ok(cells)
 }
 
-pub fn read(tables: &Tables, path: &Path) -> Result<Value, Outcome> {
-    tables.cell(locate(tables, path)?).ok_or(Outcome::NoCell)
+pub fn read(tables: &Tables, path: &Path) -> Result<Value, Fault> {
+    let cell = locate(tables, path)?;
+    tables.cell(cell).ok_or_else(|| no_cell(path))
 }
 
-/// The value of an expression, with 7, 8 and 9 as they are met.
-pub fn value(tables: &Tables, expression: &Expression) -> Result<Value, Outcome> {
+/// The value of an expression, with 7, 8 and 9 as they are met; 8 and 9 are at
+/// the operator's first word.
+pub fn value(tables: &Tables, expression: &Expression) -> Result<Value, Fault> {
     match &expression.term {
         Term::Nil => Ok(Value::Nil),
         Term::Boolean(truth) => Ok(Value::Boolean(*truth)),
@@ -46,23 +53,23 @@ pub fn value(tables: &Tables, expression: &Expression) -> Result<Value, Outcome>
         Term::Apply(operator, left, right) => {
             let left = value(tables, left)?;
             let right = value(tables, right)?;
-            apply(*operator, left, right)
+            apply(*operator, left, right).map_err(|outcome| outcome.at(expression.position))
         }
         Term::Identical(identity) => identical(tables, identity).map(Value::Boolean),
     }
 }
 
-fn identical(tables: &Tables, identity: &Identity) -> Result<bool, Outcome> {
+fn identical(tables: &Tables, identity: &Identity) -> Result<bool, Fault> {
     let left = read(tables, &identity.left)?;
     let right = read(tables, &identity.right)?;
     Ok(left == right)
 }
 
-/// The test of an if or a while.
-pub fn test(tables: &Tables, expression: &Expression) -> Result<bool, Outcome> {
+/// The test of an if or a while, or 8 at its first word.
+pub fn test(tables: &Tables, expression: &Expression) -> Result<bool, Fault> {
     match value(tables, expression)? {
         Value::Boolean(truth) => Ok(truth),
-        _ => Err(Outcome::WrongKind),
+        _ => Err(Outcome::WrongKind.at(expression.position)),
     }
 }
 
@@ -101,7 +108,7 @@ fn apply_booleans(operator: Operator, left: bool, right: bool) -> Result<Value, 
 
 /// The kind an expression inside C reads as. Numbers play no part in it, so
 /// arithmetic that leaves 32 bits still reads as an integer.
-pub fn kind(tables: &Tables, expression: &Expression) -> Result<Kind, Outcome> {
+pub fn kind(tables: &Tables, expression: &Expression) -> Result<Kind, Fault> {
     match &expression.term {
         Term::Nil => Ok(Kind::Nil),
         Term::Boolean(_) => Ok(Kind::Boolean),
@@ -110,13 +117,14 @@ pub fn kind(tables: &Tables, expression: &Expression) -> Result<Kind, Outcome> {
         Term::Apply(operator, left, right) => {
             let left = kind(tables, left)?;
             let right = kind(tables, right)?;
-            kind_of_result(*operator, left, right)
+            let kind = kind_of_result(*operator, left, right);
+            kind.ok_or_else(|| Outcome::WrongKind.at(expression.position))
         }
-        Term::Identical(_) => Err(Outcome::WrongKind),
+        Term::Identical(_) => Err(Outcome::WrongKind.at(expression.position)),
     }
 }
 
-fn kind_of_result(operator: Operator, left: Kind, right: Kind) -> Result<Kind, Outcome> {
+fn kind_of_result(operator: Operator, left: Kind, right: Kind) -> Option<Kind> {
     use Operator::*;
     let fits = match operator {
         Equal | Unequal => left != Kind::Reference && right != Kind::Reference,
@@ -124,8 +132,8 @@ fn kind_of_result(operator: Operator, left: Kind, right: Kind) -> Result<Kind, O
         _ => left == Kind::Integer && right == Kind::Integer,
     };
     match operator {
-        _ if !fits => Err(Outcome::WrongKind),
-        Plus | Minus | Times => Ok(Kind::Integer),
-        _ => Ok(Kind::Boolean),
+        _ if !fits => None,
+        Plus | Minus | Times => Some(Kind::Integer),
+        _ => Some(Kind::Boolean),
     }
 }

@@ -1,20 +1,23 @@
 //! Identities: whether they hold, and the identity phase of a statement.
 
 use crate::evaluate;
-use crate::outcome::Outcome;
+use crate::outcome::{Fault, Outcome};
 use crate::program::{Identity, Path};
 use crate::tables::{Location, Tables, Value};
 use std::collections::BTreeSet;
 
-/// Both sides must hold references or nil, and the same one.
-pub fn holds(tables: &Tables, identity: &Identity) -> Result<(), Outcome> {
+/// Both sides must hold references or nil, and the same one. Both paths are
+/// followed before either side's kind is judged.
+pub fn holds(tables: &Tables, identity: &Identity) -> Result<(), Fault> {
     let left = evaluate::read(tables, &identity.left)?;
     let right = evaluate::read(tables, &identity.right)?;
-    if !left.is_reference_or_nil() || !right.is_reference_or_nil() {
-        return Err(Outcome::WrongKind);
+    for (value, side) in [(left, &identity.left), (right, &identity.right)] {
+        if !value.is_reference_or_nil() {
+            return Err(Outcome::WrongKind.at(side.position));
+        }
     }
     if left != right {
-        return Err(Outcome::NotIdentical);
+        return Err(Outcome::NotIdentical.into());
     }
     Ok(())
 }
@@ -26,7 +29,7 @@ struct Web {
 }
 
 impl Web {
-    fn of(tables: &Tables, kept: &[&Identity]) -> Result<Web, Outcome> {
+    fn of(tables: &Tables, kept: &[&Identity]) -> Result<Web, Fault> {
         let mut web = Web {
             ties: Vec::with_capacity(kept.len()),
             frozen: BTreeSet::new(),
@@ -39,7 +42,7 @@ impl Web {
         Ok(web)
     }
 
-    fn side(&mut self, tables: &Tables, path: &Path) -> Result<Location, Outcome> {
+    fn side(&mut self, tables: &Tables, path: &Path) -> Result<Location, Fault> {
         self.frozen.extend(evaluate::prefix(tables, path)?);
         evaluate::locate(tables, path)
     }
@@ -75,16 +78,16 @@ pub fn class_to_move(
     target: Location,
     target_prefix: Vec<Location>,
     value: Value,
-) -> Result<BTreeSet<Location>, Outcome> {
+) -> Result<BTreeSet<Location>, Fault> {
     let mut web = Web::of(tables, kept)?;
     if web.names(target) && !value.is_reference_or_nil() {
-        return Err(Outcome::PlainIdentity);
+        return Err(Outcome::PlainIdentity.into());
     }
     web.frozen.extend(target_prefix);
     let class = web.class(target);
     let mut held = class.intersection(&web.frozen);
     if held.any(|cell| tables.cell(*cell) != Some(value)) {
-        return Err(Outcome::IdentityClash);
+        return Err(Outcome::IdentityClash.into());
     }
     Ok(class)
 }

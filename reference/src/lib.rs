@@ -12,6 +12,7 @@ pub mod generator;
 pub mod identity;
 pub mod lister;
 pub mod outcome;
+pub mod places;
 pub mod program;
 pub mod proposal;
 pub mod run;

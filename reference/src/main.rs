@@ -62,10 +62,11 @@ fn generate(seed: u64, count: u64) -> io::Result<ExitCode> {
 /// Fails if an outcome comes up fewer than 50 times in 10,000.
 fn histogram(seed: u64, count: u64) -> io::Result<ExitCode> {
     let mut output = io::stdout();
-    let counts = generator::histogram(seed, count);
+    let (counts, places) = generator::histogram(seed, count);
     for (outcome, sheets) in counts.iter().enumerate() {
         writeln!(output, "{outcome} {sheets}")?;
     }
+    writeln!(output, "{places}")?;
     let rare = |sheets: &u64| u128::from(*sheets) * 10_000 < u128::from(count) * 50;
     Ok(match counts.iter().any(rare) {
         true => ExitCode::FAILURE,

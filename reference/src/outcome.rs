@@ -1,4 +1,4 @@
-//! The outcomes of document 01 under their numbers.
+//! The outcomes of document 01 under their numbers, and the word at fault.
 
 #[derive(Clone, Copy, Debug, PartialEq, Eq, PartialOrd, Ord)]
 pub enum Outcome {
@@ -50,5 +50,29 @@ impl Outcome {
 
     pub fn number(self) -> i32 {
         self as i32
+    }
+
+    pub fn at(self, word: usize) -> Fault {
+        Fault {
+            outcome: self,
+            word: Some(word),
+        }
+    }
+}
+
+/// Why a piece is refused, and the word at fault. Only 7, 8, 9 and 15 have
+/// one; for all others the place is the statement's word.
+#[derive(Clone, Copy, Debug, PartialEq, Eq)]
+pub struct Fault {
+    pub outcome: Outcome,
+    pub word: Option<usize>,
+}
+
+impl From<Outcome> for Fault {
+    fn from(outcome: Outcome) -> Fault {
+        Fault {
+            outcome,
+            word: None,
+        }
     }
 }

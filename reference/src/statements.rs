@@ -3,13 +3,13 @@
 use crate::constraints;
 use crate::evaluate;
 use crate::identity;
-use crate::outcome::Outcome;
+use crate::outcome::{Fault, Outcome};
 use crate::program::{Action, Always, Block, Constraint, Expression, Identity, Path, Statement};
 use crate::proposal::{Proposal, Source, Wanted};
 use crate::tables::{Location, Tables, Value, IDENTITY_POSITIONS, RECORDS, VALUE_POSITIONS};
 use std::rc::Rc;
 
-/// A refusal from 5 on: its outcome and the word of the refused statement.
+/// A refusal from 5 on: its outcome, and the word at fault or the statement's.
 #[derive(Clone, Copy, Debug, PartialEq, Eq)]
 pub struct Refusal {
     pub outcome: Outcome,
@@ -33,7 +33,10 @@ impl<'a, S: Source> Machine<'a, S> {
 
     pub fn statement(&mut self, statement: &Statement) -> Result<(), Refusal> {
         let place = statement.position;
-        let at = |outcome| Refusal { outcome, place };
+        let at = |fault: Fault| Refusal {
+            outcome: fault.outcome,
+            place: fault.word.unwrap_or(place),
+        };
         self.step().map_err(at)?;
         match &statement.action {
             Action::Skip => Ok(()),
@@ -57,15 +60,15 @@ impl<'a, S: Source> Machine<'a, S> {
         }
     }
 
-    fn step(&mut self) -> Result<(), Outcome> {
+    fn step(&mut self) -> Result<(), Fault> {
         if self.steps >= self.budget {
-            return Err(Outcome::BudgetSpent);
+            return Err(Outcome::BudgetSpent.into());
         }
         self.steps += 1;
         Ok(())
     }
 
-    fn assign(&mut self, target: &Path, expression: &Expression) -> Result<(), Outcome> {
+    fn assign(&mut self, target: &Path, expression: &Expression) -> Result<(), Fault> {
         let value = evaluate::value(&self.tables, expression)?;
         let prefix = evaluate::prefix(&self.tables, target)?;
         let target = evaluate::locate(&self.tables, target)?;
@@ -73,18 +76,14 @@ impl<'a, S: Source> Machine<'a, S> {
         self.give(target, prefix, value, after)
     }
 
-    fn new_record(
-        &mut self,
-        variable: usize,
-        fields: &[(usize, Expression)],
-    ) -> Result<(), Outcome> {
+    fn new_record(&mut self, variable: usize, fields: &[(usize, Expression)]) -> Result<(), Fault> {
         let mut values = Vec::with_capacity(fields.len());
         for (label, expression) in fields {
             values.push((*label, evaluate::value(&self.tables, expression)?));
         }
         let record = self.tables.record_count();
         if record >= RECORDS {
-            return Err(Outcome::HeapFull);
+            return Err(Outcome::HeapFull.into());
         }
         let mut after = self.tables.clone();
         after.add_record(&values);
@@ -98,31 +97,40 @@ impl<'a, S: Source> Machine<'a, S> {
         prefix: Vec<Location>,
         value: Value,
         mut after: Tables,
-    ) -> Result<(), Outcome> {
+    ) -> Result<(), Fault> {
         let kept = self.kept_identities();
         let class = identity::class_to_move(&self.tables, &kept, target, prefix, value)?;
         for cell in class {
             after.set(cell, value);
         }
-        for constraint in self.kept_constraints(&after) {
-            constraints::reads(&after, constraint).map_err(|_| Outcome::LostConstraint)?;
-        }
+        self.reads_on(&after)?;
         self.value_phase(after, None, Some(target))
     }
 
-    fn always(&mut self, position: usize, constraint: &Constraint) -> Result<(), Outcome> {
+    /// 15 has the word that 7 or 8 has in the first kept constraint that does
+    /// not read.
+    fn reads_on(&self, after: &Tables) -> Result<(), Fault> {
+        let lost = |fault| Fault {
+            outcome: Outcome::LostConstraint,
+            ..fault
+        };
+        let mut kept = self.kept_constraints(after).into_iter();
+        kept.try_for_each(|constraint| constraints::reads(after, constraint).map_err(lost))
+    }
+
+    fn always(&mut self, position: usize, constraint: &Constraint) -> Result<(), Fault> {
         constraints::reads(&self.tables, constraint)?;
         let mut after = self.tables.clone();
         keep(&mut after.values, position, VALUE_POSITIONS)?;
         self.value_phase(after, None, None)
     }
 
-    fn once(&mut self, constraint: &Constraint) -> Result<(), Outcome> {
+    fn once(&mut self, constraint: &Constraint) -> Result<(), Fault> {
         constraints::reads(&self.tables, constraint)?;
         self.value_phase(self.tables.clone(), Some(constraint), None)
     }
 
-    fn always_identity(&mut self, position: usize, identity: &Identity) -> Result<(), Outcome> {
+    fn always_identity(&mut self, position: usize, identity: &Identity) -> Result<(), Fault> {
         identity::holds(&self.tables, identity)?;
         keep(&mut self.tables.identities, position, IDENTITY_POSITIONS)
     }
@@ -134,7 +142,7 @@ impl<'a, S: Source> Machine<'a, S> {
         mut after: Tables,
         own: Option<&Constraint>,
         target: Option<Location>,
-    ) -> Result<(), Outcome> {
+    ) -> Result<(), Fault> {
         let mut active = self.kept_constraints(&after);
         active.extend(own);
         let words = self.source.unread(&Wanted {
@@ -149,11 +157,11 @@ impl<'a, S: Source> Machine<'a, S> {
                 .all(|constraint| constraints::all_parts_hold(&after, constraint));
         proposal.carry_out(&mut after, target)?;
         if satisfied {
-            return Err(Outcome::NeedlessChange);
+            return Err(Outcome::NeedlessChange.into());
         }
         let mut required = active.iter();
         if !required.all(|constraint| constraints::required_parts_hold(&after, constraint)) {
-            return Err(Outcome::RequiredUnmet);
+            return Err(Outcome::RequiredUnmet.into());
         }
         self.source.accept(proposal.length());
         self.accepted += 1;
@@ -175,12 +183,12 @@ impl<'a, S: Source> Machine<'a, S> {
 }
 
 /// Adds a position unless it is kept already, or 14.
-fn keep(positions: &mut Vec<usize>, position: usize, room: usize) -> Result<(), Outcome> {
+fn keep(positions: &mut Vec<usize>, position: usize, room: usize) -> Result<(), Fault> {
     if positions.contains(&position) {
         return Ok(());
     }
     if positions.len() >= room {
-        return Err(Outcome::NoRoom);
+        return Err(Outcome::NoRoom.into());
     }
     positions.push(position);
     Ok(())

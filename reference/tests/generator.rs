@@ -7,12 +7,24 @@ const SEED: u64 = 20_240_501;
 
 #[test]
 fn every_outcome_comes_up() {
-    let counts = histogram(SEED, 10_000);
+    let (counts, places) = histogram(SEED, 10_000);
     assert_eq!(counts.iter().sum::<u64>(), 10_000);
     for (outcome, sheets) in counts.iter().enumerate() {
         assert!(*sheets >= 100, "outcome {outcome} only {sheets} times");
     }
     assert!(counts[0] >= 2500, "only {} finished", counts[0]);
+    assert!(places.are_met(100), "{places}");
+    assert!(places.sorts.iter().all(|count| *count >= 50), "{places}");
+}
+
+/// No place of 7, 8, 9 and 15 is a statement's word.
+#[test]
+fn every_place_of_a_word_at_fault_is_inside() {
+    let (counts, places) = histogram(SEED, 4000);
+    assert_eq!(
+        places.outcomes,
+        [7, 8, 9, 15].map(|outcome| counts[outcome])
+    );
 }
 
 #[test]
@@ -43,7 +55,7 @@ fn digest(lines: impl Iterator<Item = String>) -> u64 {
 #[test]
 fn the_same_sheets_on_every_machine() {
     let lines = (0..500).map(|index| sheet(1, index).line());
-    assert_eq!(digest(lines), 6_018_567_580_987_005_617);
+    assert_eq!(digest(lines), 7_284_792_273_068_740_245);
 }
 
 #[test]

@@ -128,7 +128,7 @@ fn k11_kept_constraint_lost() {
         &[3, 1, 3, 25, 9, 24, 0, 1, 0, 23, 0],
         &[2, 0, 1, 1, 23, 5],
     ]);
-    let finish = check(&fresh(&program, &ZEROS), (15, 18, 3, 2, 6));
+    let finish = check(&fresh(&program, &ZEROS), (15, 13, 3, 2, 6));
     check_tables(
         &finish,
         &environment(&[(0, reference(0))]),
@@ -140,7 +140,7 @@ fn k11_kept_constraint_lost() {
 #[test]
 fn k12_range() {
     let program = block(&[&[1, 0, 0, 25, 2, 23, i32::MIN, 23, 1]]);
-    check_unchanged(&fresh(&program, &[0]), (9, 1, 1, 0, 1));
+    check_unchanged(&fresh(&program, &[0]), (9, 4, 1, 0, 1));
     let mut large = P;
     large[32] = 1_000_000_000;
     let finish = check(&fresh(&large, &[0, 0, 0]), (19, 27, 3, 2, 1));

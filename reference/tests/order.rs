@@ -45,27 +45,27 @@ fn expressions_in_reading_order() {
     let absent = [24, 9, 0];
     let overflow = [25, 1, 23, i32::MAX, 23, 1];
     let wrong = [25, 1, 22, 22];
-    for (left, right, outcome) in [
-        (&absent[..], &wrong[..], 7),
-        (&wrong, &absent, 8),
-        (&overflow, &absent, 9),
-        (&absent, &overflow, 7),
-        (&overflow, &[22], 9),
-        (&[22], &overflow, 9),
-        (&[22], &[23, 1], 8),
+    for (left, right, outcome, place) in [
+        (&absent[..], &wrong[..], 7, 8),
+        (&wrong, &absent, 8, 7),
+        (&overflow, &absent, 9, 7),
+        (&absent, &overflow, 7, 8),
+        (&overflow, &[22], 9, 7),
+        (&[22], &overflow, 9, 8),
+        (&[22], &[23, 1], 8, 5),
     ] {
         let mut statement = vec![1, 0, 1, 0, 25, 1];
         statement.extend(left);
         statement.extend(right);
         let sheet = fresh(&block(&[&statement]), &[]);
-        check_unchanged(&sheet, (outcome, 1, 1, 0, 0));
+        check_unchanged(&sheet, (outcome, place, 1, 0, 0));
     }
 }
 
 #[test]
 fn kinds_before_range() {
     let mut sheet = fresh(&block(&[&[1, 0, 0, 25, 1, 23, i32::MAX, 22]]), &[]);
-    check_unchanged(&sheet, (8, 1, 1, 0, 0));
+    check_unchanged(&sheet, (8, 4, 1, 0, 0));
     sheet.budget = 0;
     check_unchanged(&sheet, (5, 1, 0, 0, 0));
 }
@@ -84,7 +84,7 @@ fn expressions_before_a_full_heap_before_a_clash() {
     records[0] = &[(0, NIL)];
     sheet.heap = heap(&records);
     sheet.environment = environment(&[(0, reference(0))]);
-    check(&sheet, (7, 8, 2, 0, 1));
+    check(&sheet, (7, 13, 2, 0, 1));
     sheet.program = block(&[&[5, 0, 1, 0, 0, 1, 0], &[2, 0, 1, 0, 20]]);
     check(&sheet, (10, 8, 2, 0, 1));
     sheet.heap = heap(&[&[(0, NIL)]]);
@@ -118,7 +118,7 @@ fn twelve_before_fifteen_before_six() {
     sheet.heap = heap(&[&[(0, NIL), (1, int(5))]]);
     check(&sheet, (12, 18, 3, 1, 0));
     sheet.program[1..7].copy_from_slice(&[6, 0, 1, 0, 1, 0]);
-    check(&sheet, (15, 18, 3, 1, 0));
+    check(&sheet, (15, 13, 3, 1, 0));
     sheet.program[18..22].copy_from_slice(&[1, 1, 0, 20]);
     check(&sheet, (6, 18, 3, 1, 0));
 }
@@ -133,8 +133,8 @@ fn full_of_values(last: &[i32]) -> Sheet {
 
 #[test]
 fn reading_before_room_before_six() {
-    check(&full_of_values(&[3, 1, 1, 24, 0, 0]), (7, 257, 65, 64, 0));
-    check(&full_of_values(&[3, 1, 1, 23, 1]), (8, 257, 65, 64, 0));
+    check(&full_of_values(&[3, 1, 1, 24, 0, 0]), (7, 261, 65, 64, 0));
+    check(&full_of_values(&[3, 1, 1, 23, 1]), (8, 259, 65, 64, 0));
     check(&full_of_values(&[3, 1, 1, 22]), (14, 257, 65, 64, 0));
     check(&full_of_values(&[4, 1, 1, 22]), (6, 257, 65, 64, 0));
 }
@@ -166,9 +166,9 @@ fn proposals_in_their_order() {
 #[test]
 fn parts_of_a_constraint_as_met() {
     let mut sheet = fresh(&block(&[&[4, 2, 1, 23, 1, 1, 24, 9, 0]]), &[]);
-    check_unchanged(&sheet, (8, 1, 1, 0, 0));
+    check_unchanged(&sheet, (8, 3, 1, 0, 0));
     sheet.program = block(&[&[4, 2, 1, 24, 9, 0, 1, 23, 1]]);
-    check_unchanged(&sheet, (7, 1, 1, 0, 0));
+    check_unchanged(&sheet, (7, 5, 1, 0, 0));
 }
 
 #[test]
@@ -176,16 +176,16 @@ fn identity_statements() {
     let mut statements: Vec<&[i32]> = vec![&[5, 0, 0, 0, 0]; 32];
     statements.push(&[5, 1, 0, 2, 0]);
     let mut sheet = fresh(&block(&statements), &[]);
-    for (first, second, outcome) in [
-        (int(1), (0, 0), 7),
-        (int(1), NIL, 8),
-        (NIL, boolean(true), 8),
-        (int(1), int(1), 8),
-        (reference(0), NIL, 11),
-        (NIL, NIL, 14),
+    for (first, second, outcome, place) in [
+        (int(1), (0, 0), 7, 164),
+        (int(1), NIL, 8, 162),
+        (NIL, boolean(true), 8, 164),
+        (int(1), int(1), 8, 162),
+        (reference(0), NIL, 11, 161),
+        (NIL, NIL, 14, 161),
     ] {
         sheet.environment = environment(&[(0, NIL), (1, first), (2, second)]);
         sheet.heap = heap(&[&[]]);
-        check(&sheet, (outcome, 161, 33, 0, 0));
+        check(&sheet, (outcome, place, 33, 0, 0));
     }
 }

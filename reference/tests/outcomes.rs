@@ -166,62 +166,62 @@ fn budget_in_a_loop_counts_later_tests() {
 #[test]
 fn a_later_test_may_be_refused() {
     let program = block(&[&[1, 0, 0, 22], &[8, 24, 0, 0, 1, 1, 0, 0, 23, 7], &[0]]);
-    let finish = check(&fresh(&program, &[0; 9]), (8, 5, 4, 2, 7));
+    let finish = check(&fresh(&program, &[0; 9]), (8, 6, 4, 2, 7));
     assert_eq!(finish.environment, environment(&[(0, int(7))]));
 }
 
 #[test]
 fn missing_cells() {
-    for program in [
-        block(&[&[1, 0, 0, 24, 1, 0]]),
-        block(&[&[1, 0, 1, 0, 20]]),
-        block(&[&[7, 26, 0, 0, 0, 0, 0, 0]]),
-        block(&[&[5, 0, 0, 0, 0]]),
-        block(&[&[4, 1, 1, 24, 0, 0]]),
+    for (statement, place) in [
+        (&[1, 0, 0, 24, 1, 0][..], 5),
+        (&[1, 0, 1, 0, 20], 2),
+        (&[7, 26, 0, 0, 0, 0, 0, 0], 3),
+        (&[5, 0, 0, 0, 0], 2),
+        (&[4, 1, 1, 24, 0, 0], 5),
     ] {
-        check_unchanged(&fresh(&program, &[0]), (7, 1, 1, 0, 1));
+        check_unchanged(&fresh(&block(&[statement]), &[0]), (7, place, 1, 0, 1));
     }
     let mut sheet = fresh(&[1, 1, 0, 1, 4, 20], &[0]);
     sheet.environment = environment(&[(0, reference(0))]);
     sheet.heap = heap(&[&[(5, NIL)]]);
-    check_unchanged(&sheet, (7, 1, 1, 0, 1));
+    check_unchanged(&sheet, (7, 2, 1, 0, 1));
     sheet.program = vec![1, 1, 0, 2, 5, 5, 20];
-    check_unchanged(&sheet, (7, 1, 1, 0, 1));
+    check_unchanged(&sheet, (7, 2, 1, 0, 1));
 }
 
 #[test]
 fn wrong_kinds() {
-    let mut statements: Vec<Vec<i32>> = vec![
-        vec![7, 20, 0, 0],
-        vec![8, 23, 1, 0],
-        vec![4, 1, 1, 23, 1],
-        vec![6, 1, 0, 1, 0],
-        vec![1, 2, 0, 25, 6, 24, 0, 0, 20],
-        vec![1, 2, 0, 25, 7, 20, 24, 0, 0],
-        vec![4, 1, 1, 25, 6, 24, 0, 0, 20],
+    let mut statements: Vec<(Vec<i32>, usize)> = vec![
+        (vec![7, 20, 0, 0], 2),
+        (vec![8, 23, 1, 0], 2),
+        (vec![4, 1, 1, 23, 1], 3),
+        (vec![6, 1, 0, 1, 0], 2),
+        (vec![1, 2, 0, 25, 6, 24, 0, 0, 20], 4),
+        (vec![1, 2, 0, 25, 7, 20, 24, 0, 0], 4),
+        (vec![4, 1, 1, 25, 6, 24, 0, 0, 20], 4),
     ];
     for operator in [1, 2, 3, 4, 5, 8, 9] {
-        statements.push(vec![1, 2, 0, 25, operator, 23, 1, 22]);
-        statements.push(vec![4, 1, 1, 25, operator, 20, 23, 1]);
+        statements.push((vec![1, 2, 0, 25, operator, 23, 1, 22], 4));
+        statements.push((vec![4, 1, 1, 25, operator, 20, 23, 1], 4));
     }
     for operator in [10, 11] {
-        statements.push(vec![1, 2, 0, 25, operator, 22, 20]);
-        statements.push(vec![4, 1, 1, 25, operator, 23, 1, 22]);
+        statements.push((vec![1, 2, 0, 25, operator, 22, 20], 4));
+        statements.push((vec![4, 1, 1, 25, operator, 23, 1, 22], 4));
     }
-    for statement in statements {
+    for (statement, place) in statements {
         let mut sheet = fresh(&block(&[&statement]), &[0]);
         sheet.environment = environment(&[(0, reference(0)), (1, int(1))]);
         sheet.heap = heap(&[&[]]);
-        check_unchanged(&sheet, (8, 1, 1, 0, 1));
+        check_unchanged(&sheet, (8, place, 1, 0, 1));
     }
 }
 
 #[test]
 fn both_sides_of_and_are_evaluated() {
     let program = block(&[&[1, 0, 0, 25, 10, 21, 24, 1, 0]]);
-    check_unchanged(&fresh(&program, &[0]), (7, 1, 1, 0, 1));
+    check_unchanged(&fresh(&program, &[0]), (7, 8, 1, 0, 1));
     let program = block(&[&[1, 0, 0, 25, 11, 22, 23, 1]]);
-    check_unchanged(&fresh(&program, &[0]), (8, 1, 1, 0, 1));
+    check_unchanged(&fresh(&program, &[0]), (8, 4, 1, 0, 1));
 }
 
 #[test]
@@ -240,7 +240,7 @@ fn ranges() {
         let expected = if fits {
             (0, 10, 1, 1, 0)
         } else {
-            (9, 1, 1, 0, 1)
+            (9, 4, 1, 0, 1)
         };
         check(&fresh(&program, &[0]), expected);
     }

@@ -149,8 +149,15 @@ module _ {g : Tested} (m : Res Bool) (k : g ≡ testedOf m) where
       by (got y) e = cc
       by (stop f) e = unlike cc
 
-  is-stop : {A : Type 0} {n w : ℕ} → g ≡ Fails n w → ((f : Fault) → m ≡ stop f → f .number ≡ n → A) → A
-  is-stop {A} {n} {w} h x = either m (λ b e. unlike (let y : Is b ≡ Fails n w = sym (rw e at k) ∙ h in cc)) (λ f e. x f e (let y : Fails (f .number) (f .word) ≡ Fails n w = sym (rw e at k) ∙ h in cc))
+  is-stop : {A : Type 0} {n w : ℕ} → g ≡ Fails n w → ((f : Fault) → m ≡ stop f → f .number ≡ n → f .word ≡ w → A) → A
+  is-stop {A} {n} {w} h x =
+      either m
+      (λ b e. unlike (let y : Is b ≡ Fails n w = sym (rw e at k) ∙ h in cc))
+      (λ f e.
+      let y : Fails (f .number) (f .word) ≡ Fails n w = sym (rw e at k) ∙ h in
+      let number : f .number ≡ n = cc in
+      let word : f .word ≡ w = cc in
+      x f e number word)
 
 -- ---- an if
 
@@ -159,25 +166,25 @@ module _ (program : List ℤ) (budget : ℕ) (p ws : List ℤ) (S : State) (t : 
   If = doVerb (λ q u. doBlock d program budget q u) (λ q. after (readBlock d q)) program budget p branch (carries ws S t)
 
   module _ {q : List ℤ} (is : q ≡ drop 1 p) {g : Tested} (k : g ≡ testedOf (test (S .cells) q)) where
-    if-is : tested (positionOf program p) (carries ws S t) (test (S .cells) q) (λ u. doBlock d program budget (pastTest p) u) (λ u. doBlock d program budget (after (readBlock d (pastTest p))) u) ≡ If
+    if-is : tested program (carries ws S t) (test (S .cells) q) (λ u. doBlock d program budget (pastTest p) u) (λ u. doBlock d program budget (after (readBlock d (pastTest p))) u) ≡ If
     if-is = rw is (sym (verb-branch (λ r u. doBlock d program budget r u) (λ r. after (readBlock d r)) program budget p (carries ws S t)))
 
-    pub if-refused : {number word place : ℕ} {r : Tally} → Begins ws t → place ≡ positionOf program p → g ≡ Fails number word → r ≡ endedAt number place t → Goes ws t S r If
-    if-refused b l h x = is-stop (test (S .cells) q) k h λ f e n.
-        goes-ends b (omega arith) (λ z. let y = refusal-least (test-refuses (S .cells) q .bad f e) in omega arith) x (rw (l, ← n) (ap untoldOut (sym (tested-stop (positionOf program p) (carries ws S t) f _ _) ∙ (rw e at if-is))))
+    pub if-refused : {number word place : ℕ} {r : Tally} → Begins ws t → place ≡ length program - word → g ≡ Fails number word → r ≡ endedAt number place t → Goes ws t S r If
+    if-refused b l h x = is-stop (test (S .cells) q) k h λ f e n w.
+        goes-ends b (omega arith) (λ z. let y = refusal-least (test-refuses (S .cells) q .bad f e) in omega arith) x (rw (l, ← n, ← w) (ap untoldOut (sym (tested-stop program (carries ws S t) f _ _) ∙ (rw e at if-is))))
 
     pub if-first : {Z : State} {r : Tally} {first : List ℤ} → g ≡ Is true → first ≡ pastTest p → Goes ws t Z r (doBlock d program budget first (carries ws S t)) → Goes ws t Z r If
     if-first h l x =
         goes-from x (omega arith)
         (x .runs .is ∙ rw l (sym (block-forgets d program budget (pastTest p) .same (noted true (carries ws S t))))
-        ∙ ap untoldOut (sym (tested-true (positionOf program p) (carries ws S t) _ _) ∙ (rw (is-got (test (S .cells) q) k h) at if-is)))
+        ∙ ap untoldOut (sym (tested-true program (carries ws S t) _ _) ∙ (rw (is-got (test (S .cells) q) k h) at if-is)))
 
     pub if-second : {Z : State} {r : Tally} {first second : List ℤ} → g ≡ Is false → first ≡ pastTest p → second ≡ after (readBlock d first)
         → Goes ws t Z r (doBlock d program budget second (carries ws S t)) → Goes ws t Z r If
     if-second h l a x =
         goes-from x (omega arith)
         (x .runs .is ∙ rw (a, l) (sym (block-forgets d program budget (after (readBlock d (pastTest p))) .same (noted false (carries ws S t))))
-        ∙ ap untoldOut (sym (tested-false (positionOf program p) (carries ws S t) _ _) ∙ (rw (is-got (test (S .cells) q) k h) at if-is)))
+        ∙ ap untoldOut (sym (tested-false program (carries ws S t) _ _) ∙ (rw (is-got (test (S .cells) q) k h) at if-is)))
 
 -- ---- a while: u is the tally at a test, and the rest gives the whole's answer
 
@@ -188,7 +195,7 @@ pub record Turning (program p ws e₀ h₀ c₀ e h c q body : List ℤ) (budget
   pub begins : Begins ws u
   pub grows : t .steps ≤ u .steps
   pub rest :
-      untoldOut (turns (λ v. doBlock d program budget body v) budget place q fuel (carries ws (tables e h c) u))
+      untoldOut (turns (λ v. doBlock d program budget body v) program budget place q fuel (carries ws (tables e h c) u))
       ≡ untoldOut (doVerb (λ r v. doBlock d program budget r v) (λ r. after (readBlock d r)) program budget p loop (carries ws (tables e₀ h₀ c₀) t))
 
 pub turning-starts : {program p ws e h c q body : List ℤ} {budget d place : ℕ} {t : Tally} → q ≡ drop 1 p → body ≡ pastTest p → place ≡ positionOf program p → Begins ws t
@@ -210,31 +217,31 @@ module _ {program p ws e₀ h₀ c₀ e h c q body : List ℤ} {budget d place :
     While = doVerb (λ r v. doBlock d program budget r v) (λ r. after (readBlock d r)) program budget p loop (carries ws (tables e₀ h₀ c₀) t)
 
     abbrev Later : Carries → Out
-    Later w = thenOut (paid budget place w) λ z. turns (λ v. doBlock d program budget body v) budget place q (inv .fuel - 1) z
+    Later w = thenOut (paid budget place w) λ z. turns (λ v. doBlock d program budget body v) program budget place q (inv .fuel - 1) z
 
-    turn : untoldOut (tested place (carries ws (tables e h c) u) (test (cells e h) q) (λ v. thenOut (doBlock d program budget body v) Later) (λ v. on v)) ≡ untoldOut While
+    turn : untoldOut (tested program (carries ws (tables e h c) u) (test (cells e h) q) (λ v. thenOut (doBlock d program budget body v) Later) (λ v. on v)) ≡ untoldOut While
     turn =
         let z : inv .fuel ≡ suc (inv .fuel - 1) = omega (arith, inv .enough) in
-        ap untoldOut (sym (turns-more (λ v. doBlock d program budget body v) budget place q (inv .fuel - 1) (carries ws (tables e h c) u)))
+        ap untoldOut (sym (turns-more (λ v. doBlock d program budget body v) program budget place q (inv .fuel - 1) (carries ws (tables e h c) u)))
         ∙ rw (← z) (inv .rest)
 
-    pub turning-refused : {number word : ℕ} {r : Tally} → g ≡ Fails number word → r ≡ endedAt number place u → Goes ws t (tables e h c) r While
-    turning-refused a y = is-stop (test (cells e h) q) k a λ f x n.
-        goes-ends (inv .begins) (inv .grows) (λ z. let m = refusal-least (test-refuses (cells e h) q .bad f x) in omega arith) y (rw (← n) (ap untoldOut (sym (tested-stop place (carries ws (tables e h c) u) f _ _)) ∙ (rw x at turn)))
+    pub turning-refused : {number word place′ : ℕ} {r : Tally} → place′ ≡ length program - word → g ≡ Fails number word → r ≡ endedAt number place′ u → Goes ws t (tables e h c) r While
+    turning-refused l a y = is-stop (test (cells e h) q) k a λ f x n w.
+        goes-ends (inv .begins) (inv .grows) (λ z. let m = refusal-least (test-refuses (cells e h) q .bad f x) in omega arith) y (rw (l, ← n, ← w) (ap untoldOut (sym (tested-stop program (carries ws (tables e h c) u) f _ _)) ∙ (rw x at turn)))
 
     pub turning-quits : g ≡ Is false → Goes ws t (tables e h c) u While
     turning-quits a =
-        goes-on (inv .begins) (inv .grows) (ap untoldOut (sym (tested-false place (carries ws (tables e h c) u) _ _)) ∙ (rw (is-got (test (cells e h) q) k a) at turn))
+        goes-on (inv .begins) (inv .grows) (ap untoldOut (sym (tested-false program (carries ws (tables e h c) u) _ _)) ∙ (rw (is-got (test (cells e h) q) k a) at turn))
 
     module _ (a : g ≡ Is true) {e′ h′ c′ : List ℤ} {r : Tally} (x : Goes ws u (tables e′ h′ c′) r (doBlock d program budget body (carries ws (tables e h c) u))) where
       turned : untoldOut (thenOut (outOf ws (tables e′ h′ c′) r) Later) ≡ untoldOut While
       turned =
           let f : Forgets (λ v. doBlock d program budget body v) = block-forgets d program budget body in
-          let y : Forgets Later = then-forgets (turns-forget f budget place q (inv .fuel - 1)) (paid-forgets budget place) in
+          let y : Forgets Later = then-forgets (turns-forget f program budget place q (inv .fuel - 1)) (paid-forgets budget place) in
           rw (x .runs .is)
           (sym (then-untold y (doBlock d program budget body (carries ws (tables e h c) u)))
-          ∙ sym (turn-forgets f budget place q (inv .fuel - 1) .same (noted true (carries ws (tables e h c) u)))
-          ∙ ap untoldOut (sym (tested-true place (carries ws (tables e h c) u) _ _))
+          ∙ sym (turn-forgets f program budget place q (inv .fuel - 1) .same (noted true (carries ws (tables e h c) u)))
+          ∙ ap untoldOut (sym (tested-true program (carries ws (tables e h c) u) _ _))
           ∙ (rw (is-got (test (cells e h) q) k a) at turn))
 
       pub turning-halts : (r .outcome ≡ 0 → ⊥) → Goes ws t (tables e′ h′ c′) r While
@@ -245,7 +252,7 @@ module _ {program p ws e₀ h₀ c₀ e h c q body : List ℤ} {budget d place :
         pays : Goes ws r (tables e′ h′ c′) w (paid budget place (carries ws (tables e′ h′ c′) r))
         pays = pay-goes budget place l (tables e′ h′ c′) (went-on x y)
 
-        later : untoldOut (thenOut (outOf ws (tables e′ h′ c′) w) λ z. turns (λ v. doBlock d program budget body v) budget place q (inv .fuel - 1) z) ≡ untoldOut While
+        later : untoldOut (thenOut (outOf ws (tables e′ h′ c′) w) λ z. turns (λ v. doBlock d program budget body v) program budget place q (inv .fuel - 1) z) ≡ untoldOut While
         later = rw (pay-is budget place l (tables e′ h′ c′) (went-on x y)) (rw y at turned)
 
         pub turning-broke : (w .outcome ≡ 0 → ⊥) → Goes ws t (tables e′ h′ c′) w While

@@ -43,34 +43,34 @@ paid-forgets budget place = record { same = λ t. go t (decLt (t .steps) budget)
     go t (yes y) = rw (paid-on budget place t y, paid-on budget place (untold t) y)
     go t (no n) = rw (paid-ends budget place t (omega arith), paid-ends budget place (untold t) (omega arith))
 
-pub taken-untold : (place : ℕ) (t : Tally) (m : Res Left) → untoldOut (taken place t m) ≡ untoldOut (taken place (untold t) m)
-taken-untold place t (got l) = rw (taken-got place t l, taken-got place (untold t) l)
-taken-untold place t (stop f) = rw (taken-stop place t f, taken-stop place (untold t) f)
+pub taken-untold : (program : List ℤ) (t : Tally) (m : Res Left) → untoldOut (taken program t m) ≡ untoldOut (taken program (untold t) m)
+taken-untold program t (got l) = rw (taken-got program t l, taken-got program (untold t) l)
+taken-untold program t (stop f) = rw (taken-stop program t f, taken-stop program (untold t) f)
 
-pub tested-untold : (place : ℕ) (t : Tally) (m : Res Bool) {f g : Tally → Out} → Forgets f → Forgets g
-    → untoldOut (tested place t m f g) ≡ untoldOut (tested place (untold t) m f g)
-tested-untold place t (got true) {f} {g} h k =
-    rw (tested-true place t f g, tested-true place (untold t) f g) (h .same (noted true t) ∙ sym (h .same (noted true (untold t))))
-tested-untold place t (got false) {f} {g} h k =
-    rw (tested-false place t f g, tested-false place (untold t) f g) (k .same (noted false t) ∙ sym (k .same (noted false (untold t))))
-tested-untold place t (stop e) {f} {g} h k = rw (tested-stop place t e f g, tested-stop place (untold t) e f g)
+pub tested-untold : (program : List ℤ) (t : Tally) (m : Res Bool) {f g : Tally → Out} → Forgets f → Forgets g
+    → untoldOut (tested program t m f g) ≡ untoldOut (tested program (untold t) m f g)
+tested-untold program t (got true) {f} {g} h k =
+    rw (tested-true program t f g, tested-true program (untold t) f g) (h .same (noted true t) ∙ sym (h .same (noted true (untold t))))
+tested-untold program t (got false) {f} {g} h k =
+    rw (tested-false program t f g, tested-false program (untold t) f g) (k .same (noted false t) ∙ sym (k .same (noted false (untold t))))
+tested-untold program t (stop e) {f} {g} h k = rw (tested-stop program t e f g, tested-stop program (untold t) e f g)
 
-module _ {body : Tally → Out} (h : Forgets body) (budget place : ℕ) (p : List ℤ) where
+module _ {body : Tally → Out} (h : Forgets body) (program : List ℤ) (budget place : ℕ) (p : List ℤ) where
   -- a turn whose test is true, and the later ones
-  turn-then : (fuel : ℕ) → Forgets (λ t. turns body budget place p fuel t)
-      → Forgets (λ u. thenOut (body u) λ w. thenOut (paid budget place w) λ z. turns body budget place p fuel z)
+  turn-then : (fuel : ℕ) → Forgets (λ t. turns body program budget place p fuel t)
+      → Forgets (λ u. thenOut (body u) λ w. thenOut (paid budget place w) λ z. turns body program budget place p fuel z)
   turn-then fuel k = then-forgets (then-forgets k (paid-forgets budget place)) h
 
-  pub turns-forget : (fuel : ℕ) → Forgets (λ t. turns body budget place p fuel t)
-  turns-forget zero = record { same = λ t. rw (turns-none body budget place p t, turns-none body budget place p (untold t)) }
+  pub turns-forget : (fuel : ℕ) → Forgets (λ t. turns body program budget place p fuel t)
+  turns-forget zero = record { same = λ t. rw (turns-none body program budget place p t, turns-none body program budget place p (untold t)) }
   turns-forget (suc fuel) =
       record {
         same = λ t.
-            rw (turns-more body budget place p fuel t, turns-more body budget place p fuel (untold t))
-            (tested-untold place t (test (t .state .cells) p) (turn-then fuel (turns-forget fuel)) on-forgets);
+            rw (turns-more body program budget place p fuel t, turns-more body program budget place p fuel (untold t))
+            (tested-untold program t (test (t .state .cells) p) (turn-then fuel (turns-forget fuel)) on-forgets);
       }
 
-  pub turn-forgets : (fuel : ℕ) → Forgets (λ u. thenOut (body u) λ w. thenOut (paid budget place w) λ z. turns body budget place p fuel z)
+  pub turn-forgets : (fuel : ℕ) → Forgets (λ u. thenOut (body u) λ w. thenOut (paid budget place w) λ z. turns body program budget place p fuel z)
   turn-forgets fuel = turn-then fuel (turns-forget fuel)
 
 module _ (block : List ℤ → Tally → Out) (h : (q : List ℤ) → Forgets (λ t. block q t)) (past : List ℤ → List ℤ) (program : List ℤ) (budget : ℕ) where
@@ -78,7 +78,7 @@ module _ (block : List ℤ → Tally → Out) (h : (q : List ℤ) → Forgets (�
       → untoldOut (doVerb block past program budget p v t) ≡ untoldOut (doVerb block past program budget p v (untold t))
   simple-untold p v t s =
       rw (verb-simple block past program budget p t v s, verb-simple block past program budget p (untold t) v s)
-      (taken-untold (positionOf program p) t (doSimple program p (t .state) (t .unread) v))
+      (taken-untold program t (doSimple program p (t .state) (t .unread) v))
 
   verb-untold : (p : List ℤ) (v : Verb) (t : Tally) → untoldOut (doVerb block past program budget p v t) ≡ untoldOut (doVerb block past program budget p v (untold t))
   verb-untold p skip t = simple-untold p skip t is-skip
@@ -90,13 +90,13 @@ module _ (block : List ℤ → Tally → Out) (h : (q : List ℤ) → Forgets (�
   verb-untold p onceSame t = simple-untold p onceSame t is-once-same
   verb-untold p branch t =
       rw (verb-branch block past program budget p t, verb-branch block past program budget p (untold t))
-      (tested-untold (positionOf program p) t (test (t .state .cells) (drop 1 p)) (h (pastTest p)) (h (past (pastTest p))))
+      (tested-untold program t (test (t .state .cells) (drop 1 p)) (h (pastTest p)) (h (past (pastTest p))))
   verb-untold p loop t =
       rw (verb-loop block past program budget p t, verb-loop block past program budget p (untold t))
-      (turns-forget (h (pastTest p)) budget (positionOf program p) (drop 1 p) (suc budget) .same t)
+      (turns-forget (h (pastTest p)) program budget (positionOf program p) (drop 1 p) (suc budget) .same t)
   verb-untold p noVerb t =
       rw (verb-none block past program budget p t, verb-none block past program budget p (untold t))
-      (taken-untold (positionOf program p) t (doSimple program p (t .state) (t .unread) noVerb))
+      (taken-untold program t (doSimple program p (t .state) (t .unread) noVerb))
 
   pub verb-forgets : (p : List ℤ) (v : Verb) → Forgets (λ t. doVerb block past program budget p v t)
   verb-forgets p v = record { same = verb-untold p v }

@@ -68,7 +68,7 @@ fn run_statement(
     )
 }
 
-// The if at p, whose step is paid.
+// The if at p, whose step is paid. A test that is refused ends the run at the word at fault.
 fn run_if(
     program: &[i32],
     environment: &mut [i32],
@@ -87,7 +87,7 @@ fn run_if(
     let e = program::reading::read_expression(q, program::EXPRESSION_DEPTH, false);
     let first = words::part_last(q, e.left);
     match expressions::testing::test_at(environment, heap, q) {
-        Tested::Fails(number, _) => ended(t, number, words::less(program.len(), p.len())),
+        Tested::Fails(number, word) => ended(t, number, words::less(program.len(), word)),
         Tested::Is(b) => {
             if b {
                 return run_block(
@@ -119,7 +119,7 @@ fn run_if(
     }
 }
 
-// The while at p, whose first test is paid.
+// The while at p, whose first test is paid. A test that is refused ends the run at the word at fault, one that is not paid at the while's word (5).
 fn run_while(
     program: &[i32],
     environment: &mut [i32],
@@ -141,8 +141,8 @@ fn run_while(
     let mut u = t;
     loop {
         match expressions::testing::test_at(environment, heap, q) {
-            Tested::Fails(number, _) => {
-                return ended(u, number, while_place);
+            Tested::Fails(number, word) => {
+                return ended(u, number, words::less(program.len(), word));
             }
             Tested::Is(b) => {
                 if !b {

@@ -8,6 +8,7 @@ use native.Mathlib.Decide.{ℕ-discrete}
 use borrow.Author.Tests.{eq-eqb, ne-eqb}
 use lib.Dec.{eqb}
 use lib.IntN.{ℤ}
+use lib.ListN.{length}
 use Rattle.words.specs.Words.{numberAt, lastOf}
 use Rattle.words.specs.Answer.{got, stop}
 use Rattle.program.specs.Forms.{Verb, skip, assign, new, always, once, alwaysSame, onceSame, branch, loop, noVerb, verbOf}
@@ -70,7 +71,7 @@ is-eight n h a = by (ℕ-discrete n 8)
 
 -- what a statement that holds no block does
 pub verb-flat : (block : List ℤ → Carries → Out) (past : List ℤ → List ℤ) (program : List ℤ) (budget : ℕ) (p : List ℤ) (u : Carries) (v : Verb) → holdsBlocks v ≡ false
-    → doVerb block past program budget p v u ≡ taken (positionOf program p) u (doSimple program p (u .state) (u .unread) v)
+    → doVerb block past program budget p v u ≡ taken program u (doSimple program p (u .state) (u .unread) v)
 verb-flat block past program budget p u skip h = verb-simple block past program budget p u skip is-skip
 verb-flat block past program budget p u assign h = verb-simple block past program budget p u assign is-assign
 verb-flat block past program budget p u new h = verb-simple block past program budget p u new is-new
@@ -120,25 +121,25 @@ module _ (program : List ℤ) (budget : ℕ) (p ws : List ℤ) (S : State) {t : 
       pub begun-few : u .accepted + acceptedIn done ≤ u .steps
       begun-few = rw (g .is) (few-one (few-in program p unread S (verbOf (numberAt p 0)) (doSimple program p S unread (verbOf (numberAt p 0))) refl))
 
-      simple-is : taken (positionOf program p) (carries ws S u) (doSimple program p S unread (verbOf (numberAt p 0))) ≡ One
+      simple-is : taken program (carries ws S u) (doSimple program p S unread (verbOf (numberAt p 0))) ≡ One
       simple-is =
           rw is (sym (verb-flat (λ q w. doBlock 0 program budget q w) (λ q. after (readBlock 0 q)) program budget p (carries ws S u) (verbOf (numberAt p 0)) (sym h)))
           ∙ (rw n at paid-then)
 
-      pub begun-simple : {r : Tally} → r ≡ doneBy place u done → Goes ws t Z r One
+      pub begun-simple : {r : Tally} → r ≡ doneBy (length program) u done → Goes ws t Z r One
       begun-simple {r} e =
-          rw (e, g .is, g .leaves, l) (by (doSimple program p S unread (verbOf (numberAt p 0))) refl)
+          rw (e, g .is, g .leaves) (by (doSimple program p S unread (verbOf (numberAt p 0))) refl)
         where
           by : (m : Res Left) → doSimple program p S unread (verbOf (numberAt p 0)) ≡ m
-              → Goes ws t (doneState S m) (doneBy (positionOf program p) u (doneOf m)) One
+              → Goes ws t (doneState S m) (doneBy (length program) u (doneOf m)) One
           by (got x) q =
               let y : Takes unread x = takes program p unread S (verbOf (numberAt p 0)) q in
               let z : Part ws (x .unread) = part-trans (last-part (u .unread) ws) (rw is at (y .part)) in
               goes-on (record { few = few-one (y .few); inside = z .short; going = refl; nowhere = refl }) (pay-goes budget place k S b .grows)
-              (rw (z .is) (ap untoldOut (sym (taken-got (positionOf program p) (carries ws S u) x) ∙ (rw q at simple-is))))
+              (rw (z .is) (ap untoldOut (sym (taken-got program (carries ws S u) x) ∙ (rw q at simple-is))))
           by (stop f) q =
               goes-ends (went-on (pay-goes budget place k S b) n) (pay-goes budget place k S b .grows) (λ z. let y = refusal-least (simple-refuses program p S unread (verbOf (numberAt p 0)) .bad f q) in omega arith) refl
-              (ap untoldOut (sym (taken-stop (positionOf program p) (carries ws S u) f) ∙ (rw q at simple-is)))
+              (ap untoldOut (sym (taken-stop program (carries ws S u) f) ∙ (rw q at simple-is)))
 
 -- ---- a tally that a run carries, and one that none does
 

@@ -1,5 +1,5 @@
 -- The tally of a run in numbers, and what a piece of a program makes of it; how the tests came out is not told. Assumes nothing: these are definitions.
-use Prim.Native.Nat.{ℕ, zero, suc, _+_, _≤_}
+use Prim.Native.Nat.{ℕ, zero, suc, _+_, _-_, _≤_}
 use mathlib.Core.Path.{_≡_}
 use mathlib.Core.Bool.{Bool, true, false}
 use mathlib.Core.List.{List, []}
@@ -74,7 +74,7 @@ abbrev pub acceptedIn : Done → ℕ
 acceptedIn (Accepted left accepted) = accepted
 acceptedIn (Refused n word) = 0
 
--- what a statement without blocks leaves of the tally
+-- what a statement without blocks leaves of the tally, in a program of so many words; where it is refused, the place is that of the word at fault
 abbrev pub doneBy : ℕ → Tally → Done → Tally
-doneBy place t (Accepted left accepted) = record { steps = t .steps; accepted = t .accepted + accepted; unread = left; outcome = 0; place = 0 }
-doneBy place t (Refused n word) = endedAt n place t
+doneBy long t (Accepted left accepted) = record { steps = t .steps; accepted = t .accepted + accepted; unread = left; outcome = 0; place = 0 }
+doneBy long t (Refused n word) = endedAt n (long - word) t

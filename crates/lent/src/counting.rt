@@ -34,10 +34,10 @@ pub fn pay(t: Tally, budget: usize, place: usize) -> Tally
     }
 }
 
-// The tally after a statement whose step is paid. A turned-down proposal is unread.
-pub(crate) fn tallied(t: Tally, place: usize, done: Done) -> Tally
+// The tally after a statement whose step is paid; `long` is how many words the program has. A turned-down proposal is unread.
+pub(crate) fn tallied(t: Tally, long: usize, done: Done) -> Tally
     requires { ⌜ t .accepted + acceptedIn done ≤ t .steps ⌝ }
-    ensures { λ r. ⌜ r ≡ doneBy place t done ⌝ }
+    ensures { λ r. ⌜ r ≡ doneBy long t done ⌝ }
 {
     match done {
         Done::Accepted(left, accepted) => Tally {
@@ -47,6 +47,6 @@ pub(crate) fn tallied(t: Tally, place: usize, done: Done) -> Tally
             outcome: 0,
             place: 0,
         },
-        Done::Refused(number, _) => ended(t, number, place),
+        Done::Refused(number, word) => ended(t, number, words::less(long, word)),
     }
 }

@@ -46,7 +46,7 @@ fn begun(
     let unread = words::part_last(proposals, u.unread);
     tallied(
         u,
-        place,
+        program.len(),
         simple_at(program, environment, heap, constraints, unread, p, verb),
     )
 }

@@ -4,6 +4,7 @@ pub mod Comes
 pub mod LengthLaws
 pub mod GrammarSound
 pub mod GrammarLaws
+pub mod OpenLaws
 pub mod JudgeSteps
 pub mod JudgeLaws
 pub mod OneReading

@@ -22,7 +22,7 @@ module _ (program ws : List ℤ) (budget : ℤ) (S : State) where
   -- what the whole program comes to, once it started
   pub whole-rule : (o : Out) → Passes program budget S → (whole program ws budget S ≡ o) ↔ Runs program (numberOf budget) (block blockDepth program) (firstTally S ws) o
   whole-rule o p =
-      block-rule program (numberOf budget) blockDepth program (firstTally S ws) o (program-of program (p .reads)) (stands-iff program S .1 (p .stands)) (omega arith)
+      block-rule program (numberOf budget) blockDepth program (firstTally S ws) o (program-of program (p .1 .0)) (stands-iff program S .1 (p .1 .1)) (omega arith)
 
   sound : Way program ws budget S → Answered program ws budget S (run program ws budget S)
   sound (at-start e s r) = rw r (unstarted (unstarted-iff program budget S e .0 s))

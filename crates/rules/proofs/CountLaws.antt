@@ -1,15 +1,12 @@
 -- The counts of a run: steps within the budget, no more proposals than steps, and the unread words a part of those lent. Assumes nothing.
 use Prim.Native.Nat.{ℕ, _≤_, _<_}
 use native.Mathlib.Omega.{arith}
-use mathlib.Core.List.{List, _++_}
+use mathlib.Core.List.{List}
 use lib.IntN.{ℤ}
 use Rattle.program.proofs.LengthLaws.{Part, part-trans}
 use Rattle.rules.specs.Running.{Tally}
-use Rattle.rules.proofs.RefusalLaws.{Refusal, told, simple-refuses, test-refuses}
-use Rattle.rules.proofs.CarryLaws.{Carried}
+use Rattle.rules.proofs.WalkLaws.{Kept}
 use Rattle.rules.proofs.LeavesLaws.{Takes, leaves-take, simple-leaves}
-
--- ---- the counts of every tally
 
 pub record Counts (ws : List ℤ) (budget : ℕ) (t : Tally) : Type 0 where
   pub part : Part ws (t .unread)
@@ -21,15 +18,12 @@ pub record Inside (ws : List ℤ) (budget : ℕ) (t : Tally) : Type 0 where
   pub counts : Counts ws budget t
   pub less : t .accepted < t .steps
 
-pub counts-carried : (program ws : List ℤ) (budget : ℕ) → Carried program budget (λ v. Refusal) (Counts ws budget) (Inside ws budget)
-counts-carried program ws budget = record {
-  five = λ v. told (omega arith) (omega arith);
-  pay = λ t i h. record { counts = record { part = i .part; steps = omega arith; accepted = omega (arith, i .accepted) }; less = omega (arith, i .accepted) };
-  free = λ t i. i .counts;
-  note = λ b t i. record { counts = record { part = i .counts .part; steps = i .counts .steps; accepted = i .counts .accepted }; less = i .less };
-  simple-on = λ p w t verb l v i e.
-      let k : Takes (t .unread) l = leaves-take (simple-leaves program p (t .state) (t .unread) verb l e) in
+pub counts-kept : (program ws : List ℤ) (budget : ℕ) → Kept program budget (Counts ws budget) (Inside ws budget)
+counts-kept program ws budget = record {
+  pays = λ t i h. record { counts = record { part = i .part; steps = omega arith; accepted = omega (arith, i .accepted) }; less = omega (arith, i .accepted) };
+  frees = λ t i. i .counts;
+  notes = λ b t i. record { counts = record { part = i .counts .part; steps = i .counts .steps; accepted = i .counts .accepted }; less = i .less };
+  simple = λ p here t i l e.
+      let k : Takes (t .unread) l = leaves-take (simple-leaves program p (t .state) (t .unread) _ l e) in
       record { part = part-trans (i .counts .part) (k .part); steps = i .counts .steps; accepted = omega (arith, i .less, k .few) };
-  simple-end = λ {d} {s} y q t i h. simple-refuses program (s ++ q) (t .state) (t .unread) _;
-  test-end = λ {e} v a b x q t. test-refuses (t .state .cells) (e ++ q);
 }

@@ -21,7 +21,7 @@ use Rattle.rules.specs.State.{Res, reads}
 use Rattle.rules.specs.Paths.{valueAt}
 use Rattle.rules.specs.Evaluation.{opOf, apply, at, same, evaluateForm, evaluate}
 use Rattle.rules.specs.Rules.Operators.{Makes}
-use Rattle.rules.specs.Rules.Expressions.{e-nil, e-false, e-true, e-integer, e-path, e-operation, e-same, e-differ, Within}
+use Rattle.rules.specs.Rules.Expressions.{Literal, e-literal, e-path, e-operation, e-same, e-differ, Within}
 use Rattle.rules.proofs.WordSteps.{at-got, by-number, by-word, form-words, form-is, apart}
 use Rattle.rules.proofs.NameLaws.{holds-sound, holds-complete}
 use Rattle.rules.proofs.OperatorLaws.{same-true, cell-same, same-false, cell-differs, makes-sound, makes-operator, makes-complete}
@@ -32,13 +32,13 @@ module _ (S : Cells) (d : ℕ) (go : List ℤ → Res (Value × List ℤ)) (ih :
   form-sound : (f : Form) (p : List ℤ) (x : Value × List ℤ) → evaluateForm go S (pos (numberOfForm f) ∷ p) f ≡ got x
       → Within S (suc d) (pos (numberOfForm f) ∷ p) (x .0) (x .1)
   unfolding evaluateForm
-  form-sound aNil p x e = rw (← got-inj e) e-nil
-  form-sound aFalse p x e = rw (← got-inj e) e-false
-  form-sound aTrue p x e = rw (← got-inj e) e-true
+  form-sound aNil p x e = rw (← got-inj e) (e-literal Literal.nil)
+  form-sound aFalse p x e = rw (← got-inj e) (e-literal Literal.no)
+  form-sound aTrue p x e = rw (← got-inj e) (e-literal Literal.yes)
   form-sound anInteger p x e =
       step (reads (anyWord p)) _ e λ q e1 k1.
       by-word p q e1 λ w s.
-      rw (← got-inj k1, s) e-integer
+      rw (← got-inj k1, s) (e-literal Literal.integer)
   form-sound aPath p x e = e-path (holds-sound S p x e)
   form-sound anOperation p x e =
       by-number 1 operators p _ (omega arith) e λ o q a b s k.
@@ -80,10 +80,10 @@ evaluate-opens S d f p h = rw (number-first (pos (numberOfForm f)) p, form-is f 
 
 pub evaluate-complete : {S : Cells} {d : ℕ} {p : List ℤ} {v : Value} {q : List ℤ} → Within S d p v q → evaluate d S p ≡ got (v, q)
 unfolding evaluateForm
-evaluate-complete {S} (e-nil {d = d} {p = p}) = evaluate-opens S d aNil p (apart λ z. omega arith)
-evaluate-complete {S} (e-false {d = d} {p = p}) = evaluate-opens S d aFalse p (apart λ z. omega arith)
-evaluate-complete {S} (e-true {d = d} {p = p}) = evaluate-opens S d aTrue p (apart λ z. omega arith)
-evaluate-complete {S} (e-integer {d = d} {w = w} {p = p}) = evaluate-opens S d anInteger (w ∷ p) (apart λ z. omega arith) ∙ rw (any-fits (w ∷ p) (omega arith))
+evaluate-complete {S} (e-literal {d = d} (Literal.nil {p = p})) = evaluate-opens S d aNil p (apart λ z. omega arith)
+evaluate-complete {S} (e-literal {d = d} (Literal.no {p = p})) = evaluate-opens S d aFalse p (apart λ z. omega arith)
+evaluate-complete {S} (e-literal {d = d} (Literal.yes {p = p})) = evaluate-opens S d aTrue p (apart λ z. omega arith)
+evaluate-complete {S} (e-literal {d = d} (Literal.integer {w = w} {p = p})) = evaluate-opens S d anInteger (w ∷ p) (apart λ z. omega arith) ∙ rw (any-fits (w ∷ p) (omega arith))
 evaluate-complete {S} (e-path {d = d} {p = p} k) = evaluate-opens S d aPath p (apart λ z. omega arith) ∙ holds-complete S k
 evaluate-complete {S} (e-operation {d = d} {o = o} {p = p} l r m) =
     evaluate-opens S d anOperation (pos o ∷ p) (apart λ z. omega arith)

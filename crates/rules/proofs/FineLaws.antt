@@ -114,7 +114,7 @@ module _ (P : ℕ → Type 0) where
       unfolding counted
       counted-fine kept own S h =
           ends-then (ownParts S own) _ h λ x u.
-          ends-then (keptParts program S (positions kept Values)) _ (kept-fine program S (positions kept Values)) λ y v. ends-got tt
+          ends-then _ _ (kept-fine program S _) λ y v. ends-got tt
 
       settle-fine : (kept : List ℤ) (asked : Asked) (word : List ℤ) (S : Cells) (ws : List ℤ)
           → (asked .room ≡ false → P 14) → ((Z : Cells) → Fine P Any (ownParts Z (asked .own))) → Fine P Any (settle program kept asked word S ws)

@@ -22,8 +22,8 @@ use Rattle.program.proofs.GrammarLaws.{path-complete, expression-complete, cons
 use Rattle.rules.specs.Paths.{Way, wayAt}
 use Rattle.rules.specs.Evaluation.{Kind, evaluate, kind}
 use Rattle.rules.specs.Rules.Expressions.{HasField, Leads, here, by, Names, names, Holds, holds}
-use Rattle.rules.specs.Rules.Expressions.{e-nil, e-false, e-true, e-integer, e-path, e-operation, e-same, e-differ, Within}
-use Rattle.rules.specs.Rules.Expressions.{t-nil, t-false, t-true, t-integer, t-path, t-operation, KindWithin}
+use Rattle.rules.specs.Rules.Expressions.{Literal, e-literal, e-path, e-operation, e-same, e-differ, Within}
+use Rattle.rules.specs.Rules.Expressions.{t-literal, t-path, t-operation, KindWithin}
 use Rattle.rules.specs.Steps.Evaluation.{PartReads, PartsRead, ConstraintReads}
 use Rattle.rules.proofs.NameLaws.{names-iff}
 use Rattle.rules.proofs.OperatorLaws.{makes-operator, gives-operator}
@@ -50,11 +50,14 @@ module _ (S : Cells) (fit : Fit S) where
   holds-take : {p q : List ℤ} {v : Value} → Holds S p v q → Takes Path p q
   holds-take (holds n e) = names-take n
 
+  literal-take : {inC : Bool} {d : ℕ} {p q : List ℤ} {v : Value} → Literal p v q → Takes (Expression inC (suc d)) p q
+  literal-take Literal.nil = takes-word refl (takes-none refl Expression.nil)
+  literal-take Literal.no = takes-word refl (takes-none refl Expression.no)
+  literal-take Literal.yes = takes-word refl (takes-none refl Expression.yes)
+  literal-take Literal.integer = takes-word refl (takes-word refl (takes-none refl Expression.integer))
+
   value-take : {d : ℕ} {p q : List ℤ} {v : Value} → Within S d p v q → Takes (Expression false d) p q
-  value-take e-nil = takes-word refl (takes-none refl Expression.nil)
-  value-take e-false = takes-word refl (takes-none refl Expression.no)
-  value-take e-true = takes-word refl (takes-none refl Expression.yes)
-  value-take e-integer = takes-word refl (takes-word refl (takes-none refl Expression.integer))
+  value-take (e-literal l) = literal-take l
   value-take (e-path k) = takes-word refl (takes-as (holds-take k) λ a x. Expression.at x)
   value-take (e-operation l r m) =
       takes-word refl (takes-word refl (takes-two (value-take l) (value-take r) λ x y f g. Expression.operation (makes-operator m .0) (makes-operator m .1) f g))
@@ -62,10 +65,7 @@ module _ (S : Cells) (fit : Fit S) where
   value-take (e-differ k l e) = takes-word refl (takes-two (holds-take k) (holds-take l) λ a b x y. Expression.identity refl x y)
 
   kind-take : {d : ℕ} {p q : List ℤ} {k : Kind} → KindWithin S d p k q → Takes (Expression true d) p q
-  kind-take t-nil = takes-word refl (takes-none refl Expression.nil)
-  kind-take t-false = takes-word refl (takes-none refl Expression.no)
-  kind-take t-true = takes-word refl (takes-none refl Expression.yes)
-  kind-take t-integer = takes-word refl (takes-word refl (takes-none refl Expression.integer))
+  kind-take (t-literal l) = literal-take l
   kind-take (t-path k) = takes-word refl (takes-as (holds-take k) λ a x. Expression.at x)
   kind-take (t-operation l r t) =
       takes-word refl (takes-word refl (takes-two (kind-take l) (kind-take r) λ x y f g. Expression.operation (gives-operator t .0) (gives-operator t .1) f g))
@@ -98,9 +98,11 @@ module _ (S : Cells) (fit : Fit S) where
   kind-reads d p k q e = let w : KindWithin S d p k q = kind-sound S d p (k, q) e in taken (kind-take w)
 
   -- a C that reads by its kinds and paths reads by its words
+  pub constraint-take : {p : List ℤ} → ConstraintReads S p → (q : List ℤ) × Takes Constraint p q
+  constraint-take (ConstraintReads.constraint {q = q} a b x) = (q, takes-word refl (takes-as (parts-take x) λ ps y. Constraint.constraint a b y))
+
   pub constraint-reads : {p : List ℤ} → ConstraintReads S p → (q : List ℤ) × (readConstraint p ≡ got q)
-  constraint-reads (ConstraintReads.constraint {q = q} a b x) =
-      (q, done (takes-word refl (takes-as (parts-take x) λ ps y. Constraint.constraint a b y)))
+  constraint-reads c = let t = constraint-take c in (t .0, done (t .1))
     where
       done : {p q : List ℤ} → Takes Constraint p q → readConstraint p ≡ got q
       done {q = q} t = rw (t .split) (constraint-complete (t .piece) q)

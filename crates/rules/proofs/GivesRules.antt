@@ -28,7 +28,7 @@ use Rattle.program.specs.Grammar.{Fields}
 use Rattle.program.proofs.FormLaws.{verb-word}
 use Rattle.program.proofs.NumberLaws.{number-of}
 use Rattle.program.proofs.GrammarSound.{statement-sound}
-use Rattle.rules.specs.State.{State, Fault, refused, positions}
+use Rattle.rules.specs.State.{State, Fault, refused, refuse, positions}
 use Rattle.rules.specs.Paths.{wayAt}
 use Rattle.rules.specs.Evaluation.{evaluate}
 use Rattle.rules.specs.Identities.{Tie, ties, identityPhase}
@@ -41,13 +41,13 @@ use Rattle.rules.proofs.NameLaws.{names-iff}
 use Rattle.rules.proofs.EvaluationLaws.{evaluate-iff}
 use Rattle.rules.proofs.PhaseLaws.{small-sound}
 use Rattle.rules.proofs.IdentitiesAfter.{ties-there}
+use Rattle.rules.proofs.PhaseFit.{phase-fit}
 use Rattle.rules.proofs.PhaseHolds.{identities-iff}
 use Rattle.rules.proofs.AssignHolds.{evaluate-there}
 use Rattle.rules.proofs.NewHolds.{new-fit, new-words}
-use Rattle.rules.proofs.PhaseRules.{phase-rule, phase-fails-rule}
+use Rattle.rules.proofs.PhaseRules.{phase-rule, phase-fails-sound, phase-fails-complete}
 use Rattle.rules.proofs.AddLaws.{made, wordsOfFields, fields-sound, fields-complete, adds-rule}
 use Rattle.rules.proofs.StatementWords.{statement-verb, past-path}
-use Rattle.rules.proofs.StopLaws.{Stops}
 use Rattle.rules.proofs.LostLaws.{astray-sound}
 use Rattle.rules.proofs.MeetLaws.{meets-sound}
 use Rattle.rules.proofs.RefusedPieces.{fields-meet-sound}
@@ -80,15 +80,17 @@ module _ (program : List ℤ) (S : State) (holds : Holds program S) where
     fit : Fit N
     ready : Ready (S .cells) N
     reached : Target (S .cells) target prefix
-    sound : Sound v
+    small : (r : ℕ) → v ≡ Ref r → r < recordCount (N .heap)
+
+  given-sound : {target : ℕ} {prefix : List ℕ} {v : Value} {N : Cells} → Given target prefix v N → Sound v
+  given-sound {v = v} {N = N} x = small-sound v (recordCount (N .heap)) (fit-count N (x .fit)) (x .small)
 
   given : {p : List ℤ} {target : ℕ} {prefix : List ℕ} {v : Value} {N : Cells} → Gives (S .cells) p target prefix v N → StatementThere program p → Given target prefix v N
   given (assigns {v = v} {w = w} {p = p} {r = r} e way) here = record {
     fit = holds .fit;
     ready = as-before;
     reached = by-path p w (names-iff (S .cells) p w .1 way);
-    sound = small-sound v (recordCount (S .cells .heap)) (fit-count (S .cells) (holds .fit))
-        (evaluate-there (S .cells) (holds .fit) expressionDepth (pastPath p) (v, r) (evaluate-iff expressionDepth (S .cells) (pastPath p) v r .1 e));
+    small = evaluate-there (S .cells) (holds .fit) expressionDepth (pastPath p) (v, r) (evaluate-iff expressionDepth (S .cells) (pastPath p) v r .1 e);
   }
   given (makes {x = x} {n = n} {fs = fs} {N = N} {p = p} a b f room adds) here =
       let w = new-there program (pos x ∷ pos n ∷ p) here in
@@ -100,7 +102,7 @@ module _ (program : List ℤ) (S : State) (holds : Holds program S) where
         fit = rw is (new-fit (S .cells) n (w .fs) (here .rest) (wordsOfFields fs) (holds .fit) room b (rw m at (w .fields)) (rw (← i) (fields-complete f)));
         ready = rw is (with-record (wordsOfFields fs) n room b);
         reached = by-variable a;
-        sound = small-sound (Ref (recordCount (S .cells .heap))) 64 (omega arith) (λ r e. let k : recordCount (S .cells .heap) ≡ r = cc in omega arith);
+        small = λ r e. let k : recordCount (S .cells .heap) ≡ r = cc in omega (arith, adds .records);
       }
 
   module _ {p : List ℤ} {target : ℕ} {prefix : List ℕ} {v : Value} {N : Cells} (g : Gives (S .cells) p target prefix v N) (here : StatementThere program p) where
@@ -110,12 +112,23 @@ module _ (program : List ℤ) (S : State) (holds : Holds program S) where
     pub gives-phase : (Z : Cells) → (identityPhase program (S .kept) (S .cells) N p target prefix v ≡ got Z) ↔ Phase program (S .kept) (S .cells) N target prefix v Z
     gives-phase =
         let x = given g here in
-        phase-rule program (S .kept) (S .cells) N p target prefix v (holds .fit) (x .fit) (x .ready) (x .reached) (x .sound)
+        phase-rule program (S .kept) (S .cells) N p target prefix v (holds .fit) (x .fit) (x .ready) (x .reached) (given-sound x)
 
-    pub gives-fails : (n : ℕ) → Stops (identityPhase program (S .kept) (S .cells) N p target prefix v) n ↔ PhaseFails program (S .kept) (S .cells) target prefix v n
-    gives-fails =
+    pub gives-fit : {Z : Cells} → Phase program (S .kept) (S .cells) N target prefix v Z → Fit Z
+    gives-fit {Z} h =
         let x = given g here in
-        phase-fails-rule program (S .kept) (S .cells) N p target prefix v (holds .fit) (x .fit) (x .ready) (x .reached) (x .sound) (kept-ties .0) (kept-ties .1)
+        phase-fit program (S .kept) (S .cells) N p target prefix v (kept-ties .0) Z (holds .fit) (x .fit) (x .ready) (x .reached) (x .small) (kept-ties .1) (gives-phase Z .1 h)
+
+    pub gives-fails-sound {ℓ} : {X : Type ℓ} (f : Fault) → identityPhase program (S .kept) (S .cells) N p target prefix v ≡ stop f
+        → ((n : ℕ) → refused n p ≡ f → PhaseFails program (S .kept) (S .cells) target prefix v n → X) → X
+    gives-fails-sound =
+        let x = given g here in
+        phase-fails-sound program (S .kept) (S .cells) N p target prefix v (holds .fit) (x .fit) (x .ready) (x .reached) (given-sound x) (kept-ties .0) (kept-ties .1)
+
+    pub gives-fails-complete : {n : ℕ} → PhaseFails program (S .kept) (S .cells) target prefix v n → identityPhase program (S .kept) (S .cells) N p target prefix v ≡ refuse n p
+    gives-fails-complete =
+        let x = given g here in
+        phase-fails-complete program (S .kept) (S .cells) N p target prefix v (holds .fit) (x .fit) (x .ready) (x .reached) (given-sound x)
 
   -- the definition goes on with them
   pub gives-goes : {p : List ℤ} {target : ℕ} {prefix : List ℕ} {v : Value} {N : Cells} → Gives (S .cells) p target prefix v N → StatementThere program p → (ws : List ℤ)
@@ -143,7 +156,7 @@ module _ (program : List ℤ) (S : State) (holds : Holds program S) where
   module _ (ws : List ℤ) where
     pub data Opens (p : List ℤ) : Type 0 where
       gives : {target : ℕ} {prefix : List ℕ} {v : Value} {N : Cells} → Gives (S .cells) p target prefix v N → Opens p
-      closed : (f : Fault) → doSimple program p S ws (verbOf (numberAt p 0)) ≡ stop f → ((f .number ≡ 2 → ⊥) → Refused program S ws p (f .number)) → Opens p
+      closed : (f : Fault) → doSimple program p S ws (verbOf (numberAt p 0)) ≡ stop f → ((f .number ≡ 2 → ⊥) → Refused program S ws p f) → Opens p
 
     assign-after : (p : List ℤ) → StatementThere program (pos 1 ∷ p) → Opens (pos 1 ∷ p)
     unfolding doSimple doAssign
@@ -154,7 +167,7 @@ module _ (program : List ℤ) (S : State) (holds : Holds program S) where
         let value = evaluate-iff expressionDepth (S .cells) (pastPath p) (x .0) (x .1) .0 e in
         either (wayAt (S .cells) p)
         (λ w way. gives (assigns value (names-iff (S .cells) p w .0 way)))
-        (λ f way. closed f (rw (verb, ← past-path program p here, e, way)) (λ two. let a = astray-sound (S .cells) p f way two in rw (a .0) (f-target value (a .1)))))
+        (λ f way. closed f (rw (verb, ← past-path program p here, e, way)) (λ two. let a = astray-sound (S .cells) p f way two in rw (← a .0) (f-target value (a .1)))))
         (λ f e. closed f (rw (verb, ← past-path program p here, e)) (λ two. f-value (meets-sound (S .cells) expressionDepth (pastPath p) f e two)))
 
     new-fields : (x n : ℕ) (p : List ℤ) → x < variables → n ≤ mostFields → StatementThere program (pos 2 ∷ pos x ∷ pos n ∷ p) → Opens (pos 2 ∷ pos x ∷ pos n ∷ p)

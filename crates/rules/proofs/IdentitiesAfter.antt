@@ -19,7 +19,7 @@ use Rattle.rules.specs.State.{refused, orRefuse, slotAt, present, positi
 use Rattle.rules.specs.Paths.{Way, wayAt, valueAt}
 use Rattle.rules.specs.Evaluation.{same}
 use Rattle.rules.specs.Identities.{isNode, sameNow, Tie, tiesOf, ties, identityPhase}
-use Rattle.rules.specs.Rules.Identities.{Tied, itself, by-tie, backwards, onwards, IsNamed, as-one, as-two}
+use Rattle.rules.specs.Rules.Identities.{Tied, itself, by-tie, backwards, onwards, IsNamed}
 use Rattle.rules.specs.Steps.Phases.{Relevant, Computed, Target, Ready}
 use Rattle.rules.specs.Start.{identitiesHold}
 use Rattle.rules.specs.Steps.PathsAfter.{PathsAfter}
@@ -121,7 +121,7 @@ ties-there program kept S fit e = held-ties program S (positions kept Identities
 -- a cell that is tied to another is named by an identity, and so is the other
 tied-named : {ts : List Tie} {a b : ℕ} → Tied ts a b → (a ≡ b) ⊎ (IsNamed ts a × IsNamed ts b)
 tied-named itself = inl refl
-tied-named (by-tie t m) = inr (as-one t m refl, as-two t m refl)
+tied-named (by-tie t m) = inr ((t, (m, inl refl)), (t, (m, inr refl)))
 tied-named (backwards r) = elim (tied-named r) [ inl e ↦ inl (sym e) | inr w ↦ inr (w .1, w .0) ]
 tied-named (onwards r s) = chain (tied-named r) (tied-named s)
   where
@@ -177,7 +177,7 @@ module _ (program kept : List ℤ) (before now : Cells) (word : List ℤ) (targe
         right-way = to-right;
         left-has = in-class (h .left .cell) r;
         right-has = in-class (h .right .cell) (onwards r (by-tie t n));
-        node = facts .node (end-named target (h .left .cell) r (as-one t n refl));
+        node = facts .node (end-named target (h .left .cell) r (t, (n, inl refl)));
       })
       (λ k. record {
         left = h .left;

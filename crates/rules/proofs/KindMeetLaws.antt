@@ -1,6 +1,6 @@
 -- Expressions inside C that are refused: `kind` stops with 7 or 8 exactly where the rules say so. Assumes nothing.
 use mathlib.Core.Path.{_≡_, sym, _∙_}
-use mathlib.Core.Bool.{true≢false}
+use mathlib.Core.Bool.{true, true≢false}
 use mathlib.Core.List.{List, _∷_}
 use Prim.Native.Nat.{ℕ, zero, suc, _≤_}
 use native.Mathlib.Omega.{arith}
@@ -19,11 +19,11 @@ use Rattle.rules.specs.State.{Fault, Res, reads}
 use Rattle.rules.specs.Paths.{valueAt}
 use Rattle.rules.specs.Evaluation.{Kind, opOf, takes, at, kindForm, kind}
 use Rattle.rules.specs.Rules.Operators.{Gives}
-use Rattle.rules.specs.Rules.Expressions.{KindWithin, KindMeets, k-path, k-left, k-right, k-kind}
+use Rattle.rules.specs.Rules.Expressions.{KindWithin, typed, Meets, m-path, m-left, m-right, m-here, kinds}
 use Rattle.rules.proofs.WordSteps.{form-words, apart}
 use Rattle.rules.proofs.OperatorLaws.{gives-sound, gives-complete}
 use Rattle.rules.proofs.TypingLaws.{kind-sound, kind-opens, kind-complete}
-use Rattle.rules.proofs.StopLaws.{Stops, refused-with, stops-then, stops-on, stops-at, stopped, stopped-on, at-stop, unread, stopped-number}
+use Rattle.rules.proofs.StopLaws.{refused-with, stops-then, stops-on, stops-at, stopped, stopped-on, at-stop, unread, stopped-number}
 use Rattle.rules.proofs.LostLaws.{lost-sound, lost-complete}
 
 -- ---- an operator refuses with 8 exactly where it does not take the kinds
@@ -42,32 +42,32 @@ module _ (o : ℕ) (a b : Kind) where
 -- ---- where the definition stops, the rules refuse
 
 module _ (S : Cells) (d : ℕ) (go : List ℤ → Res (Kind × List ℤ)) (good : (q : List ℤ) (x : Kind × List ℤ) → go q ≡ got x → KindWithin S d q (x .0) (x .1))
-    (bad : (q : List ℤ) (f : Fault) → go q ≡ stop f → (f .number ≡ 2 → ⊥) → KindMeets S d q (f .number)) where
+    (bad : (q : List ℤ) (f : Fault) → go q ≡ stop f → (f .number ≡ 2 → ⊥) → Meets S true d q f) where
   form-meets : (r : Form) (p : List ℤ) (f : Fault) → kindForm go S (pos (numberOfForm r) ∷ p) r ≡ stop f → (f .number ≡ 2 → ⊥)
-      → KindMeets S (suc d) (pos (numberOfForm r) ∷ p) (f .number)
+      → Meets S true (suc d) (pos (numberOfForm r) ∷ p) f
   unfolding kindForm
   form-meets aNil p f e two = stop≢got (sym e)
   form-meets aFalse p f e two = stop≢got (sym e)
   form-meets aTrue p f e two = stop≢got (sym e)
   form-meets anInteger p f e two = stopped (reads (anyWord p)) _ e (λ e1. absurd (two (unread (anyWord p) e1))) (λ q e1 k1. stop≢got (sym k1))
   form-meets aPath p f e two =
-      stopped (valueAt S p) _ e (λ e1. let l = lost-sound S p f e1 two in rw (l .0) (k-path (l .1))) (λ y e1 k1. stop≢got (sym k1))
+      stopped (valueAt S p) _ e (λ e1. let l = lost-sound S p f e1 two in rw (← l .0) (m-path (l .1))) (λ y e1 k1. stop≢got (sym k1))
   form-meets anOperation p f e two =
       stopped-number 1 operators p _ (omega arith) e two λ o q a b s k.
       rw s
-      (stopped (go q) _ k (λ e1. k-left a b (bad q f e1 two)) λ y e1 k1.
-      stopped (go (y .1)) _ k1 (λ e2. k-right a b (good q y e1) (bad (y .1) f e2 two)) λ z e2 k2.
+      (stopped (go q) _ k (λ e1. m-left a b (bad q f e1 two)) λ y e1 k1.
+      stopped (go (y .1)) _ k1 (λ e2. m-right a b (typed (good q y e1)) (bad (y .1) f e2 two)) λ z e2 k2.
       stopped-on (at (pos 25 ∷ p) (want 8 (takes (opOf o) (y .0) (z .0)))) _ k2
-      (λ e3. at-stop (pos 25 ∷ p) (want 8 (takes (opOf o) (y .0) (z .0))) e3 λ e4.
-      takes-stop o (y .0) (z .0) e4 λ i never. rw (← i) (k-kind a b (good q y e1) (good (y .1) z e2) never))
+      (λ e3. at-stop (pos 25 ∷ p) (want 8 (takes (opOf o) (y .0) (z .0))) e3 λ n e4 w.
+      takes-stop o (y .0) (z .0) e4 λ i never. rw (← w, ← i, s) (m-here (kinds a b (typed (good q y e1)) (typed (good (y .1) z e2)) never)))
       (λ v e3 k3. stop≢got (sym k3)))
   form-meets anIdentity p f e two = absurd (two (refused-with 2 (pos 26 ∷ p) e))
   form-meets noForm p f e two = absurd (two (refused-with 2 (pos 27 ∷ p) e))
 
-  words-meet : (p p' : List ℤ) (r : Form) (f : Fault) → p ≡ pos (numberOfForm r) ∷ p' → kindForm go S p r ≡ stop f → (f .number ≡ 2 → ⊥) → KindMeets S (suc d) p (f .number)
+  words-meet : (p p' : List ℤ) (r : Form) (f : Fault) → p ≡ pos (numberOfForm r) ∷ p' → kindForm go S p r ≡ stop f → (f .number ≡ 2 → ⊥) → Meets S true (suc d) p f
   words-meet p p' r f w e two = rw w (form-meets r p' f (rw w at e) two)
 
-pub kind-meets-sound : (S : Cells) (d : ℕ) (p : List ℤ) (f : Fault) → kind d S p ≡ stop f → (f .number ≡ 2 → ⊥) → KindMeets S d p (f .number)
+pub kind-meets-sound : (S : Cells) (d : ℕ) (p : List ℤ) (f : Fault) → kind d S p ≡ stop f → (f .number ≡ 2 → ⊥) → Meets S true d p f
 unfolding kind kindForm
 kind-meets-sound S zero p f e two = absurd (two (refused-with 2 p e))
 kind-meets-sound S (suc d) p f e two =
@@ -76,13 +76,13 @@ kind-meets-sound S (suc d) p f e two =
 
 -- ---- where the rules refuse, the definition stops
 
-pub kind-meets-complete : {S : Cells} {d : ℕ} {p : List ℤ} {n : ℕ} → KindMeets S d p n → Stops (kind d S p) n
+pub kind-meets-complete : {S : Cells} {d : ℕ} {p : List ℤ} {f : Fault} → Meets S true d p f → kind d S p ≡ stop f
 unfolding kindForm
-kind-meets-complete {S} (k-path {d = d} {p = p} l) = rw (kind-opens S d aPath p (apart λ z. omega arith)) (stops-then _ (lost-complete S l))
-kind-meets-complete {S} (k-left {d = d} {o = o} {p = p} a b m) =
+kind-meets-complete {S} (m-path {d = d} {p = p} l) = rw (kind-opens S d aPath p (apart λ z. omega arith)) (stops-then _ (lost-complete S l))
+kind-meets-complete {S} (m-left {d = d} {o = o} {p = p} a b m) =
     rw (kind-opens S d anOperation (pos o ∷ p) (apart λ z. omega arith), number-of 1 operators o p a b) (stops-then _ (kind-meets-complete m))
-kind-meets-complete {S} (k-right {d = d} {o = o} {p = p} a b l m) =
+kind-meets-complete {S} (m-right {d = d} {o = o} {p = p} a b (typed l) m) =
     rw (kind-opens S d anOperation (pos o ∷ p) (apart λ z. omega arith), number-of 1 operators o p a b, kind-complete l) (stops-then _ (kind-meets-complete m))
-kind-meets-complete {S} (k-kind {d = d} {o = o} {a = x} {b = y} {p = p} a b l r never) =
+kind-meets-complete {S} (m-here (kinds {d = d} {o = o} {a = x} {b = y} {p = p} a b (typed l) (typed r) never)) =
     rw (kind-opens S d anOperation (pos o ∷ p) (apart λ z. omega arith), number-of 1 operators o p a b, kind-complete l, kind-complete r)
     (stops-on _ (stops-at (pos 25 ∷ pos o ∷ p) (untaken-stops o x y a b never)))

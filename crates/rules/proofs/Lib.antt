@@ -15,6 +15,7 @@ pub mod PartLaws
 pub mod IdentityValues
 pub mod EvaluationClaims
 pub mod FitReads
+pub mod InnerLaws
 pub mod ClassLaws
 pub mod PutAllLaws
 pub mod WayLaws
@@ -57,7 +58,6 @@ pub mod SettleRules
 pub mod OutLaws
 pub mod RefusalLaws
 pub mod PlaceLaws
-pub mod CarryLaws
 pub mod CountLaws
 pub mod RunLaws
 pub mod TieLaws
@@ -85,4 +85,6 @@ pub mod StandRules
 pub mod StartRules
 pub mod ProgramCode
 pub mod RunRules
+pub mod Endings
+pub mod PlacedLaws
 pub mod AnswerRules

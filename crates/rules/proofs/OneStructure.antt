@@ -14,5 +14,5 @@ one-structure program ws us budget budget' S a b x y e g t =
     let v = finished-so program us budget' S b y g in
     rw (ap (λ r. r .state) (u .gives), ap (λ r. r .state) (v .gives))
     (blocks-same program (numberOf budget) (numberOf budget') blockDepth program (firstTally S ws) (firstTally S us) (u .tally) (v .tally) (state-refl S)
-    (u .passes .stands .fit .sized) (v .passes .stands .fit .sized) refl
+    (u .passes .1 .1 .fit .sized) (v .passes .1 .1 .fit .sized) refl
     (u .comes) (v .comes) (sym (ap (λ r. r .tests) (u .gives)) ∙ t ∙ ap (λ r. r .tests) (v .gives)))

@@ -1,6 +1,6 @@
 -- The definitions of the operators and the operators' table say the same (T-OP, E-OP). Assumes nothing.
 use mathlib.Core.Path.{_≡_, refl, sym, ap, _∙_}
-use mathlib.Core.Logic.{_≢_}
+use mathlib.Core.Logic.{_≢_, _↔_}
 use mathlib.Core.Bool.{Bool, true, false, not, _&&_, _||_, true≢false}
 use Prim.Native.Nat.{ℕ, zero, suc, _≤_}
 use native.Mathlib.Omega.{arith}
@@ -172,16 +172,25 @@ bool-made P f v Nil b e k = stop≢got e
 bool-made P f v (Int x) b e k = stop≢got e
 bool-made P f v (Ref r) b e k = stop≢got e
 
+-- two booleans that are true in the same case
+pub agree : {P : Type 0} (s t : Bool) → (s ≡ true) ↔ P → (t ≡ true) ↔ P → s ≡ t
+agree true t x y = sym (y .1 (x .0 refl))
+agree false true x y = x .1 (y .0 refl)
+agree false false x y = refl
+
+-- kind and payload of plain values
+module _ (a b : Value) (x : kindOf a ≢ isRef) (y : kindOf b ≢ isRef) where
+  alike : (same a b ≡ true) ↔ (a ≡ b)
+  alike = (λ s. same-value a b (plain-sound a x) (plain-sound b y) (same-true a b s), λ q. cell-same a b (ap cellOf q))
+
+  apart : (not (same a b) ≡ true) ↔ (a ≢ b)
+  apart = (λ s q. true≢false (sym s ∙ rw (alike .1 q)), λ n. rw (cell-differs a b (λ q. n (same-value a b (plain-sound a x) (plain-sound b y) q))))
+
 module _ (v a b : Value) where
   -- = and ≠: two plain values are one, or are apart
-  like-made : (P : Bool → Type 0) (f : Bool → Bool) → (want {E = ℕ} 8 (comparable (kindOf a) (kindOf b)) >> got (Truth (f (same a b)))) ≡ got v
-      → (kindOf a ≢ isRef → kindOf b ≢ isRef → a ≡ b → P true) → (kindOf a ≢ isRef → kindOf b ≢ isRef → a ≢ b → P false) → (t : Bool) × (P t × (Truth (f t) ≡ v))
-  like-made P f e one two =
-      tested 8 (comparable (kindOf a) (kindOf b)) _ e λ c k.
-      plains (kindOf a) (kindOf b) c λ x y.
-      cases (same a b)
-      (λ s. (true, (one x y (same-value a b (plain-sound a x) (plain-sound b y) (same-true a b s)), rw s at (got-inj k))))
-      (λ s. (false, (two x y (λ q. same-false a b s (ap cellOf q)), rw s at (got-inj k))))
+  like-made {ℓ} : {X : Type ℓ} (f : Bool → Bool) → (want {E = ℕ} 8 (comparable (kindOf a) (kindOf b)) >> got (Truth (f (same a b)))) ≡ got v
+      → (kindOf a ≢ isRef → kindOf b ≢ isRef → Truth (f (same a b)) ≡ v → X) → X
+  like-made f e h = tested 8 (comparable (kindOf a) (kindOf b)) _ e λ c k. plains (kindOf a) (kindOf b) c λ x y. h x y (got-inj k)
 
   pub makes-sound : (o : ℕ) → 1 ≤ o → o ≤ operators → apply (opOf o) a b ≡ got v → Makes o a b v
   unfolding apply made takes opOf
@@ -192,11 +201,9 @@ module _ (v a b : Value) where
   makes-sound (suc (suc (suc (suc zero)))) h l e = int-made (λ x y. Makes 4 x y v) (λ m n. got (Truth (ltZ m n))) v a b e λ m n k. rw (← got-inj k) Makes.less
   makes-sound (suc (suc (suc (suc (suc zero))))) h l e = int-made (λ x y. Makes 5 x y v) (λ m n. got (Truth (leZ m n))) v a b e λ m n k. rw (← got-inj k) Makes.at-most
   makes-sound (suc (suc (suc (suc (suc (suc zero)))))) h l e =
-      let t = like-made (λ t. Makes 6 a b (Truth t)) (λ t. t) e (λ x y q. Makes.equal x y q) (λ x y q. Makes.not-equal x y q) in
-      rw (← t .1 .1) (t .1 .0)
+      like-made (λ t. t) e λ x y q. rw (← q) (Makes.equal x y (alike a b x y))
   makes-sound (suc (suc (suc (suc (suc (suc (suc zero))))))) h l e =
-      let t = like-made (λ t. Makes 7 a b (Truth (not t))) (λ t. not t) e (λ x y q. Makes.not-unequal x y q) (λ x y q. Makes.unequal x y q) in
-      rw (← t .1 .1) (t .1 .0)
+      like-made (λ t. not t) e λ x y q. rw (← q) (Makes.unequal x y (apart a b x y))
   makes-sound (suc (suc (suc (suc (suc (suc (suc (suc zero)))))))) h l e = int-made (λ x y. Makes 8 x y v) (λ m n. got (Truth (leZ n m))) v a b e λ m n k. rw (← got-inj k) Makes.at-least
   makes-sound (suc (suc (suc (suc (suc (suc (suc (suc (suc zero))))))))) h l e = int-made (λ x y. Makes 9 x y v) (λ m n. got (Truth (ltZ n m))) v a b e λ m n k. rw (← got-inj k) Makes.more
   makes-sound (suc (suc (suc (suc (suc (suc (suc (suc (suc (suc zero)))))))))) h l e = bool-made (λ x y. Makes 10 x y v) (λ m n. m && n) v a b e λ m n q. rw (← q) Makes.both
@@ -210,20 +217,11 @@ makes-operator (Makes.times c) = (omega arith, omega arith)
 makes-operator Makes.less = (omega arith, omega arith)
 makes-operator Makes.at-most = (omega arith, omega arith)
 makes-operator (Makes.equal x y q) = (omega arith, omega arith)
-makes-operator (Makes.not-equal x y q) = (omega arith, omega arith)
 makes-operator (Makes.unequal x y q) = (omega arith, omega arith)
-makes-operator (Makes.not-unequal x y q) = (omega arith, omega arith)
 makes-operator Makes.at-least = (omega arith, omega arith)
 makes-operator Makes.more = (omega arith, omega arith)
 makes-operator Makes.both = (omega arith, omega arith)
 makes-operator Makes.either = (omega arith, omega arith)
-
--- kind and payload of plain values
-like : (a b : Value) → a ≡ b → same a b ≡ true
-like a b q = cell-same a b (ap cellOf q)
-
-unlike : (a b : Value) → kindOf a ≢ isRef → kindOf b ≢ isRef → a ≢ b → same a b ≡ false
-unlike a b x y n = cell-differs a b (λ q. n (same-value a b (plain-sound a x) (plain-sound b y) q))
 
 pub makes-complete : {o : ℕ} {a b v : Value} → Makes o a b v → apply (opOf o) a b ≡ got v
 unfolding apply made takes opOf ranged
@@ -232,10 +230,8 @@ makes-complete (Makes.minus c) = rw c
 makes-complete (Makes.times c) = rw c
 makes-complete Makes.less = refl
 makes-complete Makes.at-most = refl
-makes-complete (Makes.equal {a = a} {b = b} x y q) = rw (compared (kindOf a) (kindOf b) x y, like a b q)
-makes-complete (Makes.not-equal {a = a} {b = b} x y n) = rw (compared (kindOf a) (kindOf b) x y, unlike a b x y n)
-makes-complete (Makes.unequal {a = a} {b = b} x y n) = rw (compared (kindOf a) (kindOf b) x y, unlike a b x y n)
-makes-complete (Makes.not-unequal {a = a} {b = b} x y q) = rw (compared (kindOf a) (kindOf b) x y, like a b q)
+makes-complete (Makes.equal {a = a} {b = b} {t = t} x y q) = rw (compared (kindOf a) (kindOf b) x y, agree (same a b) t (alike a b x y) q)
+makes-complete (Makes.unequal {a = a} {b = b} {t = t} x y q) = rw (compared (kindOf a) (kindOf b) x y, agree (not (same a b)) t (apart a b x y) q)
 makes-complete Makes.at-least = refl
 makes-complete Makes.more = refl
 makes-complete Makes.both = refl

@@ -1,6 +1,6 @@
 -- The identity phase by plain facts: what is frozen, what is named, when there is no clash, and what is left. Assumes nothing.
 use mathlib.Core.Path.{_≡_, refl, sym, ap, _∙_}
-use mathlib.Core.Logic.{_↔_}
+use mathlib.Core.Logic.{_↔_, inl, inr}
 use mathlib.Core.Bool.{Bool, true, false, not, _||_}
 use mathlib.Core.List.{List, [], _∷_, _++_, List·Memᴰ·head, List·Memᴰ·tail, List·Memᴰ as OneOf}
 use Prim.Native.Nat.{ℕ, _≤_, _<_}
@@ -26,7 +26,7 @@ use Rattle.fit.proofs.FitLaws.{fit-ref, fit-count}
 use Rattle.rules.specs.State.{refused, slotAt}
 use Rattle.rules.specs.Evaluation.{same}
 use Rattle.rules.specs.Identities.{Tie, ties, isNode, member, frozenBy, classOf, names, is, clashFree, identityPhase}
-use Rattle.rules.specs.Rules.Identities.{Frozen, of-target, of-side, IsNamed, as-one, as-two}
+use Rattle.rules.specs.Rules.Identities.{Frozen, of-target, of-side, IsNamed}
 use Rattle.rules.specs.Steps.Phases.{Computed}
 use Rattle.rules.proofs.ClassLaws.{or-left, or-right, or-cases, false≢true, member-head, member-tail, member-cons, member-none, member-in, in-member, class-iff}
 
@@ -69,12 +69,8 @@ names-sound : (ts : List Tie) (l : ℕ) → names ts l ≡ true → IsNamed ts l
 unfolding names
 names-sound [] l e = false≢true e
 names-sound (t ∷ ts) l e = or-cases (eqb (t .one) l || eqb (t .two) l) (names ts l) e
-    (λ a. or-cases (eqb (t .one) l) (eqb (t .two) l) a (λ b. as-one t (List·Memᴰ·head refl) (eqb-true (t .one) l b)) (λ b. as-two t (List·Memᴰ·head refl) (eqb-true (t .two) l b)))
-    (λ a. more (names-sound ts l a))
-  where
-    more : IsNamed ts l → IsNamed (t ∷ ts) l
-    more (as-one u m q) = as-one u (List·Memᴰ·tail m) q
-    more (as-two u m q) = as-two u (List·Memᴰ·tail m) q
+    (λ a. or-cases (eqb (t .one) l) (eqb (t .two) l) a (λ b. (t, (List·Memᴰ·head refl, inl (eqb-true (t .one) l b)))) (λ b. (t, (List·Memᴰ·head refl, inr (eqb-true (t .two) l b)))))
+    (λ a. let n = names-sound ts l a in (n .0, (List·Memᴰ·tail (n .1 .0), n .1 .1)))
 
 names-here : {ts : List Tie} (l : ℕ) (t : Tie) → OneOf t ts → eqb (t .one) l || eqb (t .two) l ≡ true → names ts l ≡ true
 unfolding names
@@ -85,8 +81,8 @@ pub names-iff : (ts : List Tie) (l : ℕ) → (names ts l ≡ true) ↔ IsNamed 
 names-iff ts l = (names-sound ts l, back-to)
   where
     back-to : IsNamed ts l → names ts l ≡ true
-    back-to (as-one t m q) = names-here l t m (or-left (eqb (t .one) l) (eqb (t .two) l) (eq-eqb (t .one) l q))
-    back-to (as-two t m q) = names-here l t m (or-right (eqb (t .one) l) (eqb (t .two) l) (eq-eqb (t .two) l q))
+    back-to (t, (m, inl q)) = names-here l t m (or-left (eqb (t .one) l) (eqb (t .two) l) (eq-eqb (t .one) l q))
+    back-to (t, (m, inr q)) = names-here l t m (or-right (eqb (t .one) l) (eqb (t .two) l) (eq-eqb (t .two) l q))
 
 -- ---- no clash
 

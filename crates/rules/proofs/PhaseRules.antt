@@ -13,11 +13,10 @@ use Rattle.tables.specs.Values.{slotOf, Sound}
 use Rattle.tables.specs.Cells.{Cells}
 use Rattle.tables.proofs.ValueLaws.{slot-of-cell}
 use Rattle.fit.specs.Fit.{Fit}
-use Rattle.rules.specs.State.{Fault, Res, refused, slotAt}
+use Rattle.rules.specs.State.{Fault, Res, refused, refuse, slotAt}
 use Rattle.rules.specs.Identities.{Tie, ties, isNode, frozenBy, classOf, names, clashFree, putAll, identityPhase}
 use Rattle.rules.specs.Rules.Identities.{Frozen, Phase, PhaseFails, no-node, clash}
 use Rattle.rules.specs.Steps.Phases.{Relevant, Target, Ready}
-use Rattle.rules.proofs.StopLaws.{Stops, stops-is}
 use Rattle.rules.proofs.PhaseLaws.{phase-iff}
 use Rattle.rules.proofs.PhaseAnswers.{phase-refuses}
 use Rattle.rules.proofs.LeastChange.{least-change}
@@ -72,24 +71,20 @@ module _ (program kept : List ℤ) (before now : Cells) (word : List ℤ) (targe
     phase-stops f e =
         stops word (not (names ts target) || isNode v) (clashFree before (prefix ++ frozenBy ts) v (classOf ts target)) (putAll now (classOf ts target) v) f (rw followed at e)
 
-    fails-sound : (n : ℕ) (f : Fault) → phase ≡ stop f → f .number ≡ n → PhaseFails program kept before target prefix v n
-    fails-sound n f e q = go (phase-stops f e)
+    pub phase-fails-sound {ℓ} : {X : Type ℓ} (f : Fault) → phase ≡ stop f → ((n : ℕ) → refused n word ≡ f → PhaseFails program kept before target prefix v n → X) → X
+    phase-fails-sound {X = X} f e k = go (phase-stops f e)
       where
-        go : (f ≡ refused 13 word) ⊎ (f ≡ refused 12 word) → PhaseFails program kept before target prefix v n
+        go : (f ≡ refused 13 word) ⊎ (f ≡ refused 12 word) → X
         go (inl i) =
             let w = phase-refuses program kept before now word target prefix v ts fit sound followed .thirteen .0 (e ∙ ap stop i) in
-            rw (← q, i) (no-node (ties-iff program kept before ts .0 followed) (w .0) (node-not v .0 (w .1)))
+            k 13 (sym i) (no-node (ties-iff program kept before ts .0 followed) (w .0) (node-not v .0 (w .1)))
         go (inr i) =
             let w = phase-refuses program kept before now word target prefix v ts fit sound followed .twelve .0 (e ∙ ap stop i) in
-            rw (← q, i) (clash (ties-iff program kept before ts .0 followed) (λ m. node-is v .0 (w .0 m)) (w .1 .in-class) (w .1 .frozen) (w .1 .other))
+            k 12 (sym i) (clash (ties-iff program kept before ts .0 followed) (λ m. node-is v .0 (w .0 m)) (w .1 .in-class) (w .1 .frozen) (w .1 .other))
 
-    fails-complete : {n : ℕ} → PhaseFails program kept before target prefix v n → Stops phase n
-    fails-complete (no-node {ts = us} t m h) =
-        stops-is 13 word (phase-refuses program kept before now word target prefix v us fit sound (ties-iff program kept before us .1 t) .thirteen .1 (m, node-not v .1 h))
-    fails-complete (clash {ts = us} {l = l} t m c f o) =
-        stops-is 12 word
-        (phase-refuses program kept before now word target prefix v us fit sound (ties-iff program kept before us .1 t) .twelve .1
-        ((λ k. node-is v .1 (m k)), record { cell = l; in-class = c; frozen = f; other = o }))
-
-    pub phase-fails-rule : (n : ℕ) → Stops (identityPhase program kept before now word target prefix v) n ↔ PhaseFails program kept before target prefix v n
-    phase-fails-rule n = (λ w. fails-sound n (w .0) (w .1 .0) (w .1 .1), fails-complete)
+  pub phase-fails-complete : {n : ℕ} → PhaseFails program kept before target prefix v n → identityPhase program kept before now word target prefix v ≡ refuse n word
+  phase-fails-complete (no-node {ts = us} t m h) =
+      phase-refuses program kept before now word target prefix v us fit sound (ties-iff program kept before us .1 t) .thirteen .1 (m, node-not v .1 h)
+  phase-fails-complete (clash {ts = us} {l = l} t m c f o) =
+      phase-refuses program kept before now word target prefix v us fit sound (ties-iff program kept before us .1 t) .twelve .1
+      ((λ k. node-is v .1 (m k)), record { cell = l; in-class = c; frozen = f; other = o })

@@ -1,31 +1,21 @@
--- The verb of a statement that reads, and where the statements of a block are. Assumes nothing.
+-- The verb of a statement that reads. Assumes nothing.
 use mathlib.Core.Path.{_≡_, refl, sym, ap, _∙_}
-use Prim.Native.Nat.{ℕ, zero, suc, _+_, _-_, _≤_, _<_}
+use Prim.Native.Nat.{ℕ, _<_}
 use native.Mathlib.Omega.{arith}
 use native.Mathlib.Decide.{decLt}
-use native.Mathlib.Numerals.{sub-one}
 use mathlib.Core.Bool.{true, false}
 use mathlib.Core.List.{List, _++_}
 use lib.IntN.{ℤ}
-use lib.ListN.{length, drop, getD}
-use Rattle.words.specs.Words.{numberAt, lastOf}
+use lib.ListN.{getD}
+use Rattle.words.specs.Words.{numberAt}
 use Rattle.words.specs.Answer.{got, stop}
 use Rattle.words.proofs.Laws.{number-first}
 use Rattle.program.specs.Forms.{Verb, skip, assign, new, always, once, alwaysSame, onceSame, branch, loop, noVerb, verbs, verbOf}
 use Rattle.program.specs.Grammar.{statementOf, Yields}
-use Rattle.program.specs.Reading.{readStatement, after}
 use Rattle.program.specs.Told.{told}
-use Rattle.program.specs.declared.Spot.{Spot}
-use Rattle.program.specs.declared.Spot.the-variants.{At, Nowhere}
-use Rattle.program.specs.Where.{orElse, spotStatement, spotBlock}
 use Rattle.program.proofs.FormLaws.{numberOfVerb, verb-number}
-use Rattle.program.proofs.LengthLaws.{Part, part-trans, after-part, uses-keeps, statement-uses}
 use Rattle.program.proofs.GrammarLaws.{yields-complete}
 use Rattle.program.proofs.BlockLaws.{statement-none}
-use Rattle.program.proofs.RowLaws.{last-part, last-but-one}
-use Rattle.program.proofs.WhereLaws.{after-is, Looking, looking-starts, looking-finds, looking-goes-on}
-
--- ---- the verb of a statement
 
 pub verb-back : (v : Verb) → getD verbs (numberOfVerb v) noVerb ≡ v
 verb-back skip = refl
@@ -85,59 +75,3 @@ verb-in {d} {s} y q = go (decLt (numberOfVerb (verbOf (numberAt (s ++ q) 0))) 9)
         sym (verb-back (verbOf (numberAt (s ++ q) 0)))
         ∙ ap (λ n. getD verbs n noVerb) (sym (verb-number (numberAt (s ++ q) 0) l) ∙ verb-first y q) ∙ verb-back (verbIn y)
     go (no n) = absurd (told-apart (s ++ q) q (statement-none d (s ++ q) (verb-none (verbOf (numberAt (s ++ q) 0)) n) ∙ ap told (yields-complete y q)))
-
--- ---- where a statement is found
-
-pub data IsAt (s : Spot) : Type 0 where
-  is-at : (v k : ℕ) → s ≡ At v k → IsAt s
-
-pub first-at : (s o : Spot) → IsAt s → IsAt (orElse s o)
-first-at s o (is-at v k e) = is-at v k (rw e)
-
-pub second-at : (s o : Spot) → IsAt o → IsAt (orElse s o)
-second-at (At v k) o f = is-at v k refl
-second-at Nowhere o f = f
-
--- what is found in any of the n statements at p is found by `spot`; a word is named by how many words are left from it on
-abbrev pub Sees : (ℕ → Spot) → ℕ → ℕ → List ℤ → Type 0
-Sees spot d zero p = Unit {0}
-Sees spot d (suc n) p = ((left : ℕ) → IsAt (spotStatement (λ q. spotBlock d left q) d left p) → IsAt (spot left)) × Sees spot d n (after (readStatement d p))
-
-module _ (d : ℕ) (p : List ℤ) where
-  -- found already, or still looking
-  data Sought (n i here left : ℕ) : Type 0 where
-    found : IsAt (spotBlock (suc d) left p) → Sought n i here left
-    still : Looking (suc d) left n p i here → Sought n i here left
-
-  -- the same with one nesting less written out
-  less : suc d - 1 ≡ d
-  less = sub-one (suc d)
-
-  module _ (n i here left : ℕ) (q : List ℤ) (more : i < n) (is : q ≡ lastOf here p) where
-    finds : Sought n i here left → IsAt (spotStatement (λ r. spotBlock d left r) d left q) → IsAt (spotBlock (suc d) left p)
-    finds (found f) a = f
-    finds (still inv) (is-at v k e) = is-at v k (sym (looking-finds inv more is refl (rw less e)))
-
-    next : Sought n i here left → Sought n (i + 1) (told (readStatement d q) .left) left
-    next (found f) = found f
-    next (still inv) = go (spotStatement (λ r. spotBlock d left r) d left q) refl
-      where
-        go : (s : Spot) → spotStatement (λ r. spotBlock d left r) d left q ≡ s → Sought n (i + 1) (told (readStatement d q) .left) left
-        go (At v k) e = found (finds (still inv) (is-at v k e))
-        go Nowhere e = still (rw less at (looking-goes-on inv more is refl (rw less e) refl))
-
-  sees-from : (m n i here : ℕ) (q : List ℤ) → i + m ≡ n → q ≡ lastOf here p → ((left : ℕ) → Sought n i here left) → Sees (λ left. spotBlock (suc d) left p) d m q
-  sees-from zero n i here q e is look = tt
-  sees-from (suc m) n i here q e is look =
-      let more : i < n = omega arith in
-      let w : Part p (after (readStatement d q)) = part-trans (rw is (last-part here p)) (after-part _ (uses-keeps (statement-uses d q))) in (
-        (λ left. finds n i here left q more is (look left)),
-        sees-from m n (i + 1) (told (readStatement d q) .left) (after (readStatement d q)) (omega arith)
-            (sym (after-is (readStatement d q) w refl refl)) (λ left. next n i here left q more is (look left)),
-      )
-
-  -- what is found in a statement of a block is found in the block
-  pub sees-block : numberAt p 0 ≤ 255 → Sees (λ left. spotBlock (suc d) left p) d (numberAt p 0) (drop 1 p)
-  sees-block h =
-      sees-from (numberAt p 0) (numberAt p 0) 0 (length p - 1) (drop 1 p) (omega arith) (sym (last-but-one p))
-      (λ left. still (looking-starts (suc d) left p (λ e. omega arith) h))

@@ -14,7 +14,7 @@ use Rattle.program.specs.declared.Spot.the-variants.{At}
 use Rattle.program.specs.Forms.{mostWords, mostStatements, blockDepth, expressionDepth}
 use Rattle.program.specs.Forms.{Verb, skip, assign, new, always, once, alwaysSame, onceSame, branch, loop, noVerb, verbOf}
 use Rattle.program.specs.Reading.{readExpression, readBlock, readStatement, after}
-use Rattle.program.specs.Where.{spotStatement, spotBlock}
+use Rattle.program.specs.Where.{spotStatement, spotBlock, statementAt}
 use Rattle.program.specs.Grammar.{blockOf, statementsOf, statementOf, Yields, Expression, Takes, Program}
 use Rattle.program.proofs.FormLaws.{numberOfVerb}
 use Rattle.program.proofs.NumberLaws.{number-of}
@@ -37,9 +37,9 @@ pub data InProgram (program : List ℤ) : Code → Type 0 where
   in-some : {d n : ℕ} {p q : List ℤ} → InProgram program (statement d p) → Takes (Yields (statementOf d)) p q → InProgram program (statements d n q)
       → InProgram program (statements d (suc n) p)
   in-simple : {d : ℕ} {p : List ℤ} → StatementThere program p → numberOfVerb (verbOf (numberAt p 0)) < 7 → InProgram program (statement d p)
-  in-branch : {d : ℕ} {s p q r : List ℤ} → s ≡ pos 7 ∷ p → verbOf (numberAt s 0) ≡ branch → Takes (Expression false expressionDepth) p q → Takes (Yields (blockOf d)) q r
+  in-branch : {d : ℕ} {s p q r : List ℤ} → StatementThere program s → s ≡ pos 7 ∷ p → verbOf (numberAt s 0) ≡ branch → Takes (Expression false expressionDepth) p q → Takes (Yields (blockOf d)) q r
       → InProgram program (block d q) → InProgram program (block d r) → InProgram program (statement d s)
-  in-loop : {d : ℕ} {s p q : List ℤ} → s ≡ pos 8 ∷ p → verbOf (numberAt s 0) ≡ loop → Takes (Expression false expressionDepth) p q
+  in-loop : {d : ℕ} {s p q : List ℤ} → StatementThere program s → s ≡ pos 8 ∷ p → verbOf (numberAt s 0) ≡ loop → Takes (Expression false expressionDepth) p q
       → InProgram program (block d q) → InProgram program (statement d s)
 
 takes : {P : List ℤ → Type 0} (ws q : List ℤ) → P ws → Takes P (ws ++ q) q
@@ -95,7 +95,7 @@ module _ (program : List ℤ) (short : length program ≤ mostWords) where
         let shorter : length (a ++ q) < length (pos 8 ∷ ((e ++ a) ++ q)) = omega (arith, ap length (append-assoc e a q), append-part e (a ++ q) .short) in
         let finds : FoundToo d (a ++ q) q = λ left v k h l f.
         found-in (pos 8 ∷ ((e ++ a) ++ q)) part look left v k h (omega arith) (f ∙ spot-in-loop d left a x q (λ z. omega arith)) in
-        in-loop (ap (λ (z : List ℤ). pos 8 ∷ z) (append-assoc e a q)) (verb-in (Yields.loop x y) q) (takes e (a ++ q) x) (blocks a y q (part-trans outer (part-trans part inside)) finds)
+        in-loop (statement-here (Yields.loop x y) part look) (ap (λ (z : List ℤ). pos 8 ∷ z) (append-assoc e a q)) (verb-in (Yields.loop x y) q) (takes e (a ++ q) x) (blocks a y q (part-trans outer (part-trans part inside)) finds)
     statement-of (Yields.branch {e = e} {a = a} {b = c} x y w) part look =
         let u : (e ++ (a ++ c)) ++ q ≡ e ++ (a ++ (c ++ q)) = append-assoc e (a ++ c) q ∙ ap (λ (z : List ℤ). e ++ z) (append-assoc a c q) in
         let first : Part (pos 7 ∷ ((e ++ (a ++ c)) ++ q)) (a ++ (c ++ q)) = rw u (append-part (pos 7 ∷ e) (a ++ (c ++ q))) in
@@ -108,7 +108,7 @@ module _ (program : List ℤ) (short : length program ≤ mostWords) where
         let finds' : FoundToo d (c ++ q) q = λ left v k h l f.
         found-in (pos 7 ∷ ((e ++ (a ++ c)) ++ q)) part look left v k h (omega (arith, second .short))
         (f ∙ rw (← out-block d left y (c ++ q) l) at (spot-in-branch d left c x y q (λ z. omega (arith, second .short)))) in
-        in-branch (ap (λ (z : List ℤ). pos 7 ∷ z) u) (verb-in (Yields.branch x y w) q) (takes e (a ++ (c ++ q)) x) (takes a (c ++ q) y) (blocks a y (c ++ q) whole finds)
+        in-branch (statement-here (Yields.branch x y w) part look) (ap (λ (z : List ℤ). pos 7 ∷ z) u) (verb-in (Yields.branch x y w) q) (takes e (a ++ (c ++ q)) x) (takes a (c ++ q) y) (blocks a y (c ++ q) whole finds)
         (blocks c w q (part-trans whole second) finds')
 
   -- the statements of a block from number i on
@@ -139,18 +139,45 @@ program-of program g =
 
 -- ---- what is found in a program that reads is a statement that stands there, and no other does
 
-pub statement-there : {program p : List ℤ} → Program program → AtStatement program p → StatementThere program p
-statement-there {program} g (at k {verb} {nest} e) = go (decLt k (length program))
+-- a statement that is found at k
+record FoundAt (program : List ℤ) (k verb nest : ℕ) : Type 0 where
+  inside : k < length program
+  found : Found program [] (length program - k) verb nest
+  is : drop k program ≡ found .words
+
+found-at : {program : List ℤ} (k : ℕ) {verb nest : ℕ} → Program program → statementAt program k ≡ At verb nest → FoundAt program k verb nest
+found-at {program} k {verb} {nest} g e = go (decLt k (length program))
   where
-    go : Dec (k < length program) → StatementThere program (drop k program)
+    go : Dec (k < length program) → FoundAt program k verb nest
     go (no h) = at-nowhere (sym e ∙ sym (statement-past program k (omega arith)))
     go (yes h) =
         let f : Found program [] (length program - k) verb nest =
         rw append-nil at (block-found blockDepth (length program - k) program (g .yields) [] verb nest (rw append-nil (sym e ∙ sym (statement-in program k h)))) in
         let i : length program - length (f .words) ≡ k = omega (arith, f .long) in
-        let is : drop k program ≡ f .words = rw i at (f .part .is) in
-        let j : positionOf program (drop k program) ≡ k = omega (arith, length-drop k program) in
-        record { short = g .short; part = part-drop k program .is; nest = nest; there = rw (j, is, f .verb) e; rest = f .rest; reads = rw is (f .reads) }
+        record { inside = h; found = f; is = rw i at (f .part .is) }
+
+pub statement-there : {program p : List ℤ} → Program program → AtStatement program p → StatementThere program p
+statement-there {program} g (at k {verb} {nest} e) =
+    let x = found-at k g e in
+    let j : positionOf program (drop k program) ≡ k = omega (arith, length-drop k program, x .inside) in
+    record {
+      short = g .short;
+      part = part-drop k program .is;
+      nest = nest;
+      there = rw (j, x .is, x .found .verb) e;
+      rest = x .found .rest;
+      reads = rw (x .is) (x .found .reads);
+    }
+
+-- its first word is its verb's number
+pub there-verb : {program : List ℤ} (k : ℕ) {verb nest : ℕ} → Program program → statementAt program k ≡ At verb nest → numberAt (drop k program) 0 ≡ verb
+there-verb k g e = let x = found-at k g e in rw (x .is) (x .found .verb)
+
+-- every statement of the program stands there
+pub in-there : {program : List ℤ} {d : ℕ} {p : List ℤ} → InProgram program (statement d p) → StatementThere program p
+in-there (in-simple h l) = h
+in-there (in-branch h e v k j x y) = h
+in-there (in-loop h e v k x) = h
 
 pub there-at : {program p : List ℤ} → StatementThere program p → AtStatement program p
 there-at {program} {p} h = rw (h .part) at (AtStatement.at (positionOf program p) (h .there))
@@ -183,13 +210,13 @@ module _ (program : List ℤ) (budget : ℕ) where
   does (block d p) t = doBlock d program budget p t
   does (statements d n p) t = doStatements (λ q w. doBlock d program budget q w) d program budget n p t
   does (statement d p) t = doVerb (λ q w. doBlock d program budget q w) (λ q. after (readBlock d q)) program budget p (verbOf (numberAt p 0)) t
-  does (turning d p) t = turns (λ w. doBlock d program budget (after (readExpression expressionDepth false p)) w) budget (positionOf program (pos 8 ∷ p)) p (suc budget) t
+  does (turning d p) t = turns (λ w. doBlock d program budget (after (readExpression expressionDepth false p)) w) program budget (positionOf program (pos 8 ∷ p)) p (suc budget) t
 
   pub block-opens : (d n : ℕ) (p : List ℤ) (t : Tally) → n ≤ mostStatements → does (block (suc d) (pos n ∷ p)) t ≡ does (statements d n p) t
   unfolding doBlock
   block-opens d n p t few = rw (number-of 0 mostStatements n p (omega arith) few, doBlock)
 
   pub simple-is : (d : ℕ) (p : List ℤ) (t : Tally) → numberOfVerb (verbOf (numberAt p 0)) < 7
-      → does (statement d p) t ≡ taken (positionOf program p) t (doSimple program p (t .state) (t .unread) (verbOf (numberAt p 0)))
+      → does (statement d p) t ≡ taken program t (doSimple program p (t .state) (t .unread) (verbOf (numberAt p 0)))
   simple-is d p t low =
       verb-simple (λ q w. doBlock d program budget q w) (λ q. after (readBlock d q)) program budget p t (verbOf (numberAt p 0)) (simple-verb (verbOf (numberAt p 0)) low)

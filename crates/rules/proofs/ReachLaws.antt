@@ -20,9 +20,10 @@ pub record Reaches (program ws : List ℤ) (S : State) (t : Tally) : Type 0 wher
 
 pub whole-reaches : (program ws : List ℤ) (budget : ℤ) (S : State) → Program program → Holds program S → Reaches program ws S (tallyOf (whole program ws budget S))
 whole-reaches program ws budget S reads holds =
-    program-keeps program (numberOf budget) (reads .short) (Reaches program ws S)
+    program-keeps program (numberOf budget) (reads .short) (Reaches program ws S) (Reaches program ws S)
     (record {
-      pays = λ t h. record { holds = h .holds; reached = h .reached };
+      pays = λ t h l. record { holds = h .holds; reached = h .reached };
+      frees = λ t h. h;
       notes = λ c t h. record { holds = h .holds; reached = h .reached };
       simple = λ p here t h l k.
           record {

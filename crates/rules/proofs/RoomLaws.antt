@@ -171,7 +171,7 @@ stays-self S = record { records = omega arith; fields = λ r h. refl; labels = �
 
 passed-stays : (program ws : List ℤ) (budget : ℤ) (S : State) (e : Ended) → Passes program budget S → Answered program ws budget S e → Stays S (e .state)
 passed-stays program ws budget S e p a =
-    step-stays (chain program ws S _ _ _ (p .stands .fit .sized) (p .stands .long) (answers program ws budget S e a .reached))
+    step-stays (chain program ws S _ _ _ (p .1 .1 .fit .sized) (p .1 .1 .long) (answers program ws budget S e a .reached))
 
 pub runs-stay : RunsStay
 runs-stay program ws budget S e (unstarted u) = stays-self S

@@ -6,38 +6,38 @@ use native.Mathlib.Decide.{decLt}
 use mathlib.Core.List.{List}
 use lib.IntN.{ℤ}
 use lib.ListN.{length}
-use Rattle.words.specs.Words.{numberAt, numberOf}
-use Rattle.words.specs.Answer.{got, stop}
+use Rattle.words.specs.Words.{numberOf}
+use Rattle.words.specs.Answer.{stop}
 use Rattle.words.proofs.AnswerLaws.{stop-inj}
-use Rattle.program.specs.Forms.{mostWords, verbOf}
+use Rattle.program.specs.Forms.{mostWords, blockDepth}
 use Rattle.program.specs.Reading.{readProgram}
-use Rattle.program.specs.declared.Spot.{Spot}
 use Rattle.program.specs.declared.Spot.the-variants.{Nowhere}
 use Rattle.program.specs.Where.{statementAt}
 use Rattle.program.proofs.LengthLaws.{part-refl}
 use Rattle.program.proofs.JudgeLaws.{first-unfit, over-long}
 use Rattle.rules.specs.State.{State}
+use Rattle.rules.specs.Statements.{positionOf}
 use Rattle.rules.specs.Running.{Tally, on, end}
 use Rattle.rules.specs.Start.{Ended}
-use Rattle.rules.specs.Claims.Answers.{Reached, at-first}
+use Rattle.rules.specs.Rules.Runs.{block, Runs}
 use Rattle.rules.specs.Rules.Answers.{Unstarted, wrong, unreadable, unfit, broken, Passes, firstTally, given, Answered, unstarted, finished, stopped}
-use Rattle.rules.specs.Claims.Answers.{Answer, Answers}
-use Rattle.rules.specs.Steps.Holds.{Holds}
+use Rattle.rules.specs.Claims.Answers.{Reached, at-first, Answer, Answers}
+use Rattle.rules.specs.Steps.Holds.{Holds, StatementThere}
 use Rattle.rules.specs.Steps.ByVerb.{ByVerb}
-use Rattle.rules.proofs.RefusalLaws.{Refusal, told, refusal-most}
-use Rattle.rules.proofs.PlaceLaws.{IsAt, is-at}
 use Rattle.rules.proofs.SpotLaws.{at-nowhere}
-use Rattle.rules.proofs.CarryLaws.{Outs, outs-say, Ending, program-carried}
-use Rattle.rules.proofs.CountLaws.{Counts, counts-carried}
-use Rattle.rules.proofs.KeptReading.{Listed, two-not-listed, kept-reads, kept-carried}
-use Rattle.rules.proofs.WalkLaws.{tallyOf}
+use Rattle.rules.proofs.ProgramCode.{program-of, there-at}
+use Rattle.rules.proofs.WalkLaws.{tallyOf, program-keeps}
+use Rattle.rules.proofs.CountLaws.{Counts, Inside as CountsInside, counts-kept}
 use Rattle.rules.proofs.ReachLaws.{Reaches, whole-reaches}
+use Rattle.rules.proofs.Endings.{Ends, ends-there, ends-listed, runs-end}
+use Rattle.rules.proofs.PlacedLaws.{inner-range, Placed, ends-placed, placed-range, placed-own, placed-inside, placed-found}
 use Rattle.rules.proofs.RunLaws.{whole}
 use Rattle.rules.proofs.StandRules.{stands-iff}
 use Rattle.rules.proofs.AnswerRules.{whole-rule}
 
-not-nowhere : (s : Spot) → IsAt s → s ≡ Nowhere → ⊥
-not-nowhere s (is-at v k e) z = at-nowhere (sym e ∙ z)
+-- a statement stands at its word
+not-nowhere : {program p : List ℤ} → StatementThere program p → statementAt program (positionOf program p) ≡ Nowhere → ⊥
+not-nowhere here z = at-nowhere (sym (here .there) ∙ z)
 
 -- the place of a program that does not read
 unread-places : (p : List ℤ) (k : ℕ) → readProgram p ≡ stop k → (k ≤ mostWords) × ((k ≤ length p) × (mostWords < length p → k ≡ mostWords))
@@ -75,6 +75,7 @@ module _ (program ws : List ℤ) (budget : ℤ) (S : State) where
         early = λ l h. (b, refl);
         unread-place = λ e. unread-places program k (unstarted-two b e);
         at-statement = λ l. absurd (omega (arith, l, low .1));
+        inside = λ o. absurd (let r = inner-range o in omega (arith, r .0, low .1));
         steps = omega arith;
         accepted = omega arith;
         unread = sym (part-refl ws .is);
@@ -89,6 +90,7 @@ module _ (program ws : List ℤ) (budget : ℤ) (S : State) where
     early = λ l h. absurd (omega arith);
     unread-place = λ e. absurd (omega arith);
     at-statement = λ l. absurd (omega arith);
+    inside = λ o. absurd (let r = inner-range o in omega (arith, r .0));
     steps = c .steps;
     accepted = c .accepted;
     unread = sym (c .part .is);
@@ -96,66 +98,76 @@ module _ (program ws : List ℤ) (budget : ℤ) (S : State) where
   }
 
   -- refused at a statement
-  way-facts : (n place : ℕ) (t : Tally) → 5 ≤ n → n ≤ 19 → IsAt (statementAt program place)
+  way-facts : {p : List ℤ} (n place : ℕ) (t : Tally) → StatementThere program p → Placed program (t .state) p n place
       → Counts ws (numberOf budget) t → Reached program ws S (t .state) (t .unread) (t .accepted) → Answer program ws budget S (given n place t)
-  way-facts n place t a b s c r = record {
-    known = b;
-    finished = λ e. absurd (omega arith);
-    early = λ g h. absurd (omega arith);
-    unread-place = λ e. absurd (omega arith);
-    at-statement = λ h. not-nowhere (statementAt program place) s;
-    steps = c .steps;
-    accepted = c .accepted;
-    unread = sym (c .part .is);
-    reached = r;
-  }
+  way-facts n place t here x c r =
+      let k = placed-range x in
+      record {
+        known = k .1;
+        finished = λ e. absurd (omega (arith, k .0));
+        early = λ g h. absurd (omega (arith, k .0));
+        unread-place = λ e. absurd (omega (arith, k .0));
+        at-statement = λ h apart. rw (placed-own x apart) (not-nowhere here);
+        inside = placed-inside (there-at here) x;
+        steps = c .steps;
+        accepted = c .accepted;
+        unread = sym (c .part .is);
+        reached = r;
+      }
 
   -- ---- a run that passed its start
 
   module _ (p : Passes program budget S) where
     holds : Holds program S
-    holds = stands-iff program S .1 (p .stands)
+    holds = stands-iff program S .1 (p .1 .1)
 
-    -- the counts, the number and the place of what a program that reads comes to
-    whole-counts : Outs (Counts ws (numberOf budget)) (Ending (counts-carried program ws (numberOf budget))) (whole program ws budget S)
+    whole-counts : Counts ws (numberOf budget) (tallyOf (whole program ws budget S))
     whole-counts =
-        program-carried (counts-carried program ws (numberOf budget)) (p .reads) (firstTally S ws) (record { part = part-refl ws; steps = omega arith; accepted = omega arith })
+        program-keeps program (numberOf budget) (p .1 .0 .short) (Counts ws (numberOf budget)) (CountsInside ws (numberOf budget)) (counts-kept program ws (numberOf budget)) (p .1 .0 .yields)
+        (firstTally S ws) (record { part = part-refl ws; steps = omega arith; accepted = omega arith })
 
     pub whole-reached : Reaches program ws S (tallyOf (whole program ws budget S))
-    whole-reached = whole-reaches program ws budget S (p .reads) holds
+    whole-reached = whole-reaches program ws budget S (p .1 .0) holds
 
-    -- where it is refused: the number is one of the statement's, from 5 on
-    module _ {n place : ℕ} {t : Tally} (o : whole program ws budget S ≡ end n place t) where
-      ending : Ending (counts-carried program ws (numberOf budget)) n place t
-      ending = rw o at (outs-say whole-counts)
+    -- where it is refused
+    module _ {n place : ℕ} {t : Tally} (r : Runs program (numberOf budget) (block blockDepth program) (firstTally S ws) (end n place t)) where
+      comes-to : whole program ws budget S ≡ end n place t
+      comes-to = whole-rule program ws budget S (end n place t) p .1 r
 
-      listed : Listed (verbOf (numberAt program place)) n
-      listed =
-          (rw o at (outs-say (program-carried (kept-carried program (omega (arith, p .reads .short)) (numberOf budget)) (p .reads) (firstTally S ws) (kept-reads program S holds)))) .number
+      held : Holds program (t .state)
+      held = rw comes-to at (whole-reached .holds)
 
-      five : 5 ≤ n
-      five = go (ending .number) listed
-        where
-          go : Refusal n → Listed (verbOf (numberAt program place)) n → 5 ≤ n
-          go (told a b) h = a
-          go (Refusal.unread e) h = absurd (two-not-listed (verbOf (numberAt program place)) (rw e at h))
+      at-end : (q : List ℤ) × Ends program (numberOf budget) t q n place
+      at-end = runs-end program (numberOf budget) r (program-of program (p .1 .0))
+
+      at-place : Placed program (t .state) (at-end .0) n place
+      at-place = ends-placed (p .1 .0) held (at-end .1)
+
+      end-answer : Answer program ws budget S (given n place t)
+      end-answer = way-facts n place t (ends-there program (numberOf budget) (at-end .1)) at-place (rw comes-to at whole-counts) (rw comes-to at (whole-reached .reached))
 
 -- every answer keeps to the claim
 pub answers : Answers
 answers program ws budget S e (unstarted u) = early-facts program ws budget S u
 answers program ws budget S e (finished {u = t} p r) =
     let o : whole program ws budget S ≡ on t = whole-rule program ws budget S (on t) p .1 r in
-    end-facts program ws budget S t (rw o at (outs-say (whole-counts program ws budget S p))) (rw o at (whole-reached program ws budget S p .reached))
-answers program ws budget S e (stopped {n = n} {place = place} {u = t} p r) =
-    let o : whole program ws budget S ≡ end n place t = whole-rule program ws budget S (end n place t) p .1 r in
-    let b = ending program ws budget S p o in
-    way-facts program ws budget S n place t (five program ws budget S p o) (refusal-most (b .number)) (b .stands) (b .held) (rw o at (whole-reached program ws budget S p .reached))
+    end-facts program ws budget S t (rw o at (whole-counts program ws budget S p)) (rw o at (whole-reached program ws budget S p .reached))
+answers program ws budget S e (stopped p r) = end-answer program ws budget S p r
 
 -- where a run is refused at a statement, that is one of the refusals of its verb
 pub by-verb : ByVerb
 by-verb program ws budget S e (unstarted u) h = let low = unstarted-low u in absurd (omega (arith, low .1))
 by-verb program ws budget S e (finished p r) h = absurd (omega arith)
-by-verb program ws budget S e (stopped {n = n} {place = place} {u = t} p r) h = listed program ws budget S p (whole-rule program ws budget S (end n place t) p .1 r)
+by-verb program ws budget S e (stopped p r) h =
+    let x = at-end program ws budget S p r in
+    let y = at-place program ws budget S p r in
+    record {
+      part = x .0;
+      at = there-at (ends-there program (numberOf budget) (x .1));
+      verb = ends-listed program (numberOf budget) (held program ws budget S p r) (x .1);
+      own = placed-own y;
+      inner = placed-found y;
+    }
 
 -- a run that is finished passed its start and came to the end of its block
 pub record Finished (program ws : List ℤ) (budget : ℤ) (S : State) (e : Ended) : Type 0 where
@@ -168,4 +180,4 @@ pub finished-so : (program ws : List ℤ) (budget : ℤ) (S : State) (e : Ended)
 finished-so program ws budget S e (unstarted u) z = let low = unstarted-low u in absurd (omega (arith, low .0))
 finished-so program ws budget S e (finished {u = t} p r) z = record { tally = t; passes = p; comes = whole-rule program ws budget S (on t) p .1 r; gives = refl }
 finished-so program ws budget S e (stopped {n = n} {place = place} {u = t} p r) z =
-    let l = five program ws budget S p (whole-rule program ws budget S (end n place t) p .1 r) in absurd (omega arith)
+    let l = placed-range (at-place program ws budget S p r) in absurd (omega (arith, l .0))

@@ -25,9 +25,9 @@ use Rattle.rules.specs.State.{State, Fault, Res}
 use Rattle.rules.specs.Statements.{Left, positionOf, doSimple}
 use Rattle.rules.specs.Running.{Tally, Out, on, end, thenOut, paid, taken, test, tested as testedOut, turns, doVerb, doStatement, doStatements, doBlock}
 use Rattle.rules.specs.Steps.Holds.{Holds, StatementThere}
-use Rattle.rules.specs.Rules.Expressions.{Within}
+use Rattle.rules.specs.Rules.Expressions.{Within, Untested}
 use Rattle.rules.specs.Rules.Statements.{Gives, Steps, Refused}
-use Rattle.rules.specs.Rules.Runs.{Code, block, statements, statement, turning, begun, knowing, Untested, Runs}
+use Rattle.rules.specs.Rules.Runs.{Code, block, statements, statement, turning, begun, knowing, Runs}
 use Rattle.rules.specs.Rules.Runs.{r-block, r-none, r-some, r-unpaid, r-ended, r-simple, r-refused, r-then, r-else, r-no-if}
 use Rattle.rules.specs.Rules.Runs.{r-while, r-stop, r-go, r-no-turn, r-broken, r-no-while}
 use Rattle.rules.proofs.EvaluationLaws.{evaluate-iff}
@@ -43,7 +43,7 @@ use Rattle.rules.proofs.ProgramCode.{InProgram, in-block, in-none, in-s
 -- ---- "If, while test a boolean"
 
 -- what follows an expression with a value is what follows its words
-value-rest : {S : Cells} {d : ℕ} {p q r : List ℤ} {v : Value} → Takes (Expression false d) p q → Within S d p v r → r ≡ q
+pub value-rest : {S : Cells} {d : ℕ} {p q r : List ℤ} {v : Value} → Takes (Expression false d) p q → Within S d p v r → r ≡ q
 value-rest {S} {d} {p} {q} {r} {v} t w =
     evaluate-reads (λ n. Unit {0}) tt tt S tt (t .piece) q .good (v, r) (rw (t .split) at (evaluate-iff d S p v r .1 w))
 
@@ -53,7 +53,7 @@ test-is {S} {p} {q} {b} w = test-rule S p b .1 (q, w)
 -- the test at p, with q after its expression
 data Test (S : Cells) (p q : List ℤ) : Res Bool → Type 0 where
   comes-out : {b : Bool} → Within S expressionDepth p (Truth b) q → Test S p q (got b)
-  fails : {f : Fault} → Untested S p (f .number) → Test S p q (stop f)
+  fails : {f : Fault} → Untested S false p p f → Test S p q (stop f)
 
 test-out : (S : Cells) (p q : List ℤ) → Takes (Expression false expressionDepth) p q → Test S p q (test S p)
 test-out S p q t = either (test S p)
@@ -87,7 +87,7 @@ module _ (program : List ℤ) (budget : ℕ) where
   some-ran t f l k (end m place u) x g = record { runs = r-ended l (x .runs); good = x .good; grown = omega (arith, x .grown) }
 
   simple-ran : {d : ℕ} (p : List ℤ) (t : Tally) → StatementThere program p → numberOfVerb (verbOf (numberAt p 0)) < 7 → Good t
-      → Ran (statement d p) t (taken (positionOf program p) t (doSimple program p (t .state) (t .unread) (verbOf (numberAt p 0))))
+      → Ran (statement d p) t (taken program t (doSimple program p (t .state) (t .unread) (verbOf (numberAt p 0))))
   unfolding taken
   simple-ran p t here low g = either (doSimple program p (t .state) (t .unread) (verbOf (numberAt p 0)))
       (λ l e. rw e (record {
@@ -96,14 +96,14 @@ module _ (program : List ℤ) (budget : ℕ) where
         grown = omega arith;
       }))
       (λ f e. rw e (record {
-        runs = r-refused (refused-rule program p (t .state) (t .unread) here (g .held) low (f .number) .0 (f, (e, refl)));
+        runs = r-refused (refused-rule program p (t .state) (t .unread) here (g .held) low f .0 e);
         good = g;
         grown = omega arith;
       }))
 
   if-ran : {d : ℕ} {p q r : List ℤ} (t : Tally) (f h : Tally → Out) → Good t → Takes (Yields (blockOf d)) q r → (m : Res Bool) → Test (t .state .cells) p q m
       → ((u : Tally) → Good u → Ran (block d q) u (f u)) → ((u : Tally) → Good u → Ran (block d r) u (h u))
-      → Ran (statement d (pos 7 ∷ p)) t (testedOut (positionOf program (pos 7 ∷ p)) t m f h)
+      → Ran (statement d (pos 7 ∷ p)) t (testedOut program t m f h)
   unfolding testedOut
   if-ran t f h g k (got true) (comes-out w) x y = ran-as (omega arith) (r-then w) (x (knowing true t) g)
   if-ran t f h g k (got false) (comes-out w) x y = ran-as (omega arith) (r-else w k) (y (knowing false t) g)
@@ -126,7 +126,7 @@ module _ (program : List ℤ) (budget : ℕ) where
 
   while-ran : {d : ℕ} {p q : List ℤ} (t : Tally) (body f : Tally → Out) → Good t → (m : Res Bool) → Test (t .state .cells) p q m
       → ((u : Tally) → Good u → Ran (block d q) u (body u)) → ((u : Tally) → Good u → t .steps < u .steps → Ran (turning d p) u (f u))
-      → Ran (turning d p) t (testedOut (positionOf program (pos 8 ∷ p)) t m (λ u. thenOut (body u) λ w. thenOut (paid budget (positionOf program (pos 8 ∷ p)) w) f) (λ u. on u))
+      → Ran (turning d p) t (testedOut program t m (λ u. thenOut (body u) λ w. thenOut (paid budget (positionOf program (pos 8 ∷ p)) w) f) (λ u. on u))
   unfolding testedOut
   while-ran t body f g (got true) (comes-out w) x y = turn-ran t f w (body (knowing true t)) (x (knowing true t) g) y
   while-ran t body f g (got false) (comes-out w) x y = record { runs = r-stop w; good = g; grown = omega arith }
@@ -134,11 +134,11 @@ module _ (program : List ℤ) (budget : ℕ) where
 
   -- the fuel is more than the steps that are left, so it never runs out
   turns-ran : {d : ℕ} {p q : List ℤ} (body : Tally → Out) → Takes (Expression false expressionDepth) p q → ((u : Tally) → Good u → Ran (block d q) u (body u))
-      → (fuel : ℕ) (t : Tally) → Good t → budget < fuel + t .steps → Ran (turning d p) t (turns body budget (positionOf program (pos 8 ∷ p)) p fuel t)
+      → (fuel : ℕ) (t : Tally) → Good t → budget < fuel + t .steps → Ran (turning d p) t (turns body program budget (positionOf program (pos 8 ∷ p)) p fuel t)
   unfolding turns
   turns-ran body k x zero t g h = absurd (omega (arith, g .within))
   turns-ran {d} {p} {q} body k x (suc fuel) t g h =
-      while-ran t body (λ z. turns body budget (positionOf program (pos 8 ∷ p)) p fuel z) g (test (t .state .cells) p) (test-out (t .state .cells) p q k) x
+      while-ran t body (λ z. turns body program budget (positionOf program (pos 8 ∷ p)) p fuel z) g (test (t .state .cells) p) (test-out (t .state .cells) p q k) x
       (λ u i l. turns-ran body k x fuel u i (omega arith))
 
   pub ran : {c : Code} → InProgram program c → (t : Tally) → Good t → Ran c t (does program budget c t)
@@ -159,11 +159,11 @@ module _ (program : List ℤ) (budget : ℕ) where
   ran (in-simple {d = d} {p = p} here low) t g =
       rw (simple-is program budget d p t low)
       (simple-ran p t here low g)
-  ran (in-branch {d = d} {p = p} {q = q} {r = r} s v k j x y) t g =
+  ran (in-branch {d = d} {p = p} {q = q} {r = r} h s v k j x y) t g =
       rw v (rw s (rw (past k, past-block j)
       (if-ran t (λ u. doBlock d program budget q u) (λ u. doBlock d program budget r u) g j (test (t .state .cells) p) (test-out (t .state .cells) p q k)
       (λ u i. ran x u i) (λ u i. ran y u i))))
-  ran (in-loop {d = d} {p = p} {q = q} s v k x) t g =
+  ran (in-loop {d = d} {p = p} {q = q} h s v k x) t g =
       rw v (rw s (rw (past k)
       (ran-as (omega arith) r-while (turns-ran (λ u. doBlock d program budget q u) k (λ u i. ran x u i) (suc budget) t g (omega arith)))))
 
@@ -181,7 +181,7 @@ module _ (program : List ℤ) (budget : ℕ) where
   steps-low (Steps.s-always-identity a b) = rw number-first (omega arith)
   steps-low (Steps.s-once-identity a) = rw number-first (omega arith)
 
-  refused-low : {S : State} {ws p : List ℤ} {n : ℕ} → Refused program S ws p n → numberAt p 0 < 7
+  pub refused-low : {S : State} {ws p : List ℤ} {f : Fault} → Refused program S ws p f → numberAt p 0 < 7
   refused-low (Refused.f-value a) = rw number-first (omega arith)
   refused-low (Refused.f-target a b) = rw number-first (omega arith)
   refused-low (Refused.f-field a b c) = rw number-first (omega arith)
@@ -190,32 +190,31 @@ module _ (program : List ℤ) (budget : ℕ) where
   refused-low (Refused.f-given g a b) = gives-low g
   refused-low (Refused.f-always a b) = rw number-first (omega arith)
   refused-low (Refused.f-once a) = rw number-first (omega arith)
-  refused-low (Refused.f-always-identity a) = rw number-first (omega arith)
+  refused-low (Refused.f-identity a b c) = rw number-first (omega arith)
   refused-low (Refused.f-unkept a b) = rw number-first (omega arith)
-  refused-low (Refused.f-once-identity a) = rw number-first (omega arith)
 
   -- a statement of the program, by its first word
   first-word : {s p : List ℤ} {n : ℕ} → s ≡ pos n ∷ p → numberAt s 0 ≡ n
   first-word {p = p} {n = n} e = rw e (number-first (pos n) p)
 
-  as-simple {ℓ} : {X : Type ℓ} {d : ℕ} {s : List ℤ} → InProgram program (statement d s) → numberAt s 0 < 7
+  pub as-simple {ℓ} : {X : Type ℓ} {d : ℕ} {s : List ℤ} → InProgram program (statement d s) → numberAt s 0 < 7
       → (StatementThere program s → numberOfVerb (verbOf (numberAt s 0)) < 7 → X) → X
   as-simple (in-simple here low) h k = k here low
-  as-simple (in-branch e v a b x y) h k = absurd (omega (arith, first-word e))
-  as-simple (in-loop e v a x) h k = absurd (omega (arith, first-word e))
+  as-simple (in-branch here e v a b x y) h k = absurd (omega (arith, first-word e))
+  as-simple (in-loop here e v a x) h k = absurd (omega (arith, first-word e))
 
-  as-branch {ℓ} : {X : Type ℓ} {d : ℕ} {s p : List ℤ} → InProgram program (statement d s) → s ≡ pos 7 ∷ p
+  pub as-branch {ℓ} : {X : Type ℓ} {d : ℕ} {s p : List ℤ} → InProgram program (statement d s) → s ≡ pos 7 ∷ p
       → ((q r : List ℤ) → verbOf (numberAt s 0) ≡ branch → Takes (Expression false expressionDepth) p q → Takes (Yields (blockOf d)) q r
       → InProgram program (block d q) → InProgram program (block d r) → X) → X
   as-branch (in-simple {p = s} here low) e k = absurd (omega (arith, first-word e, low, verb-number (numberAt s 0) (omega (arith, low))))
-  as-branch (in-branch f v a b x y) e k = k _ _ v (rw (ap (drop 1) (sym f ∙ e)) at a) b x y
-  as-branch (in-loop f v a x) e k = absurd (omega (arith, first-word e, first-word f))
+  as-branch (in-branch here f v a b x y) e k = k _ _ v (rw (ap (drop 1) (sym f ∙ e)) at a) b x y
+  as-branch (in-loop here f v a x) e k = absurd (omega (arith, first-word e, first-word f))
 
-  as-loop {ℓ} : {X : Type ℓ} {d : ℕ} {s p : List ℤ} → InProgram program (statement d s) → s ≡ pos 8 ∷ p
+  pub as-loop {ℓ} : {X : Type ℓ} {d : ℕ} {s p : List ℤ} → InProgram program (statement d s) → s ≡ pos 8 ∷ p
       → ((q : List ℤ) → verbOf (numberAt s 0) ≡ loop → Takes (Expression false expressionDepth) p q → InProgram program (block d q) → X) → X
   as-loop (in-simple {p = s} here low) e k = absurd (omega (arith, first-word e, low, verb-number (numberAt s 0) (omega (arith, low))))
-  as-loop (in-branch f v a b x y) e k = absurd (omega (arith, first-word e, first-word f))
-  as-loop (in-loop f v a x) e k = k _ v (rw (ap (drop 1) (sym f ∙ e)) at a) x
+  as-loop (in-branch here f v a b x y) e k = absurd (omega (arith, first-word e, first-word f))
+  as-loop (in-loop here f v a x) e k = k _ v (rw (ap (drop 1) (sym f ∙ e)) at a) x
 
   -- what is to be known of a piece, and what it comes to; for a while, with any fuel that the budget cannot use up
   abbrev Known : Code → Type 0
@@ -229,7 +228,7 @@ module _ (program : List ℤ) (budget : ℕ) where
   Comes (statements d n p) t o = does program budget (statements d n p) t ≡ o
   Comes (statement d p) t o = does program budget (statement d p) t ≡ o
   Comes (turning d p) t o = (fuel : ℕ) → budget < fuel + t .steps
-      → turns (λ w. doBlock d program budget (after (readExpression expressionDepth false p)) w) budget (positionOf program (pos 8 ∷ p)) p fuel t ≡ o
+      → turns (λ w. doBlock d program budget (after (readExpression expressionDepth false p)) w) program budget (positionOf program (pos 8 ∷ p)) p fuel t ≡ o
 
   ran-on : {c : Code} {t u : Tally} → InProgram program c → Good t → does program budget c t ≡ on u → Ran c t (on u)
   ran-on {t = t} x g e = rw e at (ran x t g)
@@ -237,16 +236,16 @@ module _ (program : List ℤ) (budget : ℕ) where
   -- a while that tests once more
   once-more : (body : Tally → Out) (place : ℕ) (p : List ℤ) (t : Tally) (o : Out) → Good t
       → ((fuel : ℕ) → budget < suc fuel + t .steps
-      → testedOut place t (test (t .state .cells) p) (λ u. thenOut (body u) λ w. thenOut (paid budget place w) λ z. turns body budget place p fuel z) (λ u. on u) ≡ o)
-      → (fuel : ℕ) → budget < fuel + t .steps → turns body budget place p fuel t ≡ o
+      → testedOut program t (test (t .state .cells) p) (λ u. thenOut (body u) λ w. thenOut (paid budget place w) λ z. turns body program budget place p fuel z) (λ u. on u) ≡ o)
+      → (fuel : ℕ) → budget < fuel + t .steps → turns body program budget place p fuel t ≡ o
   unfolding turns
   once-more body place p t o g k zero h = absurd (omega (arith, g .within))
   once-more body place p t o g k (suc fuel) h = k fuel h
 
-  same-statement : {d : ℕ} {p q r : List ℤ} → Takes (Yields (statementOf d)) p q → Takes (Yields (statementOf d)) p r → q ≡ r
+  pub same-statement : {d : ℕ} {p q r : List ℤ} → Takes (Yields (statementOf d)) p q → Takes (Yields (statementOf d)) p r → q ≡ r
   same-statement k j = sym (past-statement k) ∙ past-statement j
 
-  same-block : {d : ℕ} {p q r : List ℤ} → Takes (Yields (blockOf d)) p q → Takes (Yields (blockOf d)) p r → q ≡ r
+  pub same-block : {d : ℕ} {p q r : List ℤ} → Takes (Yields (blockOf d)) p q → Takes (Yields (blockOf d)) p r → q ≡ r
   same-block k j = sym (past-block k) ∙ past-block j
 
   comes : {c : Code} {t : Tally} {o : Out} → Runs program budget c t o → Known c → Good t → Comes c t o
@@ -265,12 +264,10 @@ module _ (program : List ℤ) (budget : ℕ) where
         simple-is program budget d p t low,
         steps-rule program p (t .state) (t .unread) here (g .held) l .1 s,
       )
-  comes (r-refused {d = d} {n = n} {p = p} {t = t} s) x g = as-simple x (refused-low s) λ here low.
-      let f = refused-rule program p (t .state) (t .unread) here (g .held) low n .1 s in
+  comes (r-refused {d = d} {f = f} {p = p} {t = t} s) x g = as-simple x (refused-low s) λ here low.
       rw (
         simple-is program budget d p t low,
-        f .1 .0,
-        f .1 .1,
+        refused-rule program p (t .state) (t .unread) here (g .held) low f .1 s,
       )
   comes (r-then {p = p} {t = t} w r) x g = as-branch x refl λ q' r' v k j y z.
       rw (v, test-is w, past k, ← value-rest k w) (comes r (rw (value-rest k w) y) g)
@@ -278,8 +275,7 @@ module _ (program : List ℤ) (budget : ℕ) where
       let e : r' ≡ s = same-block j (rw (value-rest k w) at i) in
       rw (v, test-is w, past k, past-block j, e) (comes r (rw e at z) g)
   comes (r-no-if {p = p} {t = t} u) x g = as-branch x refl λ q r v k j y z.
-      let f = untested-complete (t .state .cells) p u in
-      rw (v, f .1 .0, f .1 .1)
+      rw (v, untested-complete (t .state .cells) p u)
   comes (r-while r) x g = as-loop x refl λ q v k y. rw v (comes r (q, (k, y)) g (suc budget) (omega arith))
   comes (r-stop {p = p} {t = t} w) x g = once-more _ _ p t _ g λ fuel h. rw (test-is w)
   comes (r-go {d = d} {p = p} {q = q} {t = t} {u = u} w r l z) (q', (k, x)) g =
@@ -298,8 +294,7 @@ module _ (program : List ℤ) (budget : ℕ) where
       let e : does program budget (block d q) (knowing true t) ≡ end n place u = comes r (rw (value-rest k w) x) g in
       once-more _ _ p t _ g λ fuel m. rw (test-is w, a, e)
   comes (r-no-while {p = p} {t = t} u) x g =
-      let f = untested-complete (t .state .cells) p u in
-      once-more _ _ p t _ g λ fuel m. rw (f .1 .0, f .1 .1)
+      once-more _ _ p t _ g λ fuel m. rw (untested-complete (t .state .cells) p u)
 
   -- a block of the program comes to this exactly where the rules say so
   pub block-rule : (d : ℕ) (p : List ℤ) (t : Tally) (o : Out) → InProgram program (block d p) → Holds program (t .state) → t .steps ≤ budget

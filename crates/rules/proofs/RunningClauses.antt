@@ -14,7 +14,7 @@ use Rattle.program.specs.Forms.{Verb, skip, assign, new, always, once, alwaysSa
 use Rattle.program.specs.Reading.{number, readBlock, readStatement, after}
 use Rattle.program.proofs.NumberLaws.{number-fits, number-high}
 use Rattle.rules.specs.State.{State, Fault, Res}
-use Rattle.rules.specs.Statements.{Left, positionOf, doSimple}
+use Rattle.rules.specs.Statements.{Left, positionOf, placeOf, doSimple}
 use Rattle.rules.specs.Running.{Tally, Out, on, end, thenOut, oneMore, paid, leaves, taken, noted, test, tested, turns, pastTest, doVerb, doStatement, doStatements, doBlock}
 
 module _ (budget place : ℕ) (t : Tally) where
@@ -26,36 +26,36 @@ module _ (budget place : ℕ) (t : Tally) where
   unfolding paid
   paid-ends h = rw (le-ltb (t .steps) budget h, paid)
 
-module _ (place : ℕ) (t : Tally) where
-  pub taken-got : (l : Left) → taken place t (got l) ≡ on (leaves l t)
+module _ (program : List ℤ) (t : Tally) where
+  pub taken-got : (l : Left) → taken program t (got l) ≡ on (leaves l t)
   unfolding taken
   taken-got l = refl
 
-  pub taken-stop : (f : Fault) → taken place t (stop f) ≡ end (f .number) place t
+  pub taken-stop : (f : Fault) → taken program t (stop f) ≡ end (f .number) (placeOf program f) t
   unfolding taken
   taken-stop f = refl
 
-  pub tested-true : (f g : Tally → Out) → tested place t (got true) f g ≡ f (noted true t)
+  pub tested-true : (f g : Tally → Out) → tested program t (got true) f g ≡ f (noted true t)
   unfolding tested
   tested-true f g = refl
 
-  pub tested-false : (f g : Tally → Out) → tested place t (got false) f g ≡ g (noted false t)
+  pub tested-false : (f g : Tally → Out) → tested program t (got false) f g ≡ g (noted false t)
   unfolding tested
   tested-false f g = refl
 
-  pub tested-stop : (e : Fault) (f g : Tally → Out) → tested place t (stop e) f g ≡ end (e .number) place t
+  pub tested-stop : (e : Fault) (f g : Tally → Out) → tested program t (stop e) f g ≡ end (e .number) (placeOf program e) t
   unfolding tested
   tested-stop e f g = refl
 
-pub turns-none : (body : Tally → Out) (budget place : ℕ) (p : List ℤ) (t : Tally) → turns body budget place p 0 t ≡ end 5 place t
+pub turns-none : (body : Tally → Out) (program : List ℤ) (budget place : ℕ) (p : List ℤ) (t : Tally) → turns body program budget place p 0 t ≡ end 5 place t
 unfolding turns
-turns-none body budget place p t = refl
+turns-none body program budget place p t = refl
 
-pub turns-more : (body : Tally → Out) (budget place : ℕ) (p : List ℤ) (fuel : ℕ) (t : Tally)
-    → turns body budget place p (suc fuel) t
-    ≡ tested place t (test (t .state .cells) p) (λ u. thenOut (body u) λ w. thenOut (paid budget place w) λ z. turns body budget place p fuel z) (λ u. on u)
+pub turns-more : (body : Tally → Out) (program : List ℤ) (budget place : ℕ) (p : List ℤ) (fuel : ℕ) (t : Tally)
+    → turns body program budget place p (suc fuel) t
+    ≡ tested program t (test (t .state .cells) p) (λ u. thenOut (body u) λ w. thenOut (paid budget place w) λ z. turns body program budget place p fuel z) (λ u. on u)
 unfolding turns
-turns-more body budget place p fuel t = refl
+turns-more body program budget place p fuel t = refl
 
 -- ---- a statement whose step is paid; one that holds no block is told once for all its verbs
 
@@ -69,7 +69,7 @@ pub data Simple : Verb → Type 0 where
   is-once-same : Simple onceSame
 
 module _ (block : List ℤ → Tally → Out) (past : List ℤ → List ℤ) (program : List ℤ) (budget : ℕ) (p : List ℤ) (t : Tally) where
-  pub verb-simple : (v : Verb) → Simple v → doVerb block past program budget p v t ≡ taken (positionOf program p) t (doSimple program p (t .state) (t .unread) v)
+  pub verb-simple : (v : Verb) → Simple v → doVerb block past program budget p v t ≡ taken program t (doSimple program p (t .state) (t .unread) v)
   unfolding doVerb
   verb-simple skip is-skip = refl
   verb-simple assign is-assign = refl
@@ -80,16 +80,16 @@ module _ (block : List ℤ → Tally → Out) (past : List ℤ → List ℤ) (pr
   verb-simple onceSame is-once-same = refl
 
   -- a word that is no verb is refused as a simple statement that is none
-  pub verb-none : doVerb block past program budget p noVerb t ≡ taken (positionOf program p) t (doSimple program p (t .state) (t .unread) noVerb)
+  pub verb-none : doVerb block past program budget p noVerb t ≡ taken program t (doSimple program p (t .state) (t .unread) noVerb)
   unfolding doVerb taken doSimple
   verb-none = refl
 
   pub verb-branch : doVerb block past program budget p branch t
-      ≡ tested (positionOf program p) t (test (t .state .cells) (drop 1 p)) (λ u. block (pastTest p) u) (λ u. block (past (pastTest p)) u)
+      ≡ tested program t (test (t .state .cells) (drop 1 p)) (λ u. block (pastTest p) u) (λ u. block (past (pastTest p)) u)
   unfolding doVerb
   verb-branch = refl
 
-  pub verb-loop : doVerb block past program budget p loop t ≡ turns (λ u. block (pastTest p) u) budget (positionOf program p) (drop 1 p) (suc budget) t
+  pub verb-loop : doVerb block past program budget p loop t ≡ turns (λ u. block (pastTest p) u) program budget (positionOf program p) (drop 1 p) (suc budget) t
   unfolding doVerb
   verb-loop = refl
 

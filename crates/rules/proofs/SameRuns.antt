@@ -103,11 +103,11 @@ side-grows : (b : Bool) (f g : Tally → Out) → Grows f → Grows g → Grows 
 side-grows true f g x y = x
 side-grows false f g x y = y
 
-testOut {ℓ} : {X : Type ℓ} {t' : Tally} (place : ℕ) (t : Tally) (r : Res Bool) (f g : Tally → Out) → tested place t r f g ≡ on t' → ((b : Bool) → side b f g (noted b t) ≡ on t' → X) → X
+testOut {ℓ} : {X : Type ℓ} {t' : Tally} (program : List ℤ) (t : Tally) (r : Res Bool) (f g : Tally → Out) → tested program t r f g ≡ on t' → ((b : Bool) → side b f g (noted b t) ≡ on t' → X) → X
 unfolding tested
-testOut place t (got true) f g e k = k true e
-testOut place t (got false) f g e k = k false e
-testOut place t (stop n) f g e k = end≢on e
+testOut program t (got true) f g e k = k true e
+testOut program t (got false) f g e k = k false e
+testOut program t (stop n) f g e k = end≢on e
 
 note-grows : (b : Bool) (t : Tally) → Grown t (noted b t)
 note-grows b t = record { new = b ∷ []; is = refl }
@@ -115,18 +115,18 @@ note-grows b t = record { new = b ∷ []; is = refl }
 heads : (b d : Bool) (t u : Tally) → Compat (noted b t) (noted d u) → t .tests ≡ u .tests → b ≡ d
 heads b d t u z l = last-eq (z .one) (z .two) (u .tests) b d (rw l at (z .meet))
 
-test-grows : (place : ℕ) (p : List ℤ) (f g : Tally → Out) → Grows f → Grows g → Grows (λ t. tested place t (test (t .state .cells) p) f g)
-test-grows place p f g x y t t' e =
-    testOut place t (test (t .state .cells) p) f g e λ b k. grown-trans (note-grows b t) (side-grows b f g x y (noted b t) t' k)
+test-grows : (program p : List ℤ) (f g : Tally → Out) → Grows f → Grows g → Grows (λ t. tested program t (test (t .state .cells) p) f g)
+test-grows program p f g x y t t' e =
+    testOut program t (test (t .state .cells) p) f g e λ b k. grown-trans (note-grows b t) (side-grows b f g x y (noted b t) t' k)
 
-test-good : (place : ℕ) (p : List ℤ) (f f' g g' : Tally → Out) → Good f f' → Good g g'
-    → Good (λ t. tested place t (test (t .state .cells) p) f g) (λ t. tested place t (test (t .state .cells) p) f' g')
-test-good place p f f' g g' x y = record {
-  grows = test-grows place p f g (x .grows) (y .grows);
-  grows' = test-grows place p f' g' (x .grows') (y .grows');
+test-good : (program p : List ℤ) (f f' g g' : Tally → Out) → Good f f' → Good g g'
+    → Good (λ t. tested program t (test (t .state .cells) p) f g) (λ t. tested program t (test (t .state .cells) p) f' g')
+test-good program p f f' g g' x y = record {
+  grows = test-grows program p f g (x .grows) (y .grows);
+  grows' = test-grows program p f' g' (x .grows') (y .grows');
   two = λ t u t' u' r e h c.
-      testOut place t (test (t .state .cells) p) f g e λ b k.
-      testOut place u (test (u .state .cells) p) f' g' h λ d m.
+      testOut program t (test (t .state .cells) p) f g e λ b k.
+      testOut program u (test (u .state .cells) p) f' g' h λ d m.
       let z : Compat (noted b t) (noted d u) =
       compat-back (side-grows b f g (x .grows) (y .grows) (noted b t) t' k) (side-grows d f' g' (x .grows') (y .grows') (noted d u) u' m) c in
       let q : b ≡ d = heads b d t u z (r .log) in
@@ -181,47 +181,47 @@ paid-good budget budget' place = record {
 abbrev turn : (Tally → Out) → ℕ → ℕ → (Tally → Out) → Tally → Out
 turn body budget place rest u = thenOut (body u) λ w. thenOut (paid budget place w) λ z. rest z
 
-turns-grows : (body : Tally → Out) (budget place : ℕ) (p : List ℤ) → Grows body → (fuel : ℕ) → Grows (λ t. turns body budget place p fuel t)
+turns-grows : (body : Tally → Out) (program : List ℤ) (budget place : ℕ) (p : List ℤ) → Grows body → (fuel : ℕ) → Grows (λ t. turns body program budget place p fuel t)
 unfolding turns
-turns-grows body budget place p a zero = end-good 5 5 place place .grows
-turns-grows body budget place p a (suc fuel) =
-    test-grows place p (turn body budget place (λ z. turns body budget place p fuel z)) (λ u. on u)
-    (then-grows body _ a (then-grows (λ t. paid budget place t) _ (paid-good budget budget place .grows) (turns-grows body budget place p a fuel)))
+turns-grows body program budget place p a zero = end-good 5 5 place place .grows
+turns-grows body program budget place p a (suc fuel) =
+    test-grows program p (turn body budget place (λ z. turns body program budget place p fuel z)) (λ u. on u)
+    (then-grows body _ a (then-grows (λ t. paid budget place t) _ (paid-good budget budget place .grows) (turns-grows body program budget place p a fuel)))
     (on-good .grows)
 
-turns-good : (body body' : Tally → Out) (budget budget' place : ℕ) (p : List ℤ) → Good body body' → (fuel fuel' : ℕ)
-    → Good (λ t. turns body budget place p fuel t) (λ t. turns body' budget' place p fuel' t)
+turns-good : (body body' : Tally → Out) (program : List ℤ) (budget budget' place : ℕ) (p : List ℤ) → Good body body' → (fuel fuel' : ℕ)
+    → Good (λ t. turns body program budget place p fuel t) (λ t. turns body' program budget' place p fuel' t)
 unfolding turns
-turns-good body body' budget budget' place p a zero fuel' = record {
+turns-good body body' program budget budget' place p a zero fuel' = record {
   grows = λ t t' e. end≢on e;
-  grows' = turns-grows body' budget' place p (a .grows') fuel';
+  grows' = turns-grows body' program budget' place p (a .grows') fuel';
   two = λ t u t' u' r e h c. end≢on e;
 }
-turns-good body body' budget budget' place p a (suc fuel) zero = record {
-  grows = turns-grows body budget place p (a .grows) (suc fuel);
+turns-good body body' program budget budget' place p a (suc fuel) zero = record {
+  grows = turns-grows body program budget place p (a .grows) (suc fuel);
   grows' = λ t t' e. end≢on e;
   two = λ t u t' u' r e h c. end≢on h;
 }
-turns-good body body' budget budget' place p a (suc fuel) (suc fuel') =
-    test-good place p (turn body budget place (λ z. turns body budget place p fuel z)) (turn body' budget' place (λ z. turns body' budget' place p fuel' z)) (λ u. on u) (λ u. on u)
+turns-good body body' program budget budget' place p a (suc fuel) (suc fuel') =
+    test-good program p (turn body budget place (λ z. turns body program budget place p fuel z)) (turn body' budget' place (λ z. turns body' program budget' place p fuel' z)) (λ u. on u) (λ u. on u)
     (then-good body body' _ _ a
-    (then-good (λ t. paid budget place t) (λ t. paid budget' place t) _ _ (paid-good budget budget' place) (turns-good body body' budget budget' place p a fuel fuel')))
+    (then-good (λ t. paid budget place t) (λ t. paid budget' place t) _ _ (paid-good budget budget' place) (turns-good body body' program budget budget' place p a fuel fuel')))
     on-good
 
 -- ---- statements that hold no block
 
-takenOut {ℓ} : {X : Type ℓ} {t' : Tally} (place : ℕ) (t : Tally) (r : Res Left) → taken place t r ≡ on t' → ((l : Left) → r ≡ got l → l .state ≡ t' .state → t .tests ≡ t' .tests → X) → X
+takenOut {ℓ} : {X : Type ℓ} {t' : Tally} (program : List ℤ) (t : Tally) (r : Res Left) → taken program t r ≡ on t' → ((l : Left) → r ≡ got l → l .state ≡ t' .state → t .tests ≡ t' .tests → X) → X
 unfolding taken
-takenOut place t (got l) e k = k l refl (ap (λ x. x .state) (on-inj e)) (ap (λ x. x .tests) (on-inj e))
-takenOut place t (stop n) e k = end≢on e
+takenOut program t (got l) e k = k l refl (ap (λ x. x .state) (on-inj e)) (ap (λ x. x .tests) (on-inj e))
+takenOut program t (stop n) e k = end≢on e
 
-simple-good : (place : ℕ) (h : State → List ℤ → Res Left) → Simple h → Good (λ t. taken place t (h (t .state) (t .unread))) (λ t. taken place t (h (t .state) (t .unread)))
-simple-good place h s = record {
+simple-good : (program : List ℤ) (h : State → List ℤ → Res Left) → Simple h → Good (λ t. taken program t (h (t .state) (t .unread))) (λ t. taken program t (h (t .state) (t .unread)))
+simple-good program h s = record {
   grows = still;
   grows' = still;
   two = λ t u t' u' r e g c.
-      takenOut place t (h (t .state) (t .unread)) e λ l e1 q k.
-      takenOut place u (h (u .state) (u .unread)) g λ m g1 q' k'.
+      takenOut program t (h (t .state) (t .unread)) e λ l e1 q k.
+      takenOut program u (h (u .state) (u .unread)) g λ m g1 q' k'.
       record {
         same = rw (← q, ← q') (s .two (t .state) (u .state) (t .unread) (u .unread) l m (r .same) (r .sized) (r .sized') e1 g1);
         sized = rw (← q) (s .sized (t .state) (t .unread) l (r .sized) e1);
@@ -230,8 +230,8 @@ simple-good place h s = record {
       };
 }
   where
-    still : Grows (λ t. taken place t (h (t .state) (t .unread)))
-    still t t' e = takenOut place t (h (t .state) (t .unread)) e λ l e1 q k. record { new = []; is = sym k }
+    still : Grows (λ t. taken program t (h (t .state) (t .unread)))
+    still t t' e = takenOut program t (h (t .state) (t .unread)) e λ l e1 q k. record { new = []; is = sym k }
 
 -- ---- blocks
 
@@ -239,15 +239,15 @@ module _ (program : List ℤ) (budget budget' : ℕ) where
   module _ (block block' : List ℤ → Tally → Out) (b : (q : List ℤ) → Good (block q) (block' q)) (past : List ℤ → List ℤ) where
     verb-good : (p : List ℤ) (v : Verb) → Good (λ t. doVerb block past program budget p v t) (λ t. doVerb block' past program budget' p v t)
     unfolding doVerb
-    verb-good p skip = simple-good (positionOf program p) (λ S ws. doSimple program p S ws skip) (simple program p skip)
-    verb-good p assign = simple-good (positionOf program p) (λ S ws. doSimple program p S ws assign) (simple program p assign)
-    verb-good p new = simple-good (positionOf program p) (λ S ws. doSimple program p S ws new) (simple program p new)
-    verb-good p always = simple-good (positionOf program p) (λ S ws. doSimple program p S ws always) (simple program p always)
-    verb-good p once = simple-good (positionOf program p) (λ S ws. doSimple program p S ws once) (simple program p once)
-    verb-good p alwaysSame = simple-good (positionOf program p) (λ S ws. doSimple program p S ws alwaysSame) (simple program p alwaysSame)
-    verb-good p onceSame = simple-good (positionOf program p) (λ S ws. doSimple program p S ws onceSame) (simple program p onceSame)
-    verb-good p branch = test-good (positionOf program p) (drop 1 p) _ _ _ _ (b (pastTest p)) (b (past (pastTest p)))
-    verb-good p loop = turns-good _ _ budget budget' (positionOf program p) (drop 1 p) (b (pastTest p)) (suc budget) (suc budget')
+    verb-good p skip = simple-good program (λ S ws. doSimple program p S ws skip) (simple program p skip)
+    verb-good p assign = simple-good program (λ S ws. doSimple program p S ws assign) (simple program p assign)
+    verb-good p new = simple-good program (λ S ws. doSimple program p S ws new) (simple program p new)
+    verb-good p always = simple-good program (λ S ws. doSimple program p S ws always) (simple program p always)
+    verb-good p once = simple-good program (λ S ws. doSimple program p S ws once) (simple program p once)
+    verb-good p alwaysSame = simple-good program (λ S ws. doSimple program p S ws alwaysSame) (simple program p alwaysSame)
+    verb-good p onceSame = simple-good program (λ S ws. doSimple program p S ws onceSame) (simple program p onceSame)
+    verb-good p branch = test-good program (drop 1 p) _ _ _ _ (b (pastTest p)) (b (past (pastTest p)))
+    verb-good p loop = turns-good _ _ program budget budget' (positionOf program p) (drop 1 p) (b (pastTest p)) (suc budget) (suc budget')
     verb-good p noVerb = end-good 2 2 (positionOf program p) (positionOf program p)
 
     statement-good : (p : List ℤ) → Good (λ t. doStatement block past program budget p t) (λ t. doStatement block' past program budget' p t)

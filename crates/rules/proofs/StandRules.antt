@@ -10,7 +10,7 @@ use Rattle.tables.specs.Cells.{Cells}
 use Rattle.rules.specs.State.{State, positions}
 use Rattle.rules.specs.Constraints.{keptAt}
 use Rattle.rules.specs.Rules.Proposals.{Each, none, more}
-use Rattle.rules.specs.Rules.Kept.{ValueStands, stands, KeptStands, Stands}
+use Rattle.rules.specs.Rules.Kept.{KeptStands, Stands}
 use Rattle.rules.specs.Steps.Holds.{ValueHolds, IdentityHolds, Holds}
 use Rattle.rules.proofs.PartLaws.{constraint-iff}
 use Rattle.rules.proofs.HoldLaws.{each-left, each-right}
@@ -23,10 +23,10 @@ KeptHolds program S Identities position = IdentityHolds program S position
 
 pub kept-iff : (program : List ℤ) (S : Cells) (s : Sort) (position : ℕ) → KeptHolds program S s position ↔ KeptStands program S (s, position)
 unfolding keptAt
-kept-iff program S Values position = (λ h. stands (constraint-iff S (drop (position + 1) program) (h .parts) .0 (h .reads)) (h .met), back-to)
-  where
-    back-to : ValueStands program S position → ValueHolds program S position
-    back-to (stands {parts = parts} r m) = record { parts = parts; reads = constraint-iff S (drop (position + 1) program) parts .1 r; met = m }
+kept-iff program S Values position = (
+  λ h. (h .parts, (constraint-iff S (drop (position + 1) program) (h .parts) .0 (h .reads), h .met)),
+  λ h. record { parts = h .0; reads = constraint-iff S (drop (position + 1) program) (h .0) .1 (h .1 .0); met = h .1 .1 },
+)
 kept-iff program S Identities position = same-iff S (drop position program) (drop (position + 1) program)
 
 module _ {A B : Type 0} {P : A → Type 0} {Q : B → Type 0} (f : A → B) where

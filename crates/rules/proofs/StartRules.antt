@@ -25,9 +25,10 @@ use Rattle.rules.specs.State.{State, positions}
 use Rattle.rules.specs.Constraints.{keptAt, requiredHold}
 use Rattle.rules.specs.Identities.{sameNow}
 use Rattle.rules.specs.Start.{Early, budgetFits, valuesHold, identitiesHold, early, starts}
+use Rattle.rules.specs.Rules.Constraints.{FirstNot}
 use Rattle.rules.specs.Rules.Proposals.{Each, none, more}
 use Rattle.rules.specs.Rules.Kept.{KeptStands, inOrder, Stands}
-use Rattle.rules.specs.Rules.Answers.{FirstNot, here, later, Measured, TableFits, Unstarted, wrong, unreadable, unfit, broken, Passes}
+use Rattle.rules.specs.Rules.Answers.{Measured, TableFits, Unstarted, wrong, unreadable, unfit, broken, Passes}
 use Rattle.rules.proofs.AcceptanceLaws.{met-iff}
 use Rattle.rules.proofs.HoldLaws.{each-left, each-right}
 use Rattle.rules.proofs.StandRules.{kept-iff}
@@ -48,8 +49,8 @@ judged {P = P} t (x ∷ xs) = go (t x) (judged t xs)
   where
     go : Tried (P x) → Judged P xs → Judged P (x ∷ xs)
     go (is a) (all e) = all (more a e)
-    go (is a) (not-all y f) = not-all y (later a f)
-    go (is-not a) j = not-all x (here a)
+    go (is a) (not-all y f) = not-all y (FirstNot.later a f)
+    go (is-not a) j = not-all x (FirstNot.here a)
 
 not-true : (b : Bool) → (b ≡ true → ⊥) → b ≡ false
 not-true true f = absurd (f refl)
@@ -108,8 +109,8 @@ module _ (program : List ℤ) (S : Cells) where
 
   first-splits : (s : Sort) (ns : List ℕ) (xs : List (Sort × ℕ)) (x : Sort × ℕ) → FirstNot (KeptStands program S) (map (λ k. (s, k)) ns ++ xs) x → Splits s ns xs x
   first-splits s [] xs x f = after (none-left s) f
-  first-splits s (n ∷ ns) xs x (here a) = of-it (stops-at s n ns a)
-  first-splits s (n ∷ ns) xs x (later a f) = go (first-splits s ns xs x f)
+  first-splits s (n ∷ ns) xs x (FirstNot.here a) = of-it (stops-at s n ns a)
+  first-splits s (n ∷ ns) xs x (FirstNot.later a f) = go (first-splits s ns xs x f)
     where
       go : Splits s ns xs x → Splits s (n ∷ ns) xs x
       go (of-it e) = of-it (goes-on s n ns a ∙ e)
@@ -173,7 +174,7 @@ module _ (program : List ℤ) (budget : ℤ) (S : State) where
       (λ c. refuses (wrong λ m. true≢false (sym (measured-iff .1 m) ∙ c)))
     where
       kept : Measured budget S → Program program → Each (TableFits program S) (0 ∷ 1 ∷ 2 ∷ []) → Judged (KeptStands program (S .cells)) (inOrder (S .kept)) → Verdict
-      kept m g t (all e) = passes (record { measured = m; reads = g; stands = stands m t e })
+      kept m g t (all e) = passes (m, (g, stands m t e))
       kept m g t (not-all (s, k) f) = refuses (broken m g t f)
 
       tables : Measured budget S → Program program → Judged (TableFits program S) (0 ∷ 1 ∷ 2 ∷ []) → Verdict
@@ -186,13 +187,13 @@ module _ (program : List ℤ) (budget : ℤ) (S : State) where
   unfolding starts early
   passes-complete p =
       rw (
-        measured-iff .1 (p .measured),
-        program-complete program (p .reads),
-        environment-fits (S .cells) (p .stands .fit),
-        heap-fits (S .cells) (p .stands .fit),
-        p .stands .positions-stand,
-        each-passes program (S .cells) Values (positions (S .kept) Values) (each-left _ _ (p .stands .constraints)),
-        each-passes program (S .cells) Identities (positions (S .kept) Identities) (each-right (map (λ k. (Values, k)) (positions (S .kept) Values)) _ (p .stands .constraints)),
+        measured-iff .1 (p .0),
+        program-complete program (p .1 .0),
+        environment-fits (S .cells) (p .1 .1 .fit),
+        heap-fits (S .cells) (p .1 .1 .fit),
+        p .1 .1 .positions-stand,
+        each-passes program (S .cells) Values (positions (S .kept) Values) (each-left _ _ (p .1 .1 .constraints)),
+        each-passes program (S .cells) Identities (positions (S .kept) Identities) (each-right (map (λ k. (Values, k)) (positions (S .kept) Values)) _ (p .1 .1 .constraints)),
       )
 
   unstarted-complete : {n place : ℕ} → Unstarted program budget S n place → starts program budget S ≡ stop (record { number = n; place = place })
@@ -205,9 +206,9 @@ module _ (program : List ℤ) (budget : ℤ) (S : State) where
           → (early 3 (want 0 (environmentFits (wordAt (S .cells .heap) 0) (S .cells .environment)))
           >> (early 3 (want 1 (heapFits (S .cells .heap))) >> (early 3 (want 2 (constraintsStand program (S .kept))) >> rest)))
           ≡ stop (record { number = 3; place = k })
-      first rest (here f) = rw (not-true _ f)
-      first rest (later a (here f)) = rw (a, not-true _ f)
-      first rest (later a (later b (here f))) = rw (a, b, not-true _ f)
+      first rest (FirstNot.here f) = rw (not-true _ f)
+      first rest (FirstNot.later a (FirstNot.here f)) = rw (a, not-true _ f)
+      first rest (FirstNot.later a (FirstNot.later b (FirstNot.here f))) = rw (a, b, not-true _ f)
   unstarted-complete (broken {s = s} {k = k} m g (more a (more b (more c none))) f) =
       rw (measured-iff .1 m, program-complete program g, a, b, c) (order-stops program (S .cells) (S .kept) (s, k) f)
 

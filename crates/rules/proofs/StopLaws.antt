@@ -1,4 +1,4 @@
--- Taking a refusal apart: where a `do` block that stopped did so, and with which number. Assumes nothing.
+-- Taking a refusal apart: where a `do` block that stopped did so, and with which refusal. Assumes nothing.
 use mathlib.Core.Path.{_≡_, refl, sym, ap}
 use mathlib.Core.Bool.{Bool, true, false}
 use mathlib.Core.List.{List, _∷_}
@@ -12,31 +12,21 @@ use Rattle.rules.specs.State.{Fault, Res, refused, refuse, orRefuse, rea
 use Rattle.rules.specs.Evaluation.{at}
 use Rattle.rules.proofs.WordSteps.{reads-got}
 
--- m stops with the number n
-abbrev pub Stops : {A : Type 0} → Res A → ℕ → Type 0
-Stops m n = (f : Fault) × ((m ≡ stop f) × (f .number ≡ n))
-
-pub stops-refuse : {A : Type 0} (n : ℕ) (p : List ℤ) → Stops {A = A} (refuse n p) n
-stops-refuse n p = (refused n p, (refl, refl))
-
-pub stops-is : {A : Type 0} {m : Res A} (n : ℕ) (p : List ℤ) → m ≡ refuse n p → Stops m n
-stops-is n p e = (refused n p, (e, refl))
-
 -- the number that a refusal has
 pub refused-with : {A : Type 0} {f : Fault} (n : ℕ) (p : List ℤ) → _≡_ {A = Res A} (refuse n p) (stop f) → f .number ≡ n
 refused-with n p e = sym (ap (λ (g : Fault). g .number) (stop-inj e))
 
 -- ---- a `do` block stops where its first step does
 
-module _ {A B : Type 0} {n : ℕ} where
-  pub stops-then : {m : Res A} (g : A → Res B) → Stops m n → Stops (m >>= g) n
-  stops-then g s = (s .0, (rw (s .1 .0), s .1 .1))
+module _ {A B : Type 0} {f : Fault} where
+  pub stops-then : {m : Res A} (g : A → Res B) → m ≡ stop f → (m >>= g) ≡ stop f
+  stops-then g s = rw s
 
-  pub stops-on : {m : Res A} (r : Res B) → Stops m n → Stops (m >> r) n
-  stops-on r s = (s .0, (rw (s .1 .0), s .1 .1))
+  pub stops-on : {m : Res A} (r : Res B) → m ≡ stop f → (m >> r) ≡ stop f
+  stops-on r s = rw s
 
-pub stops-at : {A : Type 0} {m : Answer ℕ A} {n : ℕ} (p : List ℤ) → m ≡ stop n → Stops (at p m) n
-stops-at {n = n} p e = (refused n p, (rw e, refl))
+pub stops-at : {A : Type 0} {m : Answer ℕ A} {n : ℕ} (p : List ℤ) → m ≡ stop n → at p m ≡ refuse n p
+stops-at p e = rw e
 
 -- ---- where a `do` block stopped
 
@@ -52,23 +42,23 @@ module _ {ℓ} {A B : Type 0} {f : Fault} {X : Type ℓ} where
 
 module _ {ℓ} {B : Type 0} {f : Fault} {X : Type ℓ} where
   -- a test failed, or the rest stopped
-  pub failed : (h : Fault) (c : Bool) (r : Res B) → (want h c >> r) ≡ stop f → (c ≡ false → h .number ≡ f .number → X) → (c ≡ true → r ≡ stop f → X) → X
+  pub failed : (h : Fault) (c : Bool) (r : Res B) → (want h c >> r) ≡ stop f → (c ≡ false → h ≡ f → X) → (c ≡ true → r ≡ stop f → X) → X
   failed h true r e x y = y refl e
-  failed h false r e x y = x refl (ap (λ (g : Fault). g .number) (stop-inj e))
+  failed h false r e x y = x refl (stop-inj e)
 
   -- what is missing
-  pub missed : {E : Type 0} (n : ℕ) (p : List ℤ) (m : Answer E B) → orRefuse n p m ≡ stop f → ((e : E) → m ≡ stop e → n ≡ f .number → X) → X
+  pub missed : {E : Type 0} (n : ℕ) (p : List ℤ) (m : Answer E B) → orRefuse n p m ≡ stop f → ((e : E) → m ≡ stop e → refused n p ≡ f → X) → X
   missed n p (got a) e k = stop≢got (sym e)
-  missed n p (stop u) e k = k u refl (ap (λ (g : Fault). g .number) (stop-inj e))
+  missed n p (stop u) e k = k u refl (stop-inj e)
 
-  pub at-stop : (p : List ℤ) (m : Answer ℕ B) → at p m ≡ stop f → (m ≡ stop (f .number) → X) → X
+  pub at-stop : (p : List ℤ) (m : Answer ℕ B) → at p m ≡ stop f → ((n : ℕ) → m ≡ stop n → refused n p ≡ f → X) → X
   at-stop p (got a) e k = stop≢got (sym e)
-  at-stop p (stop n) e k = k (ap stop (ap (λ (g : Fault). g .number) (stop-inj e)))
+  at-stop p (stop n) e k = k n refl (stop-inj e)
 
 -- a test at the end
-pub failed-last {ℓ} : {f : Fault} {X : Type ℓ} (h : Fault) (c : Bool) → want h c ≡ stop f → (c ≡ false → h .number ≡ f .number → X) → X
+pub failed-last {ℓ} : {f : Fault} {X : Type ℓ} (h : Fault) (c : Bool) → want h c ≡ stop f → (c ≡ false → h ≡ f → X) → X
 failed-last h true e k = stop≢got (sym e)
-failed-last h false e k = k refl (ap (λ (g : Fault). g .number) (stop-inj e))
+failed-last h false e k = k refl (stop-inj e)
 
 -- words that do not read stop with 2
 pub unread : {A : Type 0} {f : Fault} (m : Reading A) → reads m ≡ stop f → f .number ≡ 2

@@ -21,7 +21,7 @@ use Rattle.rules.specs.State.{Res, reads}
 use Rattle.rules.specs.Paths.{valueAt}
 use Rattle.rules.specs.Evaluation.{Kind, opOf, takes, gives, at, kindForm, kind}
 use Rattle.rules.specs.Rules.Operators.{Gives}
-use Rattle.rules.specs.Rules.Expressions.{t-nil, t-false, t-true, t-integer, t-path, t-operation, KindWithin}
+use Rattle.rules.specs.Rules.Expressions.{Literal, t-literal, t-path, t-operation, KindWithin}
 use Rattle.rules.proofs.WordSteps.{at-got, by-number, by-word, form-words, form-is, apart}
 use Rattle.rules.proofs.NameLaws.{holds-sound, holds-complete}
 use Rattle.rules.proofs.OperatorLaws.{gives-sound, gives-operator, gives-complete}
@@ -36,13 +36,13 @@ module _ (S : Cells) (d : ℕ) (go : List ℤ → Res (Kind × List ℤ)) (ih : 
   form-sound : (f : Form) (p : List ℤ) (x : Kind × List ℤ) → kindForm go S (pos (numberOfForm f) ∷ p) f ≡ got x
       → KindWithin S (suc d) (pos (numberOfForm f) ∷ p) (x .0) (x .1)
   unfolding kindForm
-  form-sound aNil p x e = rw (← got-inj e) t-nil
-  form-sound aFalse p x e = rw (← got-inj e) t-false
-  form-sound aTrue p x e = rw (← got-inj e) t-true
+  form-sound aNil p x e = rw (← got-inj e) (t-literal Literal.nil)
+  form-sound aFalse p x e = rw (← got-inj e) (t-literal Literal.no)
+  form-sound aTrue p x e = rw (← got-inj e) (t-literal Literal.yes)
   form-sound anInteger p x e =
       step (reads (anyWord p)) _ e λ q e1 k1.
       by-word p q e1 λ w s.
-      rw (← got-inj k1, s) t-integer
+      rw (← got-inj k1, s) (t-literal Literal.integer)
   form-sound aPath p x e =
       step (valueAt S p) _ e λ y e1 k1.
       rw (← got-inj k1) (t-path (holds-sound S p y e1))
@@ -81,10 +81,10 @@ kind-opens S d f p h = rw (number-first (pos (numberOfForm f)) p, form-is f h)
 
 pub kind-complete : {S : Cells} {d : ℕ} {p : List ℤ} {k : Kind} {q : List ℤ} → KindWithin S d p k q → kind d S p ≡ got (k, q)
 unfolding kindForm
-kind-complete {S} (t-nil {d = d} {p = p}) = kind-opens S d aNil p (apart λ z. omega arith)
-kind-complete {S} (t-false {d = d} {p = p}) = kind-opens S d aFalse p (apart λ z. omega arith)
-kind-complete {S} (t-true {d = d} {p = p}) = kind-opens S d aTrue p (apart λ z. omega arith)
-kind-complete {S} (t-integer {d = d} {w = w} {p = p}) = kind-opens S d anInteger (w ∷ p) (apart λ z. omega arith) ∙ rw (any-fits (w ∷ p) (omega arith))
+kind-complete {S} (t-literal {d = d} (Literal.nil {p = p})) = kind-opens S d aNil p (apart λ z. omega arith)
+kind-complete {S} (t-literal {d = d} (Literal.no {p = p})) = kind-opens S d aFalse p (apart λ z. omega arith)
+kind-complete {S} (t-literal {d = d} (Literal.yes {p = p})) = kind-opens S d aTrue p (apart λ z. omega arith)
+kind-complete {S} (t-literal {d = d} (Literal.integer {w = w} {p = p})) = kind-opens S d anInteger (w ∷ p) (apart λ z. omega arith) ∙ rw (any-fits (w ∷ p) (omega arith))
 kind-complete {S} (t-path {d = d} {p = p} k) = kind-opens S d aPath p (apart λ z. omega arith) ∙ rw (holds-complete S k)
 kind-complete {S} (t-operation {d = d} {o = o} {p = p} l r g) =
     kind-opens S d anOperation (pos o ∷ p) (apart λ z. omega arith)

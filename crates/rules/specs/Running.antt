@@ -13,7 +13,7 @@ use Rattle.program.specs.Forms.{Verb, skip, assign, new, always, once, alwaysSa
 use Rattle.program.specs.Reading.{number, readExpression, readBlock, readStatement, after}
 use Rattle.rules.specs.State.{State, Fault, Res, refused, reads}
 use Rattle.rules.specs.Evaluation.{aBool, kindOf, boolOf, evaluate}
-use Rattle.rules.specs.Statements.{Left, positionOf, doSimple}
+use Rattle.rules.specs.Statements.{Left, positionOf, placeOf, doSimple}
 
 -- "One tally of steps, proposals and words read is carried through a run"; with the state, and how the tests of if and while came out, the last first
 pub record Tally : Type 0 where
@@ -42,10 +42,10 @@ paid budget place t = elim (ltb (t .steps) budget) [ true ↦ on (oneMore t) | f
 abbrev pub leaves : Left → Tally → Tally
 leaves l t = record { state = l .state; unread = l .unread; steps = t .steps; accepted = t .accepted + l .accepted; tests = t .tests }
 
--- "From 5 on, place is the statement's word": the word at fault is dropped here
-unfoldable pub taken : ℕ → Tally → Res Left → Out
-taken place t (got l) = on (leaves l t)
-taken place t (stop f) = end (f .number) place t
+-- "every statement passes it up as the place" (02, W2): the word at fault, which is the statement's own unless a path, an operator, a part, a side or a test is
+unfoldable pub taken : List ℤ → Tally → Res Left → Out
+taken program t (got l) = on (leaves l t)
+taken program t (stop f) = end (f .number) (placeOf program f) t
 
 abbrev pub noted : Bool → Tally → Tally
 noted b t = record { state = t .state; unread = t .unread; steps = t .steps; accepted = t .accepted; tests = b ∷ t .tests }
@@ -57,17 +57,17 @@ test S p = do
   want (refused 8 p) (aBool (kindOf v))
   got (boolOf v)
 
-unfoldable pub tested : ℕ → Tally → Res Bool → (Tally → Out) → (Tally → Out) → Out
-tested place t (got true) f g = f (noted true t)
-tested place t (got false) f g = g (noted false t)
-tested place t (stop e) f g = end (e .number) place t
+unfoldable pub tested : List ℤ → Tally → Res Bool → (Tally → Out) → (Tally → Out) → Out
+tested program t (got true) f g = f (noted true t)
+tested program t (got false) f g = g (noted false t)
+tested program t (stop e) f g = end (e .number) (placeOf program e) t
 
--- a while whose test is at p; the fuel is more than the budget allows turns, so that it never runs out
-unfoldable pub turns : (Tally → Out) → ℕ → ℕ → List ℤ → ℕ → Tally → Out
-turns body budget place p zero t = end 5 place t
-turns body budget place p (suc fuel) t =
-    tested place t (test (t .state .cells) p)
-    (λ u. thenOut (body u) λ w. thenOut (paid budget place w) λ z. turns body budget place p fuel z)
+-- a while at this place whose test is at p; the fuel is more than the budget allows turns, so that it never runs out
+unfoldable pub turns : (Tally → Out) → List ℤ → ℕ → ℕ → List ℤ → ℕ → Tally → Out
+turns body program budget place p zero t = end 5 place t
+turns body program budget place p (suc fuel) t =
+    tested program t (test (t .state .cells) p)
+    (λ u. thenOut (body u) λ w. thenOut (paid budget place w) λ z. turns body program budget place p fuel z)
     (λ u. on u)
 
 -- the part after the test of the if or while at p
@@ -76,17 +76,17 @@ pastTest p = after (readExpression expressionDepth false (drop 1 p))
 
 -- the statement at p, whose step is paid; `block` runs a block that it holds, and `past` is the part after one
 unfoldable pub doVerb : (List ℤ → Tally → Out) → (List ℤ → List ℤ) → List ℤ → ℕ → List ℤ → Verb → Tally → Out
-doVerb block past program budget p skip t = taken (positionOf program p) t (doSimple program p (t .state) (t .unread) skip)
-doVerb block past program budget p assign t = taken (positionOf program p) t (doSimple program p (t .state) (t .unread) assign)
-doVerb block past program budget p new t = taken (positionOf program p) t (doSimple program p (t .state) (t .unread) new)
-doVerb block past program budget p always t = taken (positionOf program p) t (doSimple program p (t .state) (t .unread) always)
-doVerb block past program budget p once t = taken (positionOf program p) t (doSimple program p (t .state) (t .unread) once)
-doVerb block past program budget p alwaysSame t = taken (positionOf program p) t (doSimple program p (t .state) (t .unread) alwaysSame)
-doVerb block past program budget p onceSame t = taken (positionOf program p) t (doSimple program p (t .state) (t .unread) onceSame)
+doVerb block past program budget p skip t = taken program t (doSimple program p (t .state) (t .unread) skip)
+doVerb block past program budget p assign t = taken program t (doSimple program p (t .state) (t .unread) assign)
+doVerb block past program budget p new t = taken program t (doSimple program p (t .state) (t .unread) new)
+doVerb block past program budget p always t = taken program t (doSimple program p (t .state) (t .unread) always)
+doVerb block past program budget p once t = taken program t (doSimple program p (t .state) (t .unread) once)
+doVerb block past program budget p alwaysSame t = taken program t (doSimple program p (t .state) (t .unread) alwaysSame)
+doVerb block past program budget p onceSame t = taken program t (doSimple program p (t .state) (t .unread) onceSame)
 doVerb block past program budget p branch t =
-    tested (positionOf program p) t (test (t .state .cells) (drop 1 p)) (λ u. block (pastTest p) u) (λ u. block (past (pastTest p)) u)
+    tested program t (test (t .state .cells) (drop 1 p)) (λ u. block (pastTest p) u) (λ u. block (past (pastTest p)) u)
 doVerb block past program budget p loop t =
-    turns (λ u. block (pastTest p) u) budget (positionOf program p) (drop 1 p) (suc budget) t
+    turns (λ u. block (pastTest p) u) program budget (positionOf program p) (drop 1 p) (suc budget) t
 doVerb block past program budget p noVerb t = end 2 (positionOf program p) t
 
 unfoldable pub doStatement : (List ℤ → Tally → Out) → (List ℤ → List ℤ) → List ℤ → ℕ → List ℤ → Tally → Out

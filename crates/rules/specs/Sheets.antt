@@ -1,4 +1,4 @@
--- The sheets K1 to K12 of document 01, "Sheets to try", a while, and two of `and`: what is run, and the whole of what must come out.
+-- The sheets K1 to K12 of document 01, "Sheets to try", a while, two of `and` and one of 15: what is run, and the whole of what must come out.
 -- Assumes nothing: these are definitions.
 use Prim.Native.Nat.{ℕ, zero, suc, _+_, _-_}
 use mathlib.Core.List.{List, [], _∷_, _++_}
@@ -148,7 +148,7 @@ K11 = record {
   budget = pos 100;
   answer = record {
     outcome = 15;
-    place = 18;
+    place = 13;
     steps = 3;
     accepted = 2;
     state = tables (table 128 (4 ∷ 0 ∷ [])) (table 1601 (1 ∷ 1 ∷ 0 ∷ 3 ∷ 1 ∷ [])) (table 98 (1 ∷ 0 ∷ 7 ∷ []));
@@ -163,7 +163,7 @@ K12 = record {
   program = words (1 ∷ 1 ∷ 0 ∷ 0 ∷ 25 ∷ 2 ∷ 23 ∷ []) ++ (negsuc 2147483647 ∷ words (23 ∷ 1 ∷ []));
   proposals = words (0 ∷ []);
   budget = pos 100;
-  answer = record { outcome = 9; place = 1; steps = 1; accepted = 0; state = tables (table 128 []) (table 1601 []) (table 98 []); unread = words (0 ∷ []); tests = [] };
+  answer = record { outcome = 9; place = 4; steps = 1; accepted = 0; state = tables (table 128 []) (table 1601 []) (table 98 []); unread = words (0 ∷ []); tests = [] };
 }
 
 -- the last literal of P made 1000000000
@@ -190,7 +190,7 @@ A1 = record {
   program = words (1 ∷ 1 ∷ 0 ∷ 0 ∷ 25 ∷ 10 ∷ 21 ∷ 23 ∷ 1 ∷ []);
   proposals = words (0 ∷ []);
   budget = pos 100;
-  answer = record { outcome = 8; place = 1; steps = 1; accepted = 0; state = tables (table 128 []) (table 1601 []) (table 98 []); unread = words (0 ∷ []); tests = [] };
+  answer = record { outcome = 8; place = 4; steps = 1; accepted = 0; state = tables (table 128 []) (table 1601 []) (table 98 []); unread = words (0 ∷ []); tests = [] };
 }
 
 abbrev pub A2 : Sheet
@@ -198,11 +198,28 @@ A2 = record {
   program = words (1 ∷ 1 ∷ 0 ∷ 0 ∷ 25 ∷ 10 ∷ 21 ∷ 24 ∷ 1 ∷ 0 ∷ []);
   proposals = words (0 ∷ []);
   budget = pos 100;
-  answer = record { outcome = 7; place = 1; steps = 1; accepted = 0; state = tables (table 128 []) (table 1601 []) (table 98 []); unread = words (0 ∷ []); tests = [] };
+  answer = record { outcome = 7; place = 8; steps = 1; accepted = 0; state = tables (table 128 []) (table 1601 []) (table 98 []); unread = words (0 ∷ []); tests = [] };
+}
+
+-- x := new {0: 1}; always required x.0 > 0, twice; x := new {1: 5}: 15 in the first of the two
+abbrev pub L1 : Sheet
+L1 = record {
+  program = words (4 ∷ 2 ∷ 0 ∷ 1 ∷ 0 ∷ 23 ∷ 1 ∷ 3 ∷ 1 ∷ 3 ∷ 25 ∷ 9 ∷ 24 ∷ 0 ∷ 1 ∷ 0 ∷ 23 ∷ 0 ∷ 3 ∷ 1 ∷ 3 ∷ 25 ∷ 9 ∷ 24 ∷ 0 ∷ 1 ∷ 0 ∷ 23 ∷ 0 ∷ 2 ∷ 0 ∷ 1 ∷ 1 ∷ 23 ∷ 5 ∷ []);
+  proposals = words (0 ∷ 0 ∷ 0 ∷ 0 ∷ []);
+  budget = pos 100;
+  answer = record {
+    outcome = 15;
+    place = 13;
+    steps = 4;
+    accepted = 3;
+    state = tables (table 128 (4 ∷ 0 ∷ [])) (table 1601 (1 ∷ 1 ∷ 0 ∷ 3 ∷ 1 ∷ [])) (table 98 (2 ∷ 0 ∷ 7 ∷ 18 ∷ []));
+    unread = words (0 ∷ []);
+    tests = [];
+  };
 }
 
 abbrev pub sheets : List Sheet
-sheets = K1 ∷ K2 ∷ K3 ∷ K4 ∷ K5 ∷ K6 ∷ K7 ∷ K7' ∷ K8 ∷ K9 ∷ K10 ∷ K11 ∷ K12 ∷ K12' ∷ W1 ∷ A1 ∷ A2 ∷ []
+sheets = K1 ∷ K2 ∷ K3 ∷ K4 ∷ K5 ∷ K6 ∷ K7 ∷ K7' ∷ K8 ∷ K9 ∷ K10 ∷ K11 ∷ K12 ∷ K12' ∷ W1 ∷ A1 ∷ A2 ∷ L1 ∷ []
 
 -- what the definitions give, and what 01 says
 unfoldable pub given : List Sheet → List Ended

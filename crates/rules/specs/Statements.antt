@@ -32,9 +32,12 @@ pub record Left : Type 0 where
   pub unread : List ℤ
   pub accepted : ℕ
 
--- the position of the statement at p
+-- the position of the statement at p, and the place of the word at fault
 abbrev pub positionOf : List ℤ → List ℤ → ℕ
 positionOf program p = length program - length p
+
+abbrev pub placeOf : List ℤ → Fault → ℕ
+placeOf program f = length program - f .word
 
 -- "A position already kept is not added again"
 unfoldable pub hasRoom : List ℤ → Sort → ℕ → Bool

@@ -39,7 +39,8 @@ every-answer program ws budget S Z a u m =
       untouched = λ l h.
           let q = f .early (rw (outcome-is e) at l) (rw (outcome-is e) at h) .1 in
           rw (steps-are e, accepted-are e) (ap (λ x. x .state) q, (ap (λ x. x .unread) q, (ap (λ x. x .steps) q, ap (λ x. x .accepted) q)));
-      at-statement = λ h. rw (place-is e) (f .at-statement (rw (outcome-is e) at h));
+      at-statement = λ h apart. rw (place-is e) (f .at-statement (rw (outcome-is e) at h) (rw (outcome-is e) at apart));
+      inside = λ o. rw (outcome-is e, place-is e) (f .inside (rw (outcome-is e) at o));
       steps = rw (steps-are e) (f .steps);
       accepted = rw (accepted-are e, steps-are e) (f .accepted);
       part = f .unread;

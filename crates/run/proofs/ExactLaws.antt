@@ -1,7 +1,7 @@
 -- The numbers of every answer fit a word. Assumes nothing.
 use mathlib.Core.Path.{_≡_, refl, sym}
 use mathlib.Core.Bool.{true, false}
-use mathlib.Core.List.{List, [], _∷_}
+use mathlib.Core.List.{List, [], _∷_, List·Memᴰ as OneOf}
 use Prim.Native.Nat.{ℕ, _≤_, _<_}
 use native.Mathlib.Omega.{arith}
 use native.Mathlib.Decide.{decLt, ℕ-discrete}
@@ -16,10 +16,11 @@ use Rattle.rules.specs.State.{State, positions}
 use Rattle.rules.specs.Start.{Ended, run}
 use Rattle.rules.specs.Rules.Proposals.{Each, none, more}
 use Rattle.rules.specs.Rules.Kept.{inOrder}
-use Rattle.rules.specs.Rules.Answers.{FirstNot, here, later, TableFits, Unstarted, wrong, unreadable, unfit, broken, Passes, Answered, unstarted, finished, stopped}
+use Rattle.rules.specs.Rules.Answers.{TableFits, Unstarted, wrong, unreadable, unfit, broken, Passes, Answered, unstarted, finished, stopped}
 use Rattle.rules.specs.Claims.Answers.{Answer}
 use Rattle.rules.proofs.KeepLaws.{positions-iff}
 use Rattle.rules.proofs.StandRules.{each-over, each-join}
+use Rattle.rules.proofs.PlacedLaws.{first-each, inside-short, inner-or}
 use Rattle.rules.proofs.RunFacts.{answers}
 use Rattle.rules.proofs.AnswerRules.{rules}
 
@@ -30,11 +31,6 @@ pub record Exact (e : Ended) : Type 0 where
   pub accepted : e .accepted < 2147483648
 
 -- ---- places of outcomes 1 to 4
-
--- what all of a list are, the first that is not something else is
-first-each : {A : Type 0} {P Q : A → Type 0} {xs : List A} {x : A} → Each P xs → FirstNot Q xs x → P x
-first-each (more p ps) (here n) = p
-first-each (more p ps) (later q f) = first-each ps f
 
 inside-of : (program : List ℤ) (s : Sort) (k : ℕ) → isAlways program s k ≡ true → k < length program
 inside-of program s k e = go (decLt k (length program))
@@ -66,20 +62,21 @@ early-small {program} {S = S} (broken {k = k} x p t f) two = let l : k < length 
 
 module _ {program ws : List ℤ} {budget : ℤ} {S : State} {e : Ended} (a : Answer program ws budget S e) where
   placed : length program ≤ 4096 → Dec (4 < e .outcome) → Dec (e .outcome ≡ 0) → e .place < 2147483648
-  placed b (yes h) d = inside (decLt (e .place) (length program))
+  placed b (yes h) d = go (inner-or (e .outcome)) (decLt (e .place) (length program))
     where
-      inside : Dec (e .place < length program) → e .place < 2147483648
-      inside (yes l) = omega arith
-      inside (no l) = absurd (a .at-statement h (sym (statement-past program (e .place) (omega arith))))
+      go : Dec (OneOf (e .outcome) (7 ∷ 8 ∷ 9 ∷ 15 ∷ [])) → Dec (e .place < length program) → e .place < 2147483648
+      go o (yes l) = omega arith
+      go (yes o) (no l) = absurd (l (inside-short (a .inside o)))
+      go (no o) (no l) = absurd (a .at-statement h o (sym (statement-past program (e .place) (omega arith))))
   placed b (no h) (yes z) = omega (arith, a .finished z)
   placed b (no h) (no z) = early-small (a .early (omega arith) (omega arith) .0) (λ q. a .unread-place q .0)
 
 passed : {program ws : List ℤ} {budget : ℤ} {S : State} {e : Ended} → Passes program budget S → Answer program ws budget S e → Exact e
 passed {e = e} p a = record {
   outcome = omega (arith, a .known);
-  place = placed a (p .reads .short) (decLt 4 (e .outcome)) (ℕ-discrete (e .outcome) 0);
-  steps = omega (arith, a .steps, p .measured .few);
-  accepted = omega (arith, a .steps, a .accepted, p .measured .few);
+  place = placed a (p .1 .0 .short) (decLt 4 (e .outcome)) (ℕ-discrete (e .outcome) 0);
+  steps = omega (arith, a .steps, p .0 .few);
+  accepted = omega (arith, a .steps, a .accepted, p .0 .few);
 }
 
 exact-of : {program ws : List ℤ} {budget : ℤ} {S : State} {e : Ended} → Answered program ws budget S e → Answer program ws budget S e → Exact e

@@ -1,6 +1,6 @@
 -- What a host may rely on: the claims of the rules, said of what run leaves and hands back. Assumes nothing: these are statements.
 use mathlib.Core.Path.{_≡_}
-use mathlib.Core.List.{List}
+use mathlib.Core.List.{List, [], _∷_, List·Memᴰ as OneOf}
 use Prim.Native.Nat.{ℕ, _≤_}
 use lib.IntN.{ℤ}
 use lib.ListN.{length}
@@ -9,7 +9,7 @@ use Rattle.program.specs.declared.Spot.the-variants.{Nowhere}
 use Rattle.program.specs.Where.{statementAt}
 use Rattle.rules.specs.State.{State}
 use Rattle.rules.specs.Start.{Ended, run}
-use Rattle.rules.specs.Claims.Answers.{Reached}
+use Rattle.rules.specs.Claims.Answers.{Inside, Reached}
 use Rattle.rules.specs.Structure.{SameState}
 use Rattle.rules.specs.Rules.Kept.{Stands}
 use Rattle.rules.specs.Rules.Answers.{Answered}
@@ -25,7 +25,8 @@ pub record Keeps (program ws : List ℤ) (budget : ℤ) (S Z : State) (answer un
   pub four : length answer ≡ 4
   pub known : numberAt answer 0 ≤ 19
   pub untouched : 1 ≤ numberAt answer 0 → numberAt answer 0 ≤ 4 → (Z ≡ S) × ((unread ≡ ws) × ((numberAt answer 2 ≡ 0) × (numberAt answer 3 ≡ 0)))
-  pub at-statement : 5 ≤ numberAt answer 0 → statementAt program (numberAt answer 1) ≡ Nowhere → ⊥
+  pub at-statement : 5 ≤ numberAt answer 0 → (OneOf (numberAt answer 0) (7 ∷ 8 ∷ 9 ∷ 15 ∷ []) → ⊥) → statementAt program (numberAt answer 1) ≡ Nowhere → ⊥
+  pub inside : OneOf (numberAt answer 0) (7 ∷ 8 ∷ 9 ∷ 15 ∷ []) → Inside program Z (numberAt answer 1) (numberAt answer 0)
   pub steps : numberAt answer 2 ≤ numberOf budget
   pub accepted : numberAt answer 3 ≤ numberAt answer 2
   pub part : unread ≡ lastOf (length unread) ws

@@ -28,6 +28,8 @@ pub struct Tally {
 #[derive(Debug)]
 pub enum Stop {
     Difference(String),
+    /// All was the same, and too little of it came up.
+    Rare(String),
     Failure(io::Error),
 }
 

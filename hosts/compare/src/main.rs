@@ -39,7 +39,7 @@ fn report<T: Display>(compare: impl FnOnce() -> Result<T, Stop>) -> ExitCode {
             println!("{tally}; {:.1} s", start.elapsed().as_secs_f64());
             ExitCode::SUCCESS
         }
-        Err(Stop::Difference(text)) => {
+        Err(Stop::Difference(text) | Stop::Rare(text)) => {
             println!("{text}");
             ExitCode::FAILURE
         }

@@ -6,6 +6,7 @@ use crate::proved::Proved;
 use reference::batch::{Finish, Sheet};
 use reference::generator;
 use reference::outcome::Outcome;
+use reference::places::Places;
 use reference::run::Answer;
 use std::fmt;
 use std::io;
@@ -15,10 +16,16 @@ use std::time::Instant;
 
 const OUTCOMES: usize = Outcome::ALL.len();
 
+/// From so many sheets on, each of 7, 8, 9 and 15 must have a place inside a
+/// statement so often.
+const LONG_RUN: u64 = 1_000_000;
+const LEAST_PLACES: u64 = 10_000;
+
 /// How many sheets were compared, all of them the same, by outcome.
 #[derive(Debug)]
 pub struct Tally {
     pub outcomes: [u64; OUTCOMES],
+    pub places: Places,
     /// How many of them x86-64 code ran under the emulator too.
     pub emulated: u64,
     pub seconds: f64,
@@ -28,6 +35,7 @@ pub struct Tally {
 #[derive(Default)]
 struct Seen {
     outcomes: [u64; OUTCOMES],
+    places: Places,
     emulated: u64,
     difference: Option<(u64, String)>,
 }
@@ -51,11 +59,18 @@ pub fn compare(seed: u64, count: u64) -> Result<Tally, Stop> {
     if let Some((_, text)) = differences.min() {
         return Err(Stop::Difference(text.clone()));
     }
-    Ok(Tally {
+    let mut places = Places::default();
+    all.iter().for_each(|seen| places.add(&seen.places));
+    let tally = Tally {
         outcomes: std::array::from_fn(|n| all.iter().map(|seen| seen.outcomes[n]).sum()),
+        places,
         emulated: all.iter().map(|seen| seen.emulated).sum(),
         seconds: start.elapsed().as_secs_f64(),
-    })
+    };
+    if count >= LONG_RUN && !tally.places.are_met(LEAST_PLACES) {
+        return Err(Stop::Rare(format!("{tally}\ntoo few places inside")));
+    }
+    Ok(tally)
 }
 
 /// Compares the sheets of these numbers up to the end, which the first
@@ -72,7 +87,10 @@ fn compare_some(
         let emulated = emulated(&mut proved, &sheet)?;
         seen.emulated += u64::from(emulated.is_some());
         match compare_sheet(&sheet, emulated) {
-            Ok(outcome) => seen.outcomes[outcome] += 1,
+            Ok((outcome, finish)) => {
+                seen.outcomes[outcome] += 1;
+                seen.places.count(&sheet, &finish);
+            }
             Err(text) => {
                 end.fetch_min(index, Ordering::Relaxed);
                 let text = format!("sheet {index} of seed {seed}\n{text}");
@@ -83,13 +101,14 @@ fn compare_some(
     Ok(seen)
 }
 
-/// The outcome, where all give the same answer and tables.
-fn compare_sheet(sheet: &Sheet, emulated: Option<Finish>) -> Result<usize, String> {
+/// The outcome and the rest of the answer, where all give the same.
+fn compare_sheet(sheet: &Sheet, emulated: Option<Finish>) -> Result<(usize, Finish), String> {
     let independent = sheet.answer();
     if let Some(finish) = emulated {
         same(sheet, &finish, &independent)?;
     }
-    same(sheet, &call(sheet), &independent)
+    let outcome = same(sheet, &call(sheet), &independent)?;
+    Ok((outcome, independent))
 }
 
 fn same(sheet: &Sheet, proved: &Finish, independent: &Finish) -> Result<usize, String> {
@@ -159,6 +178,7 @@ impl fmt::Display for Tally {
         for (outcome, sheets) in self.outcomes.iter().enumerate() {
             write!(out, " {outcome}: {sheets}")?;
         }
+        write!(out, "; {}", self.places)?;
         if self.emulated > 0 {
             write!(out, "; {} of them by x86-64 code too", self.emulated)?;
         }

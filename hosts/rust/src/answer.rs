@@ -26,9 +26,11 @@ pub struct Answer<'p> {
 /// is 0, 1 or 20 to 22. Prints as what it says.
 ///
 /// 1 to 4 are tried in their order; they cost no steps, accept no proposal and
-/// change no table. From 5 on the place is the word of the refused statement
-/// (the while's for a later test of it), and the tables hold what the last
-/// accepted statement left.
+/// change no table. From 5 on the tables hold what the last accepted statement
+/// left. For 7, 8, 9 and 15 the place is the word at fault, as each tells; for
+/// the others from 5 to 19 it is the word of the refused statement (the while's
+/// where a later test cannot be paid).
+/// [`Program::refusal`](crate::Program::refusal) shows it in the text.
 #[derive(Clone, Copy, Debug, PartialEq, Eq, PartialOrd, Ord, Hash)]
 pub enum Outcome {
     /// The place is the program's length.
@@ -48,11 +50,15 @@ pub enum Outcome {
     BudgetSpent = 5,
     /// No proposal words are left.
     NoProposal = 6,
-    /// An absent variable, a missing field, or a path through a non-record.
+    /// An absent variable, a missing field, or a path through a non-record. The
+    /// place is the path's variable word.
     NoCell = 7,
-    /// A value of the wrong kind.
+    /// A value of the wrong kind. The place is the first word of the operation
+    /// (its 25) or of the test, the priority of the part, or the variable word
+    /// of the identity's side.
     WrongKind = 8,
-    /// A sum, difference or product, outside constraints, leaves 32 bits.
+    /// A sum, difference or product, outside constraints, leaves 32 bits. The
+    /// place is its first word (its 25).
     OutOfRange = 9,
     /// There are 64 records already.
     HeapFull = 10,
@@ -64,7 +70,8 @@ pub enum Outcome {
     PlainIdentity = 13,
     /// There is no room for a position that is not yet kept.
     NoRoom = 14,
-    /// A kept value constraint no longer reads.
+    /// A kept value constraint no longer reads. The place is in the first such
+    /// constraint, in kept order: the word that 7 or 8 would have there.
     LostConstraint = 15,
     /// The proposal is cut short, its n is out of range, or its locations do
     /// not rise or are outside 0 to 575.

@@ -51,20 +51,24 @@
 //!               ^");
 //! ```
 //!
-//! A run's refusal names the statement and says what was the matter. The tables
-//! hold what the last accepted statement left, and the proposal that was
-//! turned down is unread:
+//! A run's refusal prints in the same way. The tables hold what the last
+//! accepted statement left, and the proposal that was turned down is unread:
 //!
 //! ```
-//! use cordbasin::{run, Outcome, Tables};
+//! use cordbasin::{run, Outcome, Program, Tables};
 //!
-//! // v0 := 7, with a proposal that changes the target itself.
-//! let answer = run(&[1, 1, 0, 0, 23, 7], &mut Tables::fresh(), &[1, 0, 8], 100);
+//! let program = Program::read("x := new {bytes: 64};
+//! always required x.bytes > 0 /\\ weak x.samples = 16")?;
+//! let answer = run(program.words(), &mut Tables::fresh(), &[0, 0], 100);
 //!
-//! assert_eq!(answer.outcome, Outcome::UnfitEntry);
-//! assert_eq!(answer.outcome.to_string(), "an entry names a cell or payload it may not");
-//! assert_eq!(answer.place, 1);
-//! assert_eq!(answer.unread, [1, 0, 8]);
+//! assert_eq!(answer.outcome, Outcome::NoCell);
+//! assert_eq!(answer.unread, [0]);
+//! let refusal = program.refusal(&answer).expect("a refusal");
+//! assert_eq!(refusal.to_string(),
+//! "7 at line 2, column 37: absent variable, missing field, path through a non-record
+//! always required x.bytes > 0 /\\ weak x.samples = 16
+//!                                     ^");
+//! # Ok::<(), cordbasin::Refusal>(())
 //! ```
 
 #![no_std]

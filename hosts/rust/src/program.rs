@@ -1,7 +1,7 @@
 //! A program that was typed: its words, its names, and where each word stands
 //! in the text.
 
-use crate::answer::Outcome;
+use crate::answer::{Answer, Outcome};
 use crate::call::{read_words, LONGEST_PROGRAM, NAMES_WORDS};
 use core::fmt;
 
@@ -19,15 +19,17 @@ pub struct Program<'t> {
     labels: usize,
 }
 
-/// A text that is no program: the number, and the byte at which it is refused.
+/// A refusal and its place in the text: of a text that is no program, or of a
+/// run of its program.
 ///
 /// Prints the number and what it says with line and column, then the text's
 /// line, and a mark under the place.
 #[derive(Clone, Copy, Debug, PartialEq, Eq)]
 pub struct Refusal<'t> {
-    /// 20 to 22.
+    /// 20 to 22 for a text, 4 to 19 for a run.
     pub outcome: Outcome,
-    /// Where the text is refused.
+    /// The token at which the text is refused, or that the run's place comes
+    /// from.
     pub spot: Spot<'t>,
 }
 
@@ -101,9 +103,26 @@ impl<'t> Program<'t> {
         self.labels().position(|other| other == name)
     }
 
+    /// A run's refusal in the text that was typed. For 7, 8, 9 and 15 the mark
+    /// is under the word at fault, for the others under the beginning of the
+    /// statement.
+    ///
+    /// There is none where the run finished, and for 1 to 3, whose places are
+    /// no words of a program that was read.
+    ///
+    /// The answer must be of a run of this program's words.
+    pub fn refusal(&self, answer: &Answer) -> Option<Refusal<'t>> {
+        if answer.outcome < Outcome::UnfitStart {
+            return None;
+        }
+        Some(Refusal {
+            outcome: answer.outcome,
+            spot: self.spot(answer.place)?,
+        })
+    }
+
     /// Where the token stands that a word of the program comes from; for the
-    /// program's length the text's end. So the place of an answer is shown in
-    /// the text that was typed.
+    /// program's length the text's end.
     pub fn spot(&self, word: usize) -> Option<Spot<'t>> {
         if word == self.count {
             return Some(Spot::of(self.text, self.text.len()));

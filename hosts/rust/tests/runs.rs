@@ -1,5 +1,7 @@
 //! Runs of document 01's sheets, refusals at the start, and two threads.
 
+mod common;
+use common::sheet;
 use cordbasin::{run, run_words, Outcome, Tables, Value};
 use std::fs;
 use std::path::Path;
@@ -74,15 +76,8 @@ fn known_sheets_print_as_the_lister_does() {
 }
 
 fn listed(input: &str) -> String {
-    let line = |name: &str| input.lines().find_map(|line| line.strip_prefix(name));
-    let words = |name| -> Vec<i32> {
-        let list = line(name).expect("a line").split_whitespace();
-        list.map(|word| word.parse().expect("a word")).collect()
-    };
-    let budget = line("budget=").and_then(|word| word.parse().ok());
-    let (proposals, mut tables) = (words("proposals="), Tables::fresh());
-    let budget = budget.expect("a budget");
-    let answer = run(&words("program="), &mut tables, &proposals, budget);
+    let (sheet, mut tables) = (sheet(input), Tables::fresh());
+    let answer = run(&sheet.program, &mut tables, &sheet.proposals, sheet.budget);
     format!("{answer}{tables}")
 }
 

@@ -5,6 +5,7 @@ mod blocks;
 mod compose;
 mod damage;
 mod draft;
+mod inside;
 mod limits;
 pub mod numbers;
 mod search;
@@ -15,6 +16,7 @@ mod wishes;
 
 use crate::batch::Sheet;
 use crate::outcome::Outcome;
+use crate::places::Places;
 use draft::Draft;
 use numbers::Numbers;
 
@@ -67,15 +69,18 @@ fn extreme(mut numbers: Numbers) -> Sheet {
     finished(numbers)
 }
 
-/// How often each outcome comes up among the first sheets of a seed.
-pub fn histogram(seed: u64, count: u64) -> [u64; 20] {
-    let mut counts = [0; 20];
+/// How often each outcome comes up among the first sheets of a seed, and where
+/// the places inside statements are.
+pub fn histogram(seed: u64, count: u64) -> ([u64; 20], Places) {
+    let (mut counts, mut places) = ([0; 20], Places::default());
     for index in 0..count {
-        let outcome = sheet(seed, index).answer().answer.outcome;
-        let place = usize::try_from(outcome).unwrap_or(0);
-        if let Some(count) = counts.get_mut(place) {
+        let sheet = sheet(seed, index);
+        let finish = sheet.answer();
+        let outcome = usize::try_from(finish.answer.outcome).unwrap_or(0);
+        if let Some(count) = counts.get_mut(outcome) {
             *count += 1;
         }
+        places.count(&sheet, &finish);
     }
-    counts
+    (counts, places)
 }

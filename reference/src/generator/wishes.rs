@@ -2,6 +2,7 @@
 
 use super::compose::Composer;
 use super::draft::Draft;
+use super::inside::{behind_parts, under_operators, under_truths};
 use super::search::Mistake;
 use super::start;
 use crate::batch::Sheet;
@@ -105,16 +106,20 @@ fn missing_cell(draft: &mut Draft) {
         }
         _ => vec![absent, 0],
     };
-    let around: (&[i32], &[i32]) = match composer.numbers.below(7) {
-        0 => (&[1], &[20]),
-        1 => (&[1, 0, 0, 24], &[]),
-        2 => (&[2, 1, 2, 3, 20, 4, 24], &[]),
-        3 => (&[3, 2, 1, 22, 3, 25, 4, 24], &[23, 5]),
-        4 => (&[5, absent, 0], &[]),
-        5 => (&[7, 25, 10, 21, 26], &[0, 0, 0, 0]),
-        _ => (&[8, 24], &[0]),
+    let numbers = composer.numbers;
+    let read = under_operators(numbers, &[&[24][..], &missing].concat());
+    let statement = match numbers.below(7) {
+        0 => [&[1][..], &missing, &[20]].concat(),
+        1 => [&[1, 0, 0][..], &read].concat(),
+        2 => [&[2, 1, 2, 3, 20, 4][..], &read].concat(),
+        3 => [&[3][..], &behind_parts(numbers, &read)].concat(),
+        4 => [&[5, absent, 0][..], &missing].concat(),
+        5 => {
+            let sides = [&[26][..], &missing, &[0, 0]].concat();
+            [&[7][..], &under_operators(numbers, &sides), &[0, 0]].concat()
+        }
+        _ => [&[8][..], &read, &[0]].concat(),
     };
-    let statement = [around.0, &missing, around.1].concat();
     last(draft, statement);
 }
 
@@ -132,17 +137,29 @@ fn wrong_kind(draft: &mut Draft) {
     };
     let integer = leaf(Kind::Integer);
     let reference = leaf(Kind::Reference);
-    let statement = match composer.numbers.below(8) {
-        0 => [&[1, 0, 0, 25, operator][..], &first, &second].concat(),
-        1 => [&[3, 1, 1, 25, operator][..], &second, &first].concat(),
-        2 => [&[4, 2, 1, 22, 3][..], &integer].concat(),
+    if composer.numbers.below(9) == 0 {
+        let statement = unlike_identity(&mut composer);
+        return last(draft, statement);
+    }
+    let numbers = composer.numbers;
+    let wrong = under_operators(numbers, &[&[25, operator][..], &first, &second].concat());
+    let statement = match numbers.below(8) {
+        0 => [&[1, 0, 0][..], &wrong].concat(),
+        1 => [&[3][..], &behind_parts(numbers, &wrong)].concat(),
+        2 => [&[4][..], &behind_parts(numbers, &integer)].concat(),
         3 => [&[7][..], &integer, &[0, 0]].concat(),
         4 => [&[8][..], &reference, &[0]].concat(),
         5 => [&[1, 2, 0, 25, 6][..], &reference, &[20]].concat(),
-        6 => [&[1, 60, 1, 0, 25, operator][..], &second, &first].concat(),
-        _ => unlike_identity(&mut composer),
+        6 => [&[1, 60, 1, 0][..], &wrong].concat(),
+        _ => return later_test(draft, &integer),
     };
     last(draft, statement);
+}
+
+/// A while whose second test is no boolean.
+fn later_test(draft: &mut Draft, integer: &[i32]) {
+    let _ = draft.attempt(&[1, 59, 0, 22]);
+    last(draft, [&[8, 24, 59, 0, 1, 1, 59, 0][..], integer].concat());
 }
 
 /// An identity statement with one side or both neither reference nor nil.
@@ -168,11 +185,13 @@ fn out_of_range(draft: &mut Draft) {
     };
     let mut other = Vec::new();
     draft.composer().integer(&mut other, 2);
-    let statement = match draft.numbers.below(5) {
+    let large = under_operators(&mut draft.numbers, &large);
+    let statement = match draft.numbers.below(6) {
         0 => [&[1, 0, 0][..], &large].concat(),
         1 => [&[1, 0, 0, 25, 1][..], &other, &large].concat(),
-        2 => [&[2, 3, 1, 0][..], &large].concat(),
+        2 => [&[2, 3, 2, 1, 22, 0][..], &large].concat(),
         3 => [&[1, 60, 1, 0][..], &large].concat(),
+        4 => [&[8][..], &large, &[0]].concat(),
         _ => [&[7, 25, 4][..], &large, &other, &[0, 0]].concat(),
     };
     last(draft, statement);
@@ -300,9 +319,15 @@ fn no_room(draft: &mut Draft) {
 }
 
 fn lost_constraint(draft: &mut Draft) {
-    let priority = draft.numbers.between(1, 3);
     let _ = draft.attempt(&[2, 27, 2, 0, 23, 1, 1, 22]);
-    let _ = draft.attempt(&[3, 2, priority, 25, 6, 24, 27, 1, 0, 23, 1, 1, 24, 27, 1, 1]);
+    for _ in 0..=draft.numbers.below(2) {
+        let part = draft
+            .numbers
+            .pick(&[&[25, 6, 24, 27, 1, 0, 23, 1][..], &[24, 27, 1, 1]]);
+        let part = under_truths(&mut draft.numbers, part.unwrap_or(&[22]));
+        let constraint = behind_parts(&mut draft.numbers, &part);
+        let _ = draft.attempt(&[&[3][..], &constraint].concat());
+    }
     let statement: &[i32] = match draft.numbers.below(6) {
         0 => &[1, 27, 0, 20],
         1 => &[2, 27, 1, 0, 23, 1],

@@ -297,11 +297,11 @@ run-if-test-at-requires t c κs = search needs
 run-if-enum-known-number : (t : ℕ) → run-if-lts.Need-enum-known-number (run-if-calls t) (run-if-at t) run-if.Post
 run-if-enum-known-number t c = search needs
 
--- src/lib.rt:90:54
+-- src/lib.rt:90:57
 run-if-less-requires : (t : ℕ) → run-if-lts.Need-less-requires (run-if-calls t) (run-if-at t) run-if.Post
 run-if-less-requires t c κs = search needs
 
--- src/lib.rt:90:37
+-- src/lib.rt:90:40
 run-if-ended-requires : (t : ℕ) → run-if-lts.Need-ended-requires (run-if-calls t) (run-if-at t) run-if.Post
 run-if-ended-requires t c κs = search needs
 
@@ -483,6 +483,10 @@ run-while-test-at-requires t c κs = search needs
 run-while-enum-known-number : (t : ℕ) → run-while-lts.Need-enum-known-number (run-while-calls t) (run-while-at t) run-while.Post run-while-Inv-loop run-while-μ-loop
 run-while-enum-known-number t c = search needs
 
+-- src/lib.rt:145:41
+run-while-less-requires-2 : (t : ℕ) → run-while-lts.Need-less-requires-2 (run-while-calls t) (run-while-at t) run-while.Post run-while-Inv-loop run-while-μ-loop
+run-while-less-requires-2 t c κs = search needs
+
 -- src/lib.rt:145:17
 run-while-ended-requires : (t : ℕ) → run-while-lts.Need-ended-requires (run-while-calls t) (run-while-at t) run-while.Post run-while-Inv-loop run-while-μ-loop
 run-while-ended-requires t c κs = search needs
@@ -501,7 +505,7 @@ run-while-same-length-3 t c = search needs
 
 -- src/lib.rt:145:17
 run-while-returns : (t : ℕ) → run-while-lts.Need-returns (run-while-calls t) (run-while-at t) run-while.Post run-while-Inv-loop run-while-μ-loop
-run-while-returns t c = turning-refused (c .before .before .before .before .before .before .before .loop .inv) (c .before .before .before .before .test-at .ensures) (c .before .before .number .given .1) (c .ended .ensures)
+run-while-returns t c = turning-refused (c .before .before .before .before .before .before .before .before .loop .inv) (c .before .before .before .before .before .test-at .ensures) (c .before .less2 .ensures) (c .before .before .before .number .given .1) (c .ended .ensures)
 
 -- src/lib.rt:147:24
 run-while-enum-known-b : (t : ℕ) → run-while-lts.Need-enum-known-b (run-while-calls t) (run-while-at t) run-while.Post run-while-Inv-loop run-while-μ-loop
@@ -730,6 +734,7 @@ pub +run-block+run-if+run-statement+run-while-spec : {M : Type 1} → statement 
     (run-while-loop-holds t)
     (run-while-test-at-requires t)
     (run-while-enum-known-number t)
+    (run-while-less-requires-2 t)
     (run-while-ended-requires t)
     (run-while-same-length t)
     (run-while-same-length-2 t)

@@ -17,14 +17,10 @@ use Rattle.program.specs.Where.{constraintsStand}
 use Rattle.rules.specs.State.{State}
 use Rattle.rules.specs.Running.{Tally, on, end}
 use Rattle.rules.specs.Start.{Ended}
+use Rattle.rules.specs.Rules.Constraints.{FirstNot}
 use Rattle.rules.specs.Rules.Proposals.{Each}
 use Rattle.rules.specs.Rules.Runs.{block, Runs}
 use Rattle.rules.specs.Rules.Kept.{KeptStands, inOrder, Stands}
-
--- x is the first of the list that is not P
-pub data FirstNot {A : Type 0} (P : A → Type 0) : List A → A → Type 0 where
-  here : {x : A} {xs : List A} → (P x → ⊥) → FirstNot P (x ∷ xs) x
-  later : {x y : A} {xs : List A} → P x → FirstNot P xs y → FirstNot P (x ∷ xs) y
 
 -- the lengths of the tables, and "a budget of 0 to 1,000,000"
 pub record Measured (budget : ℤ) (S : State) : Type 0 where
@@ -48,10 +44,8 @@ pub data Unstarted (program : List ℤ) (budget : ℤ) (S : State) : ℕ → ℕ
       → FirstNot (KeptStands program (S .cells)) (inOrder (S .kept)) (s, k) → Unstarted program budget S 4 k
 
 -- none of them
-pub record Passes (program : List ℤ) (budget : ℤ) (S : State) : Type 0 where
-  pub measured : Measured budget S
-  pub reads : Program program
-  pub stands : Stands program S
+abbrev pub Passes : List ℤ → ℤ → State → Type 0
+Passes program budget S = Measured budget S × (Program program × Stands program S)
 
 -- the tally before the first statement, and what is given for a tally, by outcome and place
 abbrev pub firstTally : State → List ℤ → Tally

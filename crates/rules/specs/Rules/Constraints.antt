@@ -1,7 +1,7 @@
 -- When a constraint reads, what its parts then are (000, T-PRIORITY and T-CONJUNCTION, as document 01 narrows them), and which parts count.
 -- Assumes nothing: these are definitions.
 use mathlib.Core.Path.{_≡_}
-use mathlib.Core.Logic.{_≢_, _↔_}
+use mathlib.Core.Logic.{_↔_}
 use Prim.Native.Nat.{ℕ, suc, _+_, _≤_}
 use mathlib.Core.Bool.{Bool, true}
 use mathlib.Core.List.{List, [], _∷_, _++_}
@@ -12,10 +12,10 @@ use Rattle.tables.specs.declared.Value.the-variants.{Bool as Truth}
 use Rattle.tables.specs.declared.Sort.the-variants.{Values}
 use Rattle.tables.specs.Cells.{Cells}
 use Rattle.program.specs.Forms.{expressionDepth, mostParts, required}
-use Rattle.rules.specs.State.{positions}
-use Rattle.rules.specs.Evaluation.{Kind, isBool}
+use Rattle.rules.specs.State.{Fault, positions}
+use Rattle.rules.specs.Evaluation.{isBool}
 use Rattle.rules.specs.Constraints.{Part}
-use Rattle.rules.specs.Rules.Expressions.{Within, KindWithin, KindMeets}
+use Rattle.rules.specs.Rules.Expressions.{Within, KindWithin, Untested}
 
 -- ---- the parts: each one's priority, and whether it is satisfied, that is, whether its value is true
 
@@ -42,22 +42,29 @@ pub data CountedAre (program kept : List ℤ) (S : Cells) : Option (List ℤ) �
   kept-only : {xs : List Part} → KeptAre program S (positions kept Values) xs → CountedAre program kept S nothing xs
   with-own : {p : List ℤ} {xs ys : List Part} → KeptAre program S (positions kept Values) xs → ConstraintIs S p ys → CountedAre program kept S (some p) (xs ++ ys)
 
--- ---- refusals: the C at p does not read, 7 or 8 as met
+-- ---- refusals: the C at p does not read, 7 or 8 as met; 8 of a part that is no boolean stands at its priority
 
-pub data PartMeets (S : Cells) : List ℤ → ℕ → Type 0 where
-  in-part : {priority n : ℕ} {p : List ℤ} → 1 ≤ priority → priority ≤ required → KindMeets S expressionDepth p n → PartMeets S (pos priority ∷ p) n
-  -- "each part is boolean"
-  no-boolean : {priority : ℕ} {k : Kind} {p q : List ℤ} → 1 ≤ priority → priority ≤ required → KindWithin S expressionDepth p k q → k ≢ isBool → PartMeets S (pos priority ∷ p) 8
+pub data PartMeets (S : Cells) : List ℤ → Fault → Type 0 where
+  part : {priority : ℕ} {f : Fault} {p : List ℤ} → 1 ≤ priority → priority ≤ required → Untested S true (pos priority ∷ p) p f → PartMeets S (pos priority ∷ p) f
 
-pub data PartsMeet (S : Cells) : ℕ → List ℤ → ℕ → Type 0 where
-  first : {m n : ℕ} {p : List ℤ} → PartMeets S p n → PartsMeet S (suc m) p n
-  later : {m n : ℕ} {x : Part} {p q : List ℤ} → PartIs S p x q → PartsMeet S m q n → PartsMeet S (suc m) p n
+pub data PartsMeet (S : Cells) : ℕ → List ℤ → Fault → Type 0 where
+  first : {m : ℕ} {f : Fault} {p : List ℤ} → PartMeets S p f → PartsMeet S (suc m) p f
+  later : {m : ℕ} {f : Fault} {x : Part} {p q : List ℤ} → PartIs S p x q → PartsMeet S m q f → PartsMeet S (suc m) p f
 
-pub data ConstraintMeets (S : Cells) : List ℤ → ℕ → Type 0 where
-  constraint : {m n : ℕ} {p : List ℤ} → 1 ≤ m → m ≤ mostParts → PartsMeet S m p n → ConstraintMeets S (pos m ∷ p) n
+pub data ConstraintMeets (S : Cells) : List ℤ → Fault → Type 0 where
+  constraint : {m : ℕ} {f : Fault} {p : List ℤ} → 1 ≤ m → m ≤ mostParts → PartsMeet S m p f → ConstraintMeets S (pos m ∷ p) f
 
--- a statement's own C does not read; or, 15, "a kept value constraint no longer reads"
-pub data Uncounted (program kept : List ℤ) (S : Cells) : Option (List ℤ) → ℕ → Type 0 where
-  own : {n : ℕ} {p : List ℤ} → ConstraintMeets S p n → Uncounted program kept S (some p) n
-  kept : {own : Option (List ℤ)} → ((p : List ℤ) → own ≡ some p → (xs : List Part) × ConstraintIs S p xs)
-      → ((xs : List Part) → KeptAre program S (positions kept Values) xs → ⊥) → Uncounted program kept S own 15
+-- the value constraint at a position reads
+abbrev pub Reads : List ℤ → Cells → ℕ → Type 0
+Reads program S position = (xs : List Part) × ConstraintIs S (drop (position + 1) program) xs
+
+-- x is the first of the list that is not P
+pub data FirstNot {A : Type 0} (P : A → Type 0) : List A → A → Type 0 where
+  here : {x : A} {xs : List A} → (P x → ⊥) → FirstNot P (x ∷ xs) x
+  later : {x y : A} {xs : List A} → P x → FirstNot P xs y → FirstNot P (x ∷ xs) y
+
+-- a statement's own C does not read; or, 15, "a kept value constraint no longer reads": the word at fault "in the first such kept constraint" (02, W2)
+pub data Uncounted (program kept : List ℤ) (S : Cells) : Option (List ℤ) → Fault → Type 0 where
+  own : {f : Fault} {p : List ℤ} → ConstraintMeets S p f → Uncounted program kept S (some p) f
+  kept : {own : Option (List ℤ)} {k : ℕ} {f : Fault} → ((p : List ℤ) → own ≡ some p → (xs : List Part) × ConstraintIs S p xs)
+      → FirstNot (Reads program S) (positions kept Values) k → ConstraintMeets S (drop (k + 1) program) f → Uncounted program kept S own (record { number = 15; word = f .word })

@@ -3,7 +3,7 @@
 use mathlib.Core.Path.{_≡_}
 use mathlib.Core.Logic.{_≢_}
 use Prim.Native.Nat.{ℕ, suc, _<_, _≤_}
-use mathlib.Core.Bool.{true, false}
+use mathlib.Core.Bool.{Bool, true, false}
 use mathlib.Core.List.{List, [], _∷_}
 use lib.IntN.{ℤ, pos}
 use lib.ListN.{drop}
@@ -15,10 +15,10 @@ use Rattle.tables.specs.Sizes.{variables, fieldLocation}
 use Rattle.tables.specs.Values.{cellOf}
 use Rattle.tables.specs.Cells.{Cells}
 use Rattle.tables.specs.Records.{fieldCount, labelAt}
-use Rattle.program.specs.Forms.{mostSteps, operators}
-use Rattle.rules.specs.State.{slotAt}
+use Rattle.program.specs.Forms.{mostSteps, operators, expressionDepth}
+use Rattle.rules.specs.State.{Fault, refused, slotAt}
 use Rattle.rules.specs.Paths.{Way}
-use Rattle.rules.specs.Evaluation.{Kind, isNil, isBool, isInt, kindOf}
+use Rattle.rules.specs.Evaluation.{Kind, isBool, kindOf}
 use Rattle.rules.specs.Rules.Operators.{Gives, Makes}
 
 -- ---- paths
@@ -42,14 +42,19 @@ pub data Names (S : Cells) : List ℤ → Way → Type 0 where
 pub data Holds (S : Cells) : List ℤ → Value → List ℤ → Type 0 where
   holds : {w : Way} {v : Value} {p : List ℤ} → Names S p w → slotAt S (w .cell) ≡ Has v → Holds S p v (w .rest)
 
+-- ---- literals: p begins with one, whose value is v, and q follows it
+
+pub data Literal : List ℤ → Value → List ℤ → Type 0 where
+  nil : {p : List ℤ} → Literal (pos 20 ∷ p) Nil p
+  no : {p : List ℤ} → Literal (pos 21 ∷ p) (Truth false) p
+  yes : {p : List ℤ} → Literal (pos 22 ∷ p) (Truth true) p
+  integer : {w : ℤ} {p : List ℤ} → Literal (pos 23 ∷ w ∷ p) (Int w) p
+
 -- ---- evaluation: p begins with an expression, nested at most d deep, a leaf being 1; its value is v, and q follows it
 
 pub data Within (S : Cells) : ℕ → List ℤ → Value → List ℤ → Type 0 where
   -- E-CONST
-  e-nil : {d : ℕ} {p : List ℤ} → Within S (suc d) (pos 20 ∷ p) Nil p
-  e-false : {d : ℕ} {p : List ℤ} → Within S (suc d) (pos 21 ∷ p) (Truth false) p
-  e-true : {d : ℕ} {p : List ℤ} → Within S (suc d) (pos 22 ∷ p) (Truth true) p
-  e-integer : {d : ℕ} {w : ℤ} {p : List ℤ} → Within S (suc d) (pos 23 ∷ w ∷ p) (Int w) p
+  e-literal : {d : ℕ} {v : Value} {p q : List ℤ} → Literal p v q → Within S (suc d) p v q
   -- E-VAR, E-FIELD
   e-path : {d : ℕ} {v : Value} {p q : List ℤ} → Holds S p v q → Within S (suc d) (pos 24 ∷ p) v q
   -- E-OP
@@ -62,10 +67,7 @@ pub data Within (S : Cells) : ℕ → List ℤ → Value → List ℤ → Type 0
 
 pub data KindWithin (S : Cells) : ℕ → List ℤ → Kind → List ℤ → Type 0 where
   -- T-CONST
-  t-nil : {d : ℕ} {p : List ℤ} → KindWithin S (suc d) (pos 20 ∷ p) isNil p
-  t-false : {d : ℕ} {p : List ℤ} → KindWithin S (suc d) (pos 21 ∷ p) isBool p
-  t-true : {d : ℕ} {p : List ℤ} → KindWithin S (suc d) (pos 22 ∷ p) isBool p
-  t-integer : {d : ℕ} {w : ℤ} {p : List ℤ} → KindWithin S (suc d) (pos 23 ∷ w ∷ p) isInt p
+  t-literal : {d : ℕ} {v : Value} {p q : List ℤ} → Literal p v q → KindWithin S (suc d) p (kindOf v) q
   -- T-VAR, T-FIELD
   t-path : {d : ℕ} {v : Value} {p q : List ℤ} → Holds S p v q → KindWithin S (suc d) (pos 24 ∷ p) (kindOf v) q
   -- T-OP
@@ -82,22 +84,28 @@ pub data Lost (S : Cells) : List ℤ → Type 0 where
   nowhere : {p : List ℤ} → Astray S p → Lost S p
   absent : {w : Way} {p : List ℤ} → Names S p w → slotAt S (w .cell) ≡ Absent → Lost S p
 
--- the expression at p is refused with n: "Both operands are always evaluated, left first; then kinds are tested, then range."
-pub data Meets (S : Cells) : ℕ → List ℤ → ℕ → Type 0 where
-  m-path : {d : ℕ} {p : List ℤ} → Lost S p → Meets S (suc d) (pos 24 ∷ p) 7
-  m-left : {d o n : ℕ} {p : List ℤ} → 1 ≤ o → o ≤ operators → Meets S d p n → Meets S (suc d) (pos 25 ∷ pos o ∷ p) n
-  m-right : {d o n : ℕ} {a : Value} {p q : List ℤ} → 1 ≤ o → o ≤ operators → Within S d p a q → Meets S d q n → Meets S (suc d) (pos 25 ∷ pos o ∷ p) n
-  m-kind : {d o : ℕ} {a b : Value} {p q r : List ℤ}
-      → 1 ≤ o → o ≤ operators → Within S d p a q → Within S d q b r → ((k : Kind) → Gives o (kindOf a) (kindOf b) k → ⊥) → Meets S (suc d) (pos 25 ∷ pos o ∷ p) 8
-  m-range : {d o : ℕ} {a b : Value} {k : Kind} {p q r : List ℤ}
-      → Within S d p a q → Within S d q b r → Gives o (kindOf a) (kindOf b) k → ((v : Value) → Makes o a b v → ⊥) → Meets S (suc d) (pos 25 ∷ pos o ∷ p) 9
-  m-one : {d : ℕ} {p : List ℤ} → Lost S p → Meets S (suc d) (pos 26 ∷ p) 7
-  m-other : {d : ℕ} {v : Value} {p q : List ℤ} → Holds S p v q → Lost S q → Meets S (suc d) (pos 26 ∷ p) 7
+-- what an operand comes to: inside C a kind, outside it a value of that kind
+pub data Comes (S : Cells) : Bool → ℕ → List ℤ → Kind → List ℤ → Type 0 where
+  typed : {d : ℕ} {k : Kind} {p q : List ℤ} → KindWithin S d p k q → Comes S true d p k q
+  valued : {d : ℕ} {v : Value} {p q : List ℤ} → Within S d p v q → Comes S false d p (kindOf v) q
 
--- the same inside C, where kinds count and range does not
-pub data KindMeets (S : Cells) : ℕ → List ℤ → ℕ → Type 0 where
-  k-path : {d : ℕ} {p : List ℤ} → Lost S p → KindMeets S (suc d) (pos 24 ∷ p) 7
-  k-left : {d o n : ℕ} {p : List ℤ} → 1 ≤ o → o ≤ operators → KindMeets S d p n → KindMeets S (suc d) (pos 25 ∷ pos o ∷ p) n
-  k-right : {d o n : ℕ} {a : Kind} {p q : List ℤ} → 1 ≤ o → o ≤ operators → KindWithin S d p a q → KindMeets S d q n → KindMeets S (suc d) (pos 25 ∷ pos o ∷ p) n
-  k-kind : {d o : ℕ} {a b : Kind} {p q r : List ℤ}
-      → 1 ≤ o → o ≤ operators → KindWithin S d p a q → KindWithin S d q b r → ((k : Kind) → Gives o a b k → ⊥) → KindMeets S (suc d) (pos 25 ∷ pos o ∷ p) 8
+-- an operator and its operands, at p, make no value: 8 where it does not take the kinds; 9, outside C, where its result leaves 32 bits
+pub data Unmade (S : Cells) : Bool → ℕ → List ℤ → ℕ → Type 0 where
+  kinds : {c : Bool} {d o : ℕ} {a b : Kind} {p q r : List ℤ} → 1 ≤ o → o ≤ operators → Comes S c d p a q → Comes S c d q b r → ((k : Kind) → Gives o a b k → ⊥) → Unmade S c d (pos o ∷ p) 8
+  range : {d o : ℕ} {a b : Value} {k : Kind} {p q r : List ℤ} → Within S d p a q → Within S d q b r → Gives o (kindOf a) (kindOf b) k → ((v : Value) → Makes o a b v → ⊥) → Unmade S false d (pos o ∷ p) 9
+
+-- the expression at p, inside C or outside it, is refused: "Both operands are always evaluated, left first; then kinds are tested, then range";
+-- "For 7 .. the variable word of the path that failed; for 8 and 9, the first word of the operator expression (25)" (02, W2)
+pub data Meets (S : Cells) : Bool → ℕ → List ℤ → Fault → Type 0 where
+  m-path : {c : Bool} {d : ℕ} {p : List ℤ} → Lost S p → Meets S c (suc d) (pos 24 ∷ p) (refused 7 p)
+  m-left : {c : Bool} {d o : ℕ} {f : Fault} {p : List ℤ} → 1 ≤ o → o ≤ operators → Meets S c d p f → Meets S c (suc d) (pos 25 ∷ pos o ∷ p) f
+  m-right : {c : Bool} {d o : ℕ} {k : Kind} {f : Fault} {p q : List ℤ}
+      → 1 ≤ o → o ≤ operators → Comes S c d p k q → Meets S c d q f → Meets S c (suc d) (pos 25 ∷ pos o ∷ p) f
+  m-here : {c : Bool} {d n : ℕ} {p : List ℤ} → Unmade S c d p n → Meets S c (suc d) (pos 25 ∷ p) (refused n (pos 25 ∷ p))
+  m-one : {d : ℕ} {p : List ℤ} → Lost S p → Meets S false (suc d) (pos 26 ∷ p) (refused 7 p)
+  m-other : {d : ℕ} {v : Value} {p q : List ℤ} → Holds S p v q → Lost S q → Meets S false (suc d) (pos 26 ∷ p) (refused 7 q)
+
+-- "If, while test a boolean"; in C "each part is boolean": the expression at p is refused, or is none, which is told at the word w
+pub data Untested (S : Cells) (c : Bool) (w p : List ℤ) : Fault → Type 0 where
+  meets : {f : Fault} → Meets S c expressionDepth p f → Untested S c w p f
+  no-boolean : {k : Kind} {q : List ℤ} → Comes S c expressionDepth p k q → k ≢ isBool → Untested S c w p (refused 8 w)

@@ -2,7 +2,7 @@
 -- Assumes nothing: these are definitions.
 use Prim.Native.Nat.{ℕ, _+_}
 use mathlib.Core.Path.{_≡_}
-use mathlib.Core.Logic.{_≢_}
+use mathlib.Core.Logic.{_≢_, _⊎_}
 use mathlib.Core.List.{List, [], _∷_, _++_, List·Memᴰ as OneOf}
 use lib.IntN.{ℤ}
 use lib.ListN.{length, drop}
@@ -13,7 +13,7 @@ use Rattle.tables.specs.declared.Sort.the-variants.{Identities}
 use Rattle.tables.specs.Values.{cellOf}
 use Rattle.tables.specs.Cells.{Cells, cellAt}
 use Rattle.tables.specs.Records.{recordCount, countAt, labelAt}
-use Rattle.rules.specs.State.{slotAt, positions}
+use Rattle.rules.specs.State.{Fault, refused, slotAt, positions}
 use Rattle.rules.specs.Paths.{Way}
 use Rattle.rules.specs.Identities.{Tie}
 use Rattle.rules.specs.Rules.Expressions.{Names, Holds, Lost}
@@ -27,12 +27,13 @@ pub data Node : Value → Type 0 where
 pub data Same (S : Cells) : List ℤ → Type 0 where
   same : {v w : Value} {p q r : List ℤ} → Holds S p v q → Holds S q w r → Node v → Node w → cellOf v ≡ cellOf w → Same S p
 
--- "An identity: paths 7, 8, 11"
-pub data Unsame (S : Cells) : List ℤ → ℕ → Type 0 where
-  one-lost : {p : List ℤ} → Lost S p → Unsame S p 7
-  other-lost : {v : Value} {p q : List ℤ} → Holds S p v q → Lost S q → Unsame S p 7
-  no-nodes : {v w : Value} {p q r : List ℤ} → Holds S p v q → Holds S q w r → (Node v → Node w → ⊥) → Unsame S p 8
-  differ : {v w : Value} {p q r : List ℤ} → Holds S p v q → Holds S q w r → Node v → Node w → cellOf v ≢ cellOf w → Unsame S p 11
+-- "An identity: paths 7, 8, 11"; 7 and 8 stand at the first side at fault (02, W2), 11 at the statement's word
+pub data Unsame (S : Cells) (word : List ℤ) : List ℤ → Fault → Type 0 where
+  one-lost : {p : List ℤ} → Lost S p → Unsame S word p (refused 7 p)
+  other-lost : {v : Value} {p q : List ℤ} → Holds S p v q → Lost S q → Unsame S word p (refused 7 q)
+  one-plain : {v w : Value} {p q r : List ℤ} → Holds S p v q → Holds S q w r → (Node v → ⊥) → Unsame S word p (refused 8 p)
+  other-plain : {v w : Value} {p q r : List ℤ} → Holds S p v q → Holds S q w r → Node v → (Node w → ⊥) → Unsame S word p (refused 8 q)
+  differ : {v w : Value} {p q r : List ℤ} → Holds S p v q → Holds S q w r → Node v → Node w → cellOf v ≢ cellOf w → Unsame S word p (refused 11 word)
 
 -- the kept identities at these positions: the two cells that each names, and the prefix cells of both sides
 pub data TiesAre (program : List ℤ) (S : Cells) : List ℕ → List Tie → Type 0 where
@@ -54,9 +55,8 @@ pub data Frozen (prefix : List ℕ) (ts : List Tie) (l : ℕ) : Type 0 where
   of-side : (t : Tie) → OneOf t ts → OneOf l (t .prefix) → Frozen prefix ts l
 
 -- "an identity names the target"
-pub data IsNamed (ts : List Tie) (l : ℕ) : Type 0 where
-  as-one : (t : Tie) → OneOf t ts → t .one ≡ l → IsNamed ts l
-  as-two : (t : Tie) → OneOf t ts → t .two ≡ l → IsNamed ts l
+abbrev pub IsNamed : List Tie → ℕ → Type 0
+IsNamed ts l = (t : Tie) × (OneOf t ts × ((t .one ≡ l) ⊎ (t .two ≡ l)))
 
 -- "the whole class takes the value and nothing else moves"
 pub record Update (ts : List Tie) (target : ℕ) (v : Value) (now after : Cells) : Type 0 where

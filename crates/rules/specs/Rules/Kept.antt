@@ -18,13 +18,9 @@ use Rattle.rules.specs.Rules.Constraints.{ConstraintIs}
 use Rattle.rules.specs.Rules.Identities.{Same}
 use Rattle.rules.specs.Rules.Proposals.{Each, Met}
 
--- the value constraint at a position reads, and each of its required parts is true
-pub data ValueStands (program : List ℤ) (S : Cells) (position : ℕ) : Type 0 where
-  stands : {parts : List Part} → ConstraintIs S (drop (position + 1) program) parts → Each Met parts → ValueStands program S position
-
--- it holds; an identity holds where both sides hold the same reference, or nil
+-- what is kept at a position holds: a value constraint reads, and each of its required parts is true; both sides of an identity hold the same reference, or nil
 abbrev pub KeptStands : List ℤ → Cells → Sort × ℕ → Type 0
-KeptStands program S (Values, position) = ValueStands program S position
+KeptStands program S (Values, position) = (parts : List Part) × (ConstraintIs S (drop (position + 1) program) parts × Each Met parts)
 KeptStands program S (Identities, position) = Same S (drop (position + 1) program)
 
 -- "values before identities, in kept order"

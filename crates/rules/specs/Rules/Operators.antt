@@ -1,9 +1,9 @@
 -- The operators' table (01, "Operators: 1 +, 2 -, 3 ×, 4 <, 5 ≤, 6 =, 7 ≠, 8 ≥, 9 >, 10 and, 11 or"; 000, T-OP and E-OP).
 -- Assumes nothing: these are definitions.
 use mathlib.Core.Path.{_≡_}
-use mathlib.Core.Logic.{_≢_}
+use mathlib.Core.Logic.{_≢_, _↔_}
 use Prim.Native.Nat.{ℕ, _≤_}
-use mathlib.Core.Bool.{Bool, true, false, _&&_, _||_}
+use mathlib.Core.Bool.{Bool, true, _&&_, _||_}
 use lib.IntN.{ℤ, _+ℤ_, _-ℤ_, _*ℤ_}
 use lib.Signed.{ltZ, leZ}
 use Rattle.words.specs.Range.{fits}
@@ -28,10 +28,8 @@ pub data Makes : ℕ → Value → Value → Value → Type 0 where
   less : {m n : ℤ} → Makes 4 (Int m) (Int n) (Truth (ltZ m n))
   at-most : {m n : ℤ} → Makes 5 (Int m) (Int n) (Truth (leZ m n))
   -- "6 and 7 any two values but references"; "unlike kinds are unequal"
-  equal : {a b : Value} → kindOf a ≢ isRef → kindOf b ≢ isRef → a ≡ b → Makes 6 a b (Truth true)
-  not-equal : {a b : Value} → kindOf a ≢ isRef → kindOf b ≢ isRef → a ≢ b → Makes 6 a b (Truth false)
-  unequal : {a b : Value} → kindOf a ≢ isRef → kindOf b ≢ isRef → a ≢ b → Makes 7 a b (Truth true)
-  not-unequal : {a b : Value} → kindOf a ≢ isRef → kindOf b ≢ isRef → a ≡ b → Makes 7 a b (Truth false)
+  equal : {a b : Value} {t : Bool} → kindOf a ≢ isRef → kindOf b ≢ isRef → (t ≡ true) ↔ (a ≡ b) → Makes 6 a b (Truth t)
+  unequal : {a b : Value} {t : Bool} → kindOf a ≢ isRef → kindOf b ≢ isRef → (t ≡ true) ↔ (a ≢ b) → Makes 7 a b (Truth t)
   at-least : {m n : ℤ} → Makes 8 (Int m) (Int n) (Truth (leZ n m))
   more : {m n : ℤ} → Makes 9 (Int m) (Int n) (Truth (ltZ n m))
   both : {a b : Bool} → Makes 10 (Truth a) (Truth b) (Truth (a && b))

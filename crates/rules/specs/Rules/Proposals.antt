@@ -10,6 +10,7 @@ use Rattle.tables.specs.Sizes.{locations}
 use Rattle.tables.specs.Values.{cell}
 use Rattle.tables.specs.Cells.{Cells, cellAt, putCell}
 use Rattle.program.specs.Forms.{required}
+use Rattle.rules.specs.State.{Fault, refused}
 use Rattle.rules.specs.Constraints.{Part}
 use Rattle.rules.specs.Proposals.{Entry, Asked}
 use Rattle.rules.specs.Rules.Constraints.{CountedAre, Uncounted}
@@ -75,8 +76,9 @@ pub data Fails (program kept : List ℤ) (asked : Asked) (S : Cells) (before : L
   not-met : {es : List Entry} {rest : List ℤ} {Z : Cells} {after : List Part} → Formed ws es rest → Each (Allowed S (asked .target)) es → Needed before es
       → Puts S es Z → CountedAre program kept Z (asked .own) after → (Each Met after → ⊥) → Fails program kept asked S before ws 19
 
-pub data Unsettled (program kept : List ℤ) (asked : Asked) (S : Cells) (ws : List ℤ) : ℕ → Type 0 where
-  uncounted : {n : ℕ} → Uncounted program kept S (asked .own) n → Unsettled program kept asked S ws n
-  no-room : {before : List Part} → CountedAre program kept S (asked .own) before → asked .room ≡ false → Unsettled program kept asked S ws 14
+-- `word` is the part at the statement's word
+pub data Unsettled (program kept : List ℤ) (asked : Asked) (word : List ℤ) (S : Cells) (ws : List ℤ) : Fault → Type 0 where
+  uncounted : {f : Fault} → Uncounted program kept S (asked .own) f → Unsettled program kept asked word S ws f
+  no-room : {before : List Part} → CountedAre program kept S (asked .own) before → asked .room ≡ false → Unsettled program kept asked word S ws (refused 14 word)
   turned-down : {n : ℕ} {before : List Part}
-      → CountedAre program kept S (asked .own) before → asked .room ≡ true → Fails program kept asked S before ws n → Unsettled program kept asked S ws n
+      → CountedAre program kept S (asked .own) before → asked .room ≡ true → Fails program kept asked S before ws n → Unsettled program kept asked word S ws (refused n word)

@@ -1,7 +1,7 @@
 -- The rules of statements that hold no block (000, 6.1.2, narrowed by document 01): which are accepted and what they leave, which are refused and with which number.
 -- p is the part that begins at the statement's word. Assumes nothing: these are definitions.
 use mathlib.Core.Path.{_≡_}
-use mathlib.Core.Logic.{_≢_}
+use mathlib.Core.Logic.{_≢_, _↔_}
 use Prim.Native.Nat.{ℕ, suc, _+_, _<_, _≤_}
 use mathlib.Core.Bool.{Bool, true, false}
 use mathlib.Core.List.{List, [], _∷_}
@@ -19,7 +19,7 @@ use Rattle.tables.specs.Cells.{Cells, cellAt}
 use Rattle.tables.specs.Records.{recordCount, countAt, labelAt}
 use Rattle.tables.specs.Kept.{mostKept, keptCount, isKept, withPosition}
 use Rattle.program.specs.Forms.{expressionDepth}
-use Rattle.rules.specs.State.{State}
+use Rattle.rules.specs.State.{State, Fault, refused}
 use Rattle.rules.specs.Paths.{Way}
 use Rattle.rules.specs.Proposals.{Asked}
 use Rattle.rules.specs.Statements.{Left, positionOf}
@@ -36,9 +36,9 @@ pub data FieldsAre (S : Cells) : ℕ → List ℤ → List (ℕ × Value) → Ty
       → label < labels → Within S expressionDepth p v q → FieldsAre S n q fs → FieldsAre S (suc n) (pos label ∷ p) ((label, v) ∷ fs)
 
 -- 7, 8, 9 in one of them, "as met"
-pub data FieldsMeet (S : Cells) : ℕ → List ℤ → ℕ → Type 0 where
-  first : {m n label : ℕ} {p : List ℤ} → label < labels → Meets S expressionDepth p n → FieldsMeet S (suc m) (pos label ∷ p) n
-  later : {m n label : ℕ} {v : Value} {p q : List ℤ} → label < labels → Within S expressionDepth p v q → FieldsMeet S m q n → FieldsMeet S (suc m) (pos label ∷ p) n
+pub data FieldsMeet (S : Cells) : ℕ → List ℤ → Fault → Type 0 where
+  first : {m label : ℕ} {f : Fault} {p : List ℤ} → label < labels → Meets S false expressionDepth p f → FieldsMeet S (suc m) (pos label ∷ p) f
+  later : {m label : ℕ} {f : Fault} {v : Value} {p q : List ℤ} → label < labels → Within S expressionDepth p v q → FieldsMeet S m q f → FieldsMeet S (suc m) (pos label ∷ p) f
 
 -- record r has these fields, from field place f on
 pub data Written (S : Cells) (r : ℕ) : ℕ → List (ℕ × Value) → Type 0 where
@@ -59,15 +59,10 @@ pub record Adds (S : Cells) (fs : List (ℕ × Value)) (now : Cells) : Type 0 wh
 
 -- ---- a position that is kept
 
--- "A position already kept is not added again"
+-- "A position already kept is not added again"; 14, where there is none, "no room for a position not yet kept"
 pub data Keeps (kept : List ℤ) (s : Sort) (position : ℕ) : List ℤ → Type 0 where
   again : isKept kept s position ≡ true → Keeps kept s position kept
   added : isKept kept s position ≡ false → keptCount kept s < mostKept s → Keeps kept s position (withPosition kept s position)
-
--- whether there is room; 14 "no room for a position not yet kept"
-pub data Room (kept : List ℤ) (s : Sort) (position : ℕ) : Bool → Type 0 where
-  room : {after : List ℤ} → Keeps kept s position after → Room kept s position true
-  full : isKept kept s position ≡ false → mostKept s ≤ keptCount kept s → Room kept s position false
 
 -- ---- accepted
 
@@ -106,21 +101,20 @@ pub data Steps (program : List ℤ) (S : State) (ws : List ℤ) : List ℤ → L
       → Same (S .cells) p → Keeps (S .kept) Identities (positionOf program (pos 5 ∷ p)) kept → Steps program S ws (pos 5 ∷ p) (leaves (S .cells) kept ws 0)
   s-once-identity : {p : List ℤ} → Same (S .cells) p → Steps program S ws (pos 6 ∷ p) (leaves (S .cells) (S .kept) ws 0)
 
--- ---- refused: "the expressions in reading order (7, 8, 9 as met); the target path (7); 10; 13; 12; 15; 14; 6; 16; 17; 18; 19"; each has what comes before it
+-- ---- refused, and the word at fault: "the expressions in reading order (7, 8, 9 as met); the target path (7); 10; 13; 12; 15; 14; 6; 16; 17; 18; 19"; each has what comes before it
 
-pub data Refused (program : List ℤ) (S : State) (ws : List ℤ) : List ℤ → ℕ → Type 0 where
-  f-value : {n : ℕ} {p : List ℤ} → Meets (S .cells) expressionDepth (pastPath p) n → Refused program S ws (pos 1 ∷ p) n
-  f-target : {v : Value} {p r : List ℤ} → Within (S .cells) expressionDepth (pastPath p) v r → Astray (S .cells) p → Refused program S ws (pos 1 ∷ p) 7
-  f-field : {x m n : ℕ} {p : List ℤ} → x < variables → m ≤ mostFields → FieldsMeet (S .cells) m p n → Refused program S ws (pos 2 ∷ pos x ∷ pos m ∷ p) n
-  f-full : {x m : ℕ} {fs : List (ℕ × Value)} {p : List ℤ}
-      → x < variables → m ≤ mostFields → FieldsAre (S .cells) m p fs → mostRecords ≤ recordCount (S .cells .heap) → Refused program S ws (pos 2 ∷ pos x ∷ pos m ∷ p) 10
+pub data Refused (program : List ℤ) (S : State) (ws : List ℤ) : List ℤ → Fault → Type 0 where
+  f-value : {f : Fault} {p : List ℤ} → Meets (S .cells) false expressionDepth (pastPath p) f → Refused program S ws (pos 1 ∷ p) f
+  f-target : {v : Value} {p r : List ℤ} → Within (S .cells) expressionDepth (pastPath p) v r → Astray (S .cells) p → Refused program S ws (pos 1 ∷ p) (refused 7 p)
+  f-field : {x m : ℕ} {f : Fault} {p : List ℤ} → x < variables → m ≤ mostFields → FieldsMeet (S .cells) m p f → Refused program S ws (pos 2 ∷ pos x ∷ pos m ∷ p) f
+  f-full : {x m : ℕ} {fs : List (ℕ × Value)} {p : List ℤ} → x < variables → m ≤ mostFields → FieldsAre (S .cells) m p fs
+      → mostRecords ≤ recordCount (S .cells .heap) → Refused program S ws (pos 2 ∷ pos x ∷ pos m ∷ p) (refused 10 (pos 2 ∷ pos x ∷ pos m ∷ p))
   f-phase : {n target : ℕ} {prefix : List ℕ} {v : Value} {N : Cells} {p : List ℤ}
-      → Gives (S .cells) p target prefix v N → PhaseFails program (S .kept) (S .cells) target prefix v n → Refused program S ws p n
-  f-given : {n target : ℕ} {prefix : List ℕ} {v : Value} {N Y : Cells} {p : List ℤ} → Gives (S .cells) p target prefix v N → Phase program (S .kept) (S .cells) N target prefix v Y
-      → Unsettled program (S .kept) (asking none (some target) true) Y ws n → Refused program S ws p n
-  f-always : {b : Bool} {n : ℕ} {p : List ℤ} → Room (S .kept) Values (positionOf program (pos 3 ∷ p)) b
-      → Unsettled program (S .kept) (asking (some p) none b) (S .cells) ws n → Refused program S ws (pos 3 ∷ p) n
-  f-once : {n : ℕ} {p : List ℤ} → Unsettled program (S .kept) (asking (some p) none true) (S .cells) ws n → Refused program S ws (pos 4 ∷ p) n
-  f-always-identity : {n : ℕ} {p : List ℤ} → Unsame (S .cells) p n → Refused program S ws (pos 5 ∷ p) n
-  f-unkept : {p : List ℤ} → Same (S .cells) p → Room (S .kept) Identities (positionOf program (pos 5 ∷ p)) false → Refused program S ws (pos 5 ∷ p) 14
-  f-once-identity : {n : ℕ} {p : List ℤ} → Unsame (S .cells) p n → Refused program S ws (pos 6 ∷ p) n
+      → Gives (S .cells) p target prefix v N → PhaseFails program (S .kept) (S .cells) target prefix v n → Refused program S ws p (refused n p)
+  f-given : {target : ℕ} {prefix : List ℕ} {v : Value} {N Y : Cells} {f : Fault} {p : List ℤ} → Gives (S .cells) p target prefix v N → Phase program (S .kept) (S .cells) N target prefix v Y
+      → Unsettled program (S .kept) (asking none (some target) true) p Y ws f → Refused program S ws p f
+  f-always : {b : Bool} {f : Fault} {p : List ℤ} → (b ≡ true) ↔ ((after : List ℤ) × Keeps (S .kept) Values (positionOf program (pos 3 ∷ p)) after)
+      → Unsettled program (S .kept) (asking (some p) none b) (pos 3 ∷ p) (S .cells) ws f → Refused program S ws (pos 3 ∷ p) f
+  f-once : {f : Fault} {p : List ℤ} → Unsettled program (S .kept) (asking (some p) none true) (pos 4 ∷ p) (S .cells) ws f → Refused program S ws (pos 4 ∷ p) f
+  f-identity : {verb : ℕ} {f : Fault} {p : List ℤ} → 5 ≤ verb → verb ≤ 6 → Unsame (S .cells) (pos verb ∷ p) p f → Refused program S ws (pos verb ∷ p) f
+  f-unkept : {p : List ℤ} → Same (S .cells) p → ((after : List ℤ) → Keeps (S .kept) Identities (positionOf program (pos 5 ∷ p)) after → ⊥) → Refused program S ws (pos 5 ∷ p) (refused 14 (pos 5 ∷ p))

@@ -1,14 +1,17 @@
 -- Which refusals a statement may give, by its verb. Assumes nothing: these are statements.
 use Prim.Native.Nat.{ℕ, _≤_}
 use mathlib.Core.Path.{_≡_}
-use mathlib.Core.Bool.{true}
-use mathlib.Core.List.{List, [], _∷_}
+use mathlib.Core.Bool.{Bool, true}
+use mathlib.Core.List.{List, [], _∷_, List·Memᴰ as OneOf}
 use lib.IntN.{ℤ}
 use Rattle.words.specs.Words.{numberAt}
 use Rattle.program.specs.Forms.{Verb, skip, assign, new, always, once, alwaysSame, onceSame, branch, loop, noVerb, verbOf}
 use Rattle.rules.specs.State.{State}
 use Rattle.rules.specs.Identities.{member}
 use Rattle.rules.specs.Start.{Ended}
+use Rattle.rules.specs.Statements.{positionOf}
+use Rattle.rules.specs.Rules.Kept.{AtStatement}
+use Rattle.rules.specs.Claims.Answers.{Found}
 use Rattle.rules.specs.Rules.Answers.{Answered}
 
 -- the outcomes with which a statement may be refused, besides 5, by its verb
@@ -24,7 +27,13 @@ refusals branch = 7 ∷ 8 ∷ 9 ∷ []
 refusals loop = 7 ∷ 8 ∷ 9 ∷ []
 refusals noVerb = []
 
--- from 5 on, the outcome is one of those of the statement at the place
+-- from 5 on, the outcome is one of those of a statement of the program, whose word is the place, or in which 7, 8 or 9 is found there
+pub record Refusing (program : List ℤ) (e : Ended) : Type 0 where
+  pub part : List ℤ
+  pub at : AtStatement program part
+  pub verb : member (e .outcome) (5 ∷ refusals (verbOf (numberAt part 0))) ≡ true
+  pub own : (OneOf (e .outcome) (7 ∷ 8 ∷ 9 ∷ 15 ∷ []) → ⊥) → e .place ≡ positionOf program part
+  pub inner : OneOf (e .outcome) (7 ∷ 8 ∷ 9 ∷ []) → (c : Bool) × Found program (e .state .cells) (e .outcome) (e .place) c part
+
 abbrev pub ByVerb : Type 0
-ByVerb = (program ws : List ℤ) (budget : ℤ) (S : State) (e : Ended)
-    → Answered program ws budget S e → 5 ≤ e .outcome → member (e .outcome) (5 ∷ refusals (verbOf (numberAt program (e .place)))) ≡ true
+ByVerb = (program ws : List ℤ) (budget : ℤ) (S : State) (e : Ended) → Answered program ws budget S e → 5 ≤ e .outcome → Refusing program e

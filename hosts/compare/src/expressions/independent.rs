@@ -1,11 +1,11 @@
 //! The independent program's answers for pieces.
 
-use super::faults::{self, Fault};
 use super::held;
 use super::unread;
 use crate::proved::{Call, Four, Piece, Pieces};
-use reference::constraints::{all_parts_hold, required_parts_hold};
+use reference::constraints::{all_parts_hold, reads, required_parts_hold};
 use reference::evaluate;
+use reference::outcome::Fault;
 use reference::program::{Constraint, Expression, Path};
 use reference::tables::Tables;
 
@@ -46,8 +46,8 @@ impl Asked<'_> {
         i32::try_from(self.words.len().saturating_sub(word)).unwrap_or(i32::MAX)
     }
 
-    fn refused(&self, fault: Fault) -> Four {
-        [fault.outcome.number(), self.left(fault.word), 0, 0]
+    fn refused(&self, fault: Fault) -> Option<Four> {
+        Some([fault.outcome.number(), self.left(fault.word?), 0, 0])
     }
 
     fn unread(&self, refusal: Option<(i32, usize)>) -> Option<Four> {
@@ -58,10 +58,10 @@ impl Asked<'_> {
     fn path(&self, start: usize) -> Option<Four> {
         let leads = |path: &Path| evaluate::locate(self.tables, path).is_ok();
         match Path::decode(self.words, start) {
-            Ok((path, next)) => Some(match evaluate::locate(self.tables, &path) {
-                Ok(cell) => [0, number(cell), self.left(next), 0],
-                Err(_) => self.refused(faults::of_path(self.tables, &path)?),
-            }),
+            Ok((path, next)) => match evaluate::locate(self.tables, &path) {
+                Ok(cell) => Some([0, number(cell), self.left(next), 0]),
+                Err(fault) => self.refused(fault),
+            },
             Err(place) => {
                 let path = unread::completed(self.words, start, place, Path::decode)?;
                 let refusal = unread::refusal(self.words, place, None, &[&path], leads);
@@ -72,30 +72,30 @@ impl Asked<'_> {
 
     fn expression(&self, start: usize) -> Option<Four> {
         match Expression::decode(self.words, start) {
-            Ok((expression, next)) => Some(match evaluate::value(self.tables, &expression) {
+            Ok((expression, next)) => match evaluate::value(self.tables, &expression) {
                 Ok(value) => {
                     let (kind, payload) = value.words();
-                    [0, kind, payload, self.left(next)]
+                    Some([0, kind, payload, self.left(next)])
                 }
-                Err(_) => self.refused(faults::of_value(self.tables, &expression)?),
-            }),
+                Err(fault) => self.refused(fault),
+            },
             Err(place) => self.unread_expression(start, place),
         }
     }
 
     fn test(&self, start: usize) -> Option<Four> {
         match Expression::decode(self.words, start) {
-            Ok((expression, _)) => Some(match evaluate::test(self.tables, &expression) {
-                Ok(truth) => [0, i32::from(truth), 0, 0],
-                Err(_) => self.refused(faults::of_test(self.tables, &expression)?),
-            }),
+            Ok((expression, _)) => match evaluate::test(self.tables, &expression) {
+                Ok(truth) => Some([0, i32::from(truth), 0, 0]),
+                Err(fault) => self.refused(fault),
+            },
             Err(place) => self.unread_expression(start, place),
         }
     }
 
     fn unread_expression(&self, start: usize, place: usize) -> Option<Four> {
         let expression = unread::completed(self.words, start, place, Expression::decode)?;
-        let fault = faults::of_value(self.tables, &expression);
+        let fault = evaluate::value(self.tables, &expression).err();
         let paths = unread::paths(&expression);
         self.unread(unread::refusal(self.words, place, fault, &paths, |path| {
             evaluate::read(self.tables, path).is_ok()
@@ -104,26 +104,26 @@ impl Asked<'_> {
 
     fn constraint(&self, start: usize) -> Option<Four> {
         let place = match Constraint::decode(self.words, start) {
-            Ok((constraint, _)) => return Some(self.weighed(&constraint)),
+            Ok((constraint, _)) => return self.weighed(&constraint),
             Err(place) => place,
         };
         let constraint = unread::completed(self.words, start, place, Constraint::decode)?;
-        let fault = faults::of_constraint(self.tables, &constraint);
+        let fault = reads(self.tables, &constraint).err();
         let paths = unread::constraint_paths(&constraint);
         self.unread(unread::refusal(self.words, place, fault, &paths, |path| {
             evaluate::read(self.tables, path).is_ok()
         }))
     }
 
-    fn weighed(&self, constraint: &Constraint) -> Four {
-        match faults::of_constraint(self.tables, constraint) {
-            Some(fault) => self.refused(fault),
-            None => [
+    fn weighed(&self, constraint: &Constraint) -> Option<Four> {
+        match reads(self.tables, constraint) {
+            Err(fault) => self.refused(fault),
+            Ok(()) => Some([
                 0,
                 i32::from(all_parts_hold(self.tables, constraint)),
                 i32::from(required_parts_hold(self.tables, constraint)),
                 0,
-            ],
+            ]),
         }
     }
 

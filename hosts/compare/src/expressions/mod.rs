@@ -1,6 +1,5 @@
 //! Paths, expressions and constraints over generated tables: both answers.
 
-mod faults;
 pub mod grown;
 pub mod held;
 pub mod independent;

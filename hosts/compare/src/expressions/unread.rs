@@ -1,8 +1,8 @@
 //! Words that do not read: what comes before the first unfit word may be
 //! refused first, as pieces are evaluated where they are met.
 
-use super::faults::{path_end, Fault};
 use super::held;
+use reference::outcome::{Fault, Outcome};
 use reference::program::{Constraint, Expression, Path, Term};
 
 /// Words that are fit where others are not, in the order in which they are tried.
@@ -50,10 +50,11 @@ pub fn refusal(
     paths: &[&Path],
     leads: impl Fn(&Path) -> bool,
 ) -> Option<(i32, usize)> {
-    if let Some(fault) = fault.filter(|fault| fault.end <= place) {
-        return Some((fault.outcome.number(), fault.word));
+    if let Some((outcome, word)) = fault.and_then(|fault| before(words.get(..place)?, fault)) {
+        return Some((outcome.number(), word));
     }
-    let holds = |path: &&&Path| path.position + 2 <= place && place < path_end(path);
+    let end = |path: &Path| path.position + 2 + path.labels.len();
+    let holds = |path: &&&Path| path.position + 2 <= place && place < end(path);
     let Some(path) = paths.iter().find(holds) else {
         return Some((2, place));
     };
@@ -64,6 +65,18 @@ pub fn refusal(
         labels: labels.collect(),
     };
     (!leads(&written)).then_some((7, path.position))
+}
+
+/// The outcome and word of a fault whose piece stands whole among the fit
+/// words: a path, an operation, or what follows a priority.
+fn before(fit: &[i32], fault: Fault) -> Option<(Outcome, usize)> {
+    let word = fault.word?;
+    let ends = match fault.outcome {
+        Outcome::NoCell => Path::decode(fit, word).is_ok(),
+        _ if fit.get(word) == Some(&25) => Expression::decode(fit, word).is_ok(),
+        _ => Expression::decode(fit, word + 1).is_ok(),
+    };
+    ends.then_some((fault.outcome, word))
 }
 
 pub fn paths(expression: &Expression) -> Vec<&Path> {
