@@ -30,7 +30,7 @@ use Rattle.rules.specs.Running.{test}
 use Rattle.rules.proofs.KeepLaws.{positions-iff}
 use Rattle.rules.proofs.EndLaws.{ends-got, ends-any, Fine, Any}
 use Rattle.rules.proofs.FineLaws.{Judged, assign-fine, new-fine, constraint-fine, identity-fine}
-use Rattle.rules.proofs.PlaceLaws.{verbIn}
+use Rattle.rules.proofs.VerbLaws.{verbIn}
 use Rattle.rules.proofs.ReadingLaws.{path-at, TieAt, tie-at, same-was, way-reads, same-reads, ties-read, evaluate-reads, test-reads, constraint-reads, fields-read}
 
 -- ---- the outcomes of a verb

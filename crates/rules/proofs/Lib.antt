@@ -57,7 +57,7 @@ pub mod ProposalLaws
 pub mod SettleRules
 pub mod OutLaws
 pub mod RefusalLaws
-pub mod PlaceLaws
+pub mod VerbLaws
 pub mod CountLaws
 pub mod RunLaws
 pub mod TieLaws

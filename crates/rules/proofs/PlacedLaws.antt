@@ -1,5 +1,6 @@
 -- The place of a refusal from 5 on: the statement's word, or, for 7, 8, 9 and 15, a word at which the number stands. Assumes nothing.
 use mathlib.Core.Path.{_≡_, refl, sym, ap, _∙_}
+use mathlib.Core.Logic.{_≢_}
 use Prim.Native.Nat.{ℕ, _+_, _-_, _≤_, _<_}
 use native.Mathlib.Omega.{arith}
 use native.Mathlib.Decide.{ℕ-discrete}
@@ -67,13 +68,31 @@ first-none (more p ps) (FirstNot.later q f) = first-none ps f
 abbrev pub inner-numbers : List ℕ
 inner-numbers = 7 ∷ 8 ∷ 9 ∷ 15 ∷ []
 
+abbrev seven : {n : ℕ} → n ≡ 7 → OneOf n inner-numbers
+seven e = List·Memᴰ·head e
+
+abbrev eight : {n : ℕ} → n ≡ 8 → OneOf n inner-numbers
+eight e = List·Memᴰ·tail (List·Memᴰ·head e)
+
+abbrev nine : {n : ℕ} → n ≡ 9 → OneOf n inner-numbers
+nine e = List·Memᴰ·tail (List·Memᴰ·tail (List·Memᴰ·head e))
+
+abbrev fifteen : {n : ℕ} → n ≡ 15 → OneOf n inner-numbers
+fifteen e = List·Memᴰ·tail (List·Memᴰ·tail (List·Memᴰ·tail (List·Memᴰ·head e)))
+
+inner-cases {ℓ} : {X : Type ℓ} {n : ℕ} → OneOf n inner-numbers → (n ≡ 7 → X) → (n ≡ 8 → X) → (n ≡ 9 → X) → (n ≡ 15 → X) → X
+inner-cases (List·Memᴰ·head e) a b c d = a e
+inner-cases (List·Memᴰ·tail (List·Memᴰ·head e)) a b c d = b e
+inner-cases (List·Memᴰ·tail (List·Memᴰ·tail (List·Memᴰ·head e))) a b c d = c e
+inner-cases (List·Memᴰ·tail (List·Memᴰ·tail (List·Memᴰ·tail (List·Memᴰ·head e)))) a b c d = d e
+
 wrong-number : {S : Cells} {c : Bool} {n : ℕ} {w : List ℤ} → Wrong S c n w → OneOf n inner-numbers
-wrong-number (path l) = List·Memᴰ·head refl
-wrong-number (operator (kinds a b x y never)) = List·Memᴰ·tail (List·Memᴰ·head refl)
-wrong-number (operator (range x y g never)) = List·Memᴰ·tail (List·Memᴰ·tail (List·Memᴰ·head refl))
-wrong-number (test x h) = List·Memᴰ·tail (List·Memᴰ·head refl)
-wrong-number (part x h) = List·Memᴰ·tail (List·Memᴰ·head refl)
-wrong-number (side x h) = List·Memᴰ·tail (List·Memᴰ·head refl)
+wrong-number (path l) = seven refl
+wrong-number (operator (kinds a b x y never)) = eight refl
+wrong-number (operator (range x y g never)) = nine refl
+wrong-number (test x h) = eight refl
+wrong-number (part x h) = eight refl
+wrong-number (side x h) = eight refl
 
 -- a number from 5 to 19 that is none of them
 abbrev outside : ℕ → Bool
@@ -222,10 +241,7 @@ found-number (in-statement a b c w) = wrong-number w
 found-number (in-test a b c d w) = wrong-number w
 
 pub inner-range : {n : ℕ} → OneOf n inner-numbers → (5 ≤ n) × (n ≤ 19)
-inner-range (List·Memᴰ·head e) = (omega arith, omega arith)
-inner-range (List·Memᴰ·tail (List·Memᴰ·head e)) = (omega arith, omega arith)
-inner-range (List·Memᴰ·tail (List·Memᴰ·tail (List·Memᴰ·head e))) = (omega arith, omega arith)
-inner-range (List·Memᴰ·tail (List·Memᴰ·tail (List·Memᴰ·tail (List·Memᴰ·head e)))) = (omega arith, omega arith)
+inner-range o = inner-cases o (λ e. (omega arith, omega arith)) (λ e. (omega arith, omega arith)) (λ e. (omega arith, omega arith)) (λ e. (omega arith, omega arith))
 
 module _ (n : ℕ) (h : outside n ≡ true) where
   abbrev low : Bool
@@ -238,10 +254,7 @@ module _ (n : ℕ) (h : outside n ≡ true) where
   outside-range = (leb-true 5 n (and-left (leb 5 n) (leb n 19) (and-left low high h)), leb-true n 19 (and-right (leb 5 n) (leb n 19) (and-left low high h)))
 
   outside-apart : OneOf n inner-numbers → ⊥
-  outside-apart (List·Memᴰ·head e) = true≢false (sym h ∙ rw e)
-  outside-apart (List·Memᴰ·tail (List·Memᴰ·head e)) = true≢false (sym h ∙ rw e)
-  outside-apart (List·Memᴰ·tail (List·Memᴰ·tail (List·Memᴰ·head e))) = true≢false (sym h ∙ rw e)
-  outside-apart (List·Memᴰ·tail (List·Memᴰ·tail (List·Memᴰ·tail (List·Memᴰ·head e)))) = true≢false (sym h ∙ rw e)
+  outside-apart o = inner-cases o (λ e. true≢false (sym h ∙ rw e)) (λ e. true≢false (sym h ∙ rw e)) (λ e. true≢false (sym h ∙ rw e)) (λ e. true≢false (sym h ∙ rw e))
 
 -- the number is from 5 to 19
 pub placed-range : {program p : List ℤ} {S : State} {n place : ℕ} → Placed program S p n place → (5 ≤ n) × (n ≤ 19)
@@ -253,27 +266,17 @@ placed-range (in-kept e i) = (omega arith, omega arith)
 pub placed-own : {program p : List ℤ} {S : State} {n place : ℕ} → Placed program S p n place → (OneOf n inner-numbers → ⊥) → place ≡ positionOf program p
 placed-own (plain e h) k = e
 placed-own (inner f) k = absurd (k (found-number f))
-placed-own (in-kept e i) k = absurd (k (List·Memᴰ·tail (List·Memᴰ·tail (List·Memᴰ·tail (List·Memᴰ·head e)))))
+placed-own (in-kept e i) k = absurd (k (fifteen e))
 
 pub placed-inside : {program p : List ℤ} {S : State} {n place : ℕ} → AtStatement program p → Placed program S p n place → OneOf n inner-numbers → Inside program S place n
 placed-inside {n = n} a (plain e h) o = absurd (outside-apart n h o)
 placed-inside a (inner f) o = of-statement a f
 placed-inside a (in-kept e i) o = rw e i
 
-pub placed-found : {program p : List ℤ} {S : State} {n place : ℕ} → Placed program S p n place → OneOf n (7 ∷ 8 ∷ 9 ∷ []) → (c : Bool) × Found program (S .cells) n place c p
-placed-found {n = n} (plain e h) o = absurd (outside-apart n h (widened o))
-  where
-    widened : OneOf n (7 ∷ 8 ∷ 9 ∷ []) → OneOf n inner-numbers
-    widened (List·Memᴰ·head i) = List·Memᴰ·head i
-    widened (List·Memᴰ·tail (List·Memᴰ·head i)) = List·Memᴰ·tail (List·Memᴰ·head i)
-    widened (List·Memᴰ·tail (List·Memᴰ·tail (List·Memᴰ·head i))) = List·Memᴰ·tail (List·Memᴰ·tail (List·Memᴰ·head i))
-placed-found (inner {c = c} f) o = (c, f)
-placed-found {n = n} (in-kept e i) o = absurd (never o)
-  where
-    never : OneOf n (7 ∷ 8 ∷ 9 ∷ []) → ⊥
-    never (List·Memᴰ·head i) = omega arith
-    never (List·Memᴰ·tail (List·Memᴰ·head i)) = omega arith
-    never (List·Memᴰ·tail (List·Memᴰ·tail (List·Memᴰ·head i))) = omega arith
+pub placed-found : {program p : List ℤ} {S : State} {n place : ℕ} → Placed program S p n place → OneOf n inner-numbers → n ≢ 15 → (c : Bool) × Found program (S .cells) n place c p
+placed-found {n = n} (plain e h) o k = absurd (outside-apart n h o)
+placed-found (inner {c = c} f) o k = (c, f)
+placed-found (in-kept e i) o k = absurd (k e)
 
 -- ---- a place inside the line is inside the program
 
@@ -288,15 +291,9 @@ inside-short (of-kept a g h k f) = found-short f
 pub inner-or : (n : ℕ) → Dec (OneOf n inner-numbers)
 inner-or n = go (ℕ-discrete n 7) (ℕ-discrete n 8) (ℕ-discrete n 9) (ℕ-discrete n 15)
   where
-    none-of : (n ≡ 7 → ⊥) → (n ≡ 8 → ⊥) → (n ≡ 9 → ⊥) → (n ≡ 15 → ⊥) → OneOf n inner-numbers → ⊥
-    none-of a b c d (List·Memᴰ·head e) = a e
-    none-of a b c d (List·Memᴰ·tail (List·Memᴰ·head e)) = b e
-    none-of a b c d (List·Memᴰ·tail (List·Memᴰ·tail (List·Memᴰ·head e))) = c e
-    none-of a b c d (List·Memᴰ·tail (List·Memᴰ·tail (List·Memᴰ·tail (List·Memᴰ·head e)))) = d e
-
     go : Dec (n ≡ 7) → Dec (n ≡ 8) → Dec (n ≡ 9) → Dec (n ≡ 15) → Dec (OneOf n inner-numbers)
-    go (yes e) b c d = yes (List·Memᴰ·head e)
-    go (no a) (yes e) c d = yes (List·Memᴰ·tail (List·Memᴰ·head e))
-    go (no a) (no b) (yes e) d = yes (List·Memᴰ·tail (List·Memᴰ·tail (List·Memᴰ·head e)))
-    go (no a) (no b) (no c) (yes e) = yes (List·Memᴰ·tail (List·Memᴰ·tail (List·Memᴰ·tail (List·Memᴰ·head e))))
-    go (no a) (no b) (no c) (no d) = no (none-of a b c d)
+    go (yes e) b c d = yes (seven e)
+    go (no a) (yes e) c d = yes (eight e)
+    go (no a) (no b) (yes e) d = yes (nine e)
+    go (no a) (no b) (no c) (yes e) = yes (fifteen e)
+    go (no a) (no b) (no c) (no d) = no λ o. inner-cases o a b c d

@@ -27,7 +27,7 @@ use Rattle.rules.specs.Steps.Holds.{StatementThere}
 use Rattle.rules.specs.Rules.Kept.{AtStatement, at}
 use Rattle.rules.specs.Rules.Runs.{Code, block, statements, statement, turning}
 use Rattle.rules.proofs.RunningClauses.{Simple, is-skip, is-assign, is-new, is-always, is-once, is-always-same, is-once-same, verb-simple}
-use Rattle.rules.proofs.PlaceLaws.{verbIn, verb-in}
+use Rattle.rules.proofs.VerbLaws.{verbIn, verb-in}
 use Rattle.rules.proofs.SpotLaws.{append-part, long, row-finds, row-goes-on, spot-in-loop, spot-in-branch, row-starts, at-nowhere, Found, block-found, out-statement, out-block}
 
 -- this code is of the program

@@ -33,7 +33,7 @@ use Rattle.rules.specs.Running.{test}
 use Rattle.rules.proofs.WordSteps.{reads-got}
 use Rattle.rules.proofs.EndLaws.{ends-got, ends-then, ends-on, ends-want, ends-test, ends-any, Fine, Any, fine-refused, fine-at}
 use Rattle.rules.proofs.FineLaws.{apply-fine}
-use Rattle.rules.proofs.PlaceLaws.{told-apart}
+use Rattle.rules.proofs.VerbLaws.{told-apart}
 
 -- ---- a path that reads, whatever the state is
 

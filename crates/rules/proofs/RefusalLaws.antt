@@ -4,7 +4,6 @@ use Prim.Native.Nat.{ℕ, zero, suc, _+_, _-_, _≤_}
 use native.Mathlib.Omega.{arith}
 use mathlib.Core.Bool.{true, false}
 use mathlib.Core.List.{List, [], _∷_}
-use mathlib.Core.Option.{Option, none, some}
 use lib.IntN.{ℤ}
 use lib.ListN.{drop}
 use Rattle.words.specs.Words.{numberAt}
@@ -20,7 +19,7 @@ use Rattle.rules.specs.State.{State, Res, refused, reads, orRefuse, slot
 use Rattle.rules.specs.Paths.{follow, wayAt, valueAt}
 use Rattle.rules.specs.Evaluation.{Kind, opOf, kindOf, takes, aBool, same, apply, at}
 use Rattle.rules.specs.Evaluation.{evaluateForm, evaluate, kindForm, kind}
-use Rattle.rules.specs.Constraints.{partAt, partsAt, constraintAt, ownParts}
+use Rattle.rules.specs.Constraints.{partAt, partsAt, constraintAt}
 use Rattle.rules.specs.Identities.{isNode, sameNow, tieAt, tiesOf, ties}
 use Rattle.rules.specs.Statements.{fieldWords, doSimple}
 use Rattle.rules.specs.Running.{test}
@@ -35,10 +34,6 @@ pub data Refusal (n : ℕ) : Type 0 where
 pub refusal-least : {n : ℕ} → Refusal n → 2 ≤ n
 refusal-least (told a b) = omega arith
 refusal-least (unread e) = omega arith
-
-pub refusal-most : {n : ℕ} → Refusal n → n ≤ 19
-refusal-most (told a b) = b
-refusal-most (unread e) = omega arith
 
 -- a step that refuses with one of these
 abbrev pub Refuses : {A : Type 0} → Res A → Type 0
@@ -147,11 +142,6 @@ module _ (S : Cells) where
   constraint-refuses p =
       ends-then (reads (number 1 mostParts p)) _ (fine-reads Refusal (number 1 mostParts p) two) λ x u.
       ends-then (partsAt (x .0) S (x .1)) _ (parts-refuse (x .0) (x .1)) λ y v. ends-got tt
-
-  own-refuses : (own : Option (List ℤ)) → Refuses (ownParts S own)
-  unfolding ownParts
-  own-refuses none = ends-got tt
-  own-refuses (some p) = constraint-refuses p
 
   -- ---- identities
 

@@ -38,7 +38,7 @@ use Rattle.rules.specs.Rules.Statements.{f-always, f-once, f-identity, f
 use Rattle.rules.specs.Steps.Holds.{Holds, StatementThere}
 use Rattle.rules.proofs.OperatorLaws.{agree}
 use Rattle.rules.proofs.EvaluationLaws.{evaluate-iff}
-use Rattle.rules.proofs.PlaceLaws.{verb-in}
+use Rattle.rules.proofs.VerbLaws.{verb-in}
 use Rattle.rules.proofs.KeptReading.{Listed, two-not-listed, ties-are-read, simple-reads}
 use Rattle.rules.proofs.TieLaws.{same-iff}
 use Rattle.rules.proofs.AddLaws.{fields-complete}

@@ -22,7 +22,7 @@ use Rattle.program.proofs.FormLaws.{numberOfVerb}
 use Rattle.program.proofs.LengthLaws.{Part, part-refl, part-trans, part-drop, after-got}
 use Rattle.program.proofs.GrammarLaws.{expression-complete, yields-complete}
 use Rattle.program.proofs.WhereLaws.{spot-here, spot-loop, spot-branch, spot-none, Looking, looking-starts, looking-finds, looking-goes-on, looking-ends}
-use Rattle.rules.proofs.PlaceLaws.{verbIn, verb-first}
+use Rattle.rules.proofs.VerbLaws.{verbIn, verb-first}
 
 -- what is left after words is a part
 pub append-part : (xs ys : List ℤ) → Part (xs ++ ys) ys

@@ -20,7 +20,7 @@ use Rattle.program.proofs.GrammarLaws.{path-complete}
 use Rattle.program.proofs.GrammarSound.{statement-sound}
 use Rattle.rules.specs.Rules.Statements.{pastPath}
 use Rattle.rules.specs.Steps.Holds.{StatementThere}
-use Rattle.rules.proofs.PlaceLaws.{verb-back, verb-none, told-apart}
+use Rattle.rules.proofs.VerbLaws.{verb-back, verb-none, told-apart}
 
 -- ---- its word, and its verb
 

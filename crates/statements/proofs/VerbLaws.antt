@@ -10,7 +10,7 @@ use Rattle.program.specs.Grammar.{Labels, Path, Expression, Parts, Constraint, 
 use Rattle.program.proofs.FormLaws.{numberOfVerb, verb-number}
 use Rattle.rules.specs.State.{State, Res, refuse}
 use Rattle.rules.specs.Statements.{Left, doSimple}
-use Rattle.rules.proofs.PlaceLaws.{verbIn, verb-in}
+use Rattle.rules.proofs.VerbLaws.{verbIn, verb-in}
 use Rattle.rules.proofs.StatementClauses.{simple-branch, simple-loop, simple-none}
 
 -- ---- a statement of each verb

@@ -1,6 +1,7 @@
 -- Which refusals a statement may give, by its verb. Assumes nothing: these are statements.
 use Prim.Native.Nat.{ℕ, _≤_}
 use mathlib.Core.Path.{_≡_}
+use mathlib.Core.Logic.{_≢_}
 use mathlib.Core.Bool.{Bool, true}
 use mathlib.Core.List.{List, [], _∷_, List·Memᴰ as OneOf}
 use lib.IntN.{ℤ}
@@ -33,7 +34,7 @@ pub record Refusing (program : List ℤ) (e : Ended) : Type 0 where
   pub at : AtStatement program part
   pub verb : member (e .outcome) (5 ∷ refusals (verbOf (numberAt part 0))) ≡ true
   pub own : (OneOf (e .outcome) (7 ∷ 8 ∷ 9 ∷ 15 ∷ []) → ⊥) → e .place ≡ positionOf program part
-  pub inner : OneOf (e .outcome) (7 ∷ 8 ∷ 9 ∷ []) → (c : Bool) × Found program (e .state .cells) (e .outcome) (e .place) c part
+  pub inner : OneOf (e .outcome) (7 ∷ 8 ∷ 9 ∷ 15 ∷ []) → e .outcome ≢ 15 → (c : Bool) × Found program (e .state .cells) (e .outcome) (e .place) c part
 
 abbrev pub ByVerb : Type 0
 ByVerb = (program ws : List ℤ) (budget : ℤ) (S : State) (e : Ended) → Answered program ws budget S e → 5 ≤ e .outcome → Refusing program e
