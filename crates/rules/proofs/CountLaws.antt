@@ -14,11 +14,11 @@ pub record Counts (ws : List ℤ) (budget : ℕ) (t : Tally) : Type 0 where
   pub accepted : t .accepted ≤ t .steps
 
 -- inside a statement, whose step is paid
-pub record Inside (ws : List ℤ) (budget : ℕ) (t : Tally) : Type 0 where
+pub record PaidCounts (ws : List ℤ) (budget : ℕ) (t : Tally) : Type 0 where
   pub counts : Counts ws budget t
   pub less : t .accepted < t .steps
 
-pub counts-kept : (program ws : List ℤ) (budget : ℕ) → Kept program budget (Counts ws budget) (Inside ws budget)
+pub counts-kept : (program ws : List ℤ) (budget : ℕ) → Kept program budget (Counts ws budget) (PaidCounts ws budget)
 counts-kept program ws budget = record {
   pays = λ t i h. record { counts = record { part = i .part; steps = omega arith; accepted = omega (arith, i .accepted) }; less = omega (arith, i .accepted) };
   frees = λ t i. i .counts;

@@ -18,15 +18,15 @@ use Rattle.rules.specs.Running.{Tally, Out, on, end, test}
 use Rattle.rules.specs.Steps.Holds.{Holds, StatementThere}
 use Rattle.rules.specs.Rules.Expressions.{Untested}
 use Rattle.rules.specs.Rules.Statements.{Refused}
-use Rattle.rules.specs.Rules.Runs.{Code, block, statements, statement, turning, Runs}
+use Rattle.rules.specs.Rules.Runs.{Code, Runs}
 use Rattle.rules.specs.Rules.Runs.{r-block, r-none, r-some, r-unpaid, r-ended, r-simple, r-refused, r-then, r-else, r-no-if}
 use Rattle.rules.specs.Rules.Runs.{r-while, r-stop, r-go, r-no-turn, r-broken, r-no-while}
 use Rattle.rules.proofs.KeptReading.{Listed, five-listed, tests-read}
 use Rattle.rules.proofs.StatementWords.{statement-verb}
 use Rattle.rules.proofs.RefusedPieces.{untested-complete}
 use Rattle.rules.proofs.RefusedRules.{stops-listed, refused-rule}
-use Rattle.rules.proofs.ProgramCode.{InProgram, in-block, in-some, in-there}
-use Rattle.rules.proofs.RunRules.{value-rest, refused-low, as-simple, as-branch, as-loop, same-statement, same-block}
+use Rattle.rules.proofs.ProgramCode.{in-block, in-some, in-there}
+use Rattle.rules.proofs.RunRules.{Known, value-rest, refused-low, as-simple, as-branch, as-loop, same-statement, same-block}
 
 module _ (program : List ℤ) (budget : ℕ) where
   -- at the statement at p; the tally is that of the last accepted statement, so that its state is the one in which the statement or the test is refused
@@ -40,14 +40,7 @@ module _ (program : List ℤ) (budget : ℕ) where
   EndsIn (on u) = Unit {0}
   EndsIn (end n place u) = (p : List ℤ) × Ends u p n place
 
-  -- what is to be known of a piece
-  abbrev Known : Code → Type 0
-  Known (block d p) = InProgram program (block d p)
-  Known (statement d p) = InProgram program (statement d p)
-  Known (turning d p) = StatementThere program (pos 8 ∷ p) × ((q : List ℤ) × (Takes (Expression false expressionDepth) p q × InProgram program (block d q)))
-  Known (statements d n p) = InProgram program (statements d n p)
-
-  pub runs-end : {c : Code} {t : Tally} {o : Out} → Runs program budget c t o → Known c → EndsIn o
+  pub runs-end : {c : Code} {t : Tally} {o : Out} → Runs program budget c t o → Known program budget c → EndsIn o
   runs-end (r-block few r) (in-block few' x) = runs-end r x
   runs-end r-none x = tt
   runs-end (r-some l r k z) (in-some x k' y) = runs-end z (rw (same-statement program budget k' k) at y)

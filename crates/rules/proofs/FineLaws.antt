@@ -18,7 +18,7 @@ use Rattle.tables.specs.Cells.{Cells, cells}
 use Rattle.tables.specs.Records.{recordCount, withRecord}
 use Rattle.program.specs.Forms.{expressionDepth}
 use Rattle.program.specs.Reading.{number, readPath, after}
-use Rattle.rules.specs.State.{State, Res, refused, reads, positions}
+use Rattle.rules.specs.State.{State, Res, refused, reads}
 use Rattle.rules.specs.Paths.{wayAt}
 use Rattle.rules.specs.Evaluation.{Op, add, sub, mul, lt, le, eq, ne, ge, gt, and, or, noOp, kindOf, takes, ranged, made, apply, at, evaluate}
 use Rattle.rules.specs.Constraints.{Part, constraintAt, fifteen, keptAt, keptParts, ownParts, counted, allHold, requiredHold}

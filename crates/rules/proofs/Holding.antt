@@ -1,10 +1,9 @@
 -- What is kept holds after each accepted statement. Assumes nothing.
-use mathlib.Core.Path.{_≡_, refl, ap, _∙_}
+use mathlib.Core.Path.{_≡_, refl, _∙_}
 use mathlib.Core.List.{List}
 use native.Mathlib.Omega.{arith}
 use borrow.Author.Tests.{eq-eqb}
 use lib.IntN.{ℤ}
-use lib.ListN.{length, drop, length-drop}
 use Rattle.program.proofs.StandLaws.{always-is}
 use Rattle.words.specs.Words.{numberAt}
 use Rattle.words.specs.Answer.{got}
@@ -19,6 +18,7 @@ use Rattle.rules.specs.State.{State}
 use Rattle.rules.specs.Statements.{Left, positionOf, doSimple}
 use Rattle.rules.specs.Steps.Holds.{Holds, StatementThere}
 use Rattle.rules.specs.Steps.Holding.{StatementsHold}
+use Rattle.rules.proofs.ProgramCode.{there-part}
 use Rattle.rules.proofs.HoldLaws.{Stands, once-holds, always-holds, once-same-holds, always-same-holds}
 use Rattle.rules.proofs.AssignHolds.{assign-holds}
 use Rattle.rules.proofs.NewHolds.{new-holds}
@@ -27,10 +27,7 @@ module _ (program p : List ℤ) (here : StatementThere program p) where
   -- the statement at p is an always-statement of its sort
   stands : (s : Sort) → numberAt p 0 ≡ alwaysOf s → Stands program p s
   stands s e = record {
-    rest = record {
-      short = let l : length (drop (positionOf program p) program) ≡ length p = ap length (here .part) in omega (arith, l, length-drop (positionOf program p) program);
-      is = here .part;
-    };
+    rest = there-part here;
     small = omega (arith, here .short);
     always = always-is program s (positionOf program p) ∙ rw (here .there) (eq-eqb (numberAt p 0) (alwaysOf s) e);
   }

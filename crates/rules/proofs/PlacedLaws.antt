@@ -27,7 +27,7 @@ use Rattle.program.specs.declared.Spot.{Spot}
 use Rattle.program.specs.declared.Spot.the-variants.{At, Nowhere}
 use Rattle.program.specs.Where.{statementAt, hasVerb, isAlways}
 use Rattle.program.specs.Grammar.{Program}
-use Rattle.program.proofs.LengthLaws.{Part, part-refl, part-drop, part-trans, after-got, path-uses, expression-uses}
+use Rattle.program.proofs.LengthLaws.{part-refl, part-drop, part-trans, after-got, path-uses, expression-uses}
 use Rattle.program.proofs.GrammarSound.{expression-sound, statement-sound}
 use Rattle.program.proofs.GrammarLaws.{expression-complete}
 use Rattle.program.proofs.OpenLaws.{assign-opens, new-opens, always-opens, once-opens, same-opens}
@@ -52,7 +52,7 @@ use Rattle.rules.proofs.PartLaws.{constraint-iff}
 use Rattle.rules.proofs.StatementWords.{past-path}
 use Rattle.rules.proofs.GivesRules.{gives-fit}
 use Rattle.rules.proofs.InnerLaws.{Inner, inner-on, lost-inner, meets-inner, test-inner, constraint-inner, fields-inner, Sided, at-side, both-differ, unsame-sided}
-use Rattle.rules.proofs.ProgramCode.{statement-there, there-verb, there-at}
+use Rattle.rules.proofs.ProgramCode.{statement-there, there-verb, there-part, there-at}
 use Rattle.rules.proofs.Endings.{Ends, unpaid, refuses, untested}
 
 -- what all of a list are, the first that is not something else is; and where all are it, there is none
@@ -99,9 +99,6 @@ abbrev outside : ℕ → Bool
 outside n = (leb 5 n && leb n 19) && (not (eqb n 7) && (not (eqb n 8) && (not (eqb n 9) && not (eqb n 15))))
 
 module _ (program : List ℤ) where
-  there-part : {p : List ℤ} → StatementThere program p → Part program p
-  there-part {p} here = rw (here .part) at (part-drop (positionOf program p) program)
-
   -- a refusal inside a statement that holds no block is found there
   found-in : {Y : Cells} {c : Bool} {p q : List ℤ} {f : Fault} → StatementThere program p → readStatement 0 p ≡ got q → Inner Y c (drop 1 p) q f
       → Found program Y (f .number) (placeOf program f) c p

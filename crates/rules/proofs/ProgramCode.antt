@@ -179,6 +179,10 @@ in-there (in-simple h l) = h
 in-there (in-branch h e v k j x y) = h
 in-there (in-loop h e v k x) = h
 
+-- the part at a statement is a part of the program
+pub there-part : {program p : List ℤ} → StatementThere program p → Part program p
+there-part {program} {p} here = rw (here .part) at (part-drop (positionOf program p) program)
+
 pub there-at : {program p : List ℤ} → StatementThere program p → AtStatement program p
 there-at {program} {p} h = rw (h .part) at (AtStatement.at (positionOf program p) (h .there))
 

@@ -27,7 +27,7 @@ use Rattle.rules.specs.Steps.ByVerb.{ByVerb}
 use Rattle.rules.proofs.SpotLaws.{at-nowhere}
 use Rattle.rules.proofs.ProgramCode.{program-of, there-at}
 use Rattle.rules.proofs.WalkLaws.{tallyOf, program-keeps}
-use Rattle.rules.proofs.CountLaws.{Counts, Inside as CountsInside, counts-kept}
+use Rattle.rules.proofs.CountLaws.{Counts, PaidCounts, counts-kept}
 use Rattle.rules.proofs.ReachLaws.{Reaches, whole-reaches}
 use Rattle.rules.proofs.Endings.{Ends, ends-there, ends-listed, runs-end}
 use Rattle.rules.proofs.PlacedLaws.{inner-range, Placed, ends-placed, placed-range, placed-own, placed-inside, placed-found}
@@ -123,7 +123,7 @@ module _ (program ws : List ℤ) (budget : ℤ) (S : State) where
 
     whole-counts : Counts ws (numberOf budget) (tallyOf (whole program ws budget S))
     whole-counts =
-        program-keeps program (numberOf budget) (p .1 .0 .short) (Counts ws (numberOf budget)) (CountsInside ws (numberOf budget)) (counts-kept program ws (numberOf budget)) (p .1 .0 .yields)
+        program-keeps program (numberOf budget) (p .1 .0 .short) (Counts ws (numberOf budget)) (PaidCounts ws (numberOf budget)) (counts-kept program ws (numberOf budget)) (p .1 .0 .yields)
         (firstTally S ws) (record { part = part-refl ws; steps = omega arith; accepted = omega arith })
 
     pub whole-reached : Reaches program ws S (tallyOf (whole program ws budget S))

@@ -38,7 +38,7 @@ use Rattle.rules.proofs.RefusedPieces.{test-rule, untested-sound, untes
 use Rattle.rules.proofs.RefusedRules.{refused-rule}
 use Rattle.rules.proofs.WalkLaws.{tallyOf}
 use Rattle.rules.proofs.Holding.{statements-hold}
-use Rattle.rules.proofs.ProgramCode.{InProgram, in-block, in-none, in-some, in-simple, in-branch, in-loop, does, block-opens, simple-is, past, past-block, past-statement}
+use Rattle.rules.proofs.ProgramCode.{InProgram, in-block, in-none, in-some, in-simple, in-branch, in-loop, in-there, does, block-opens, simple-is, past, past-block, past-statement}
 
 -- ---- "If, while test a boolean"
 
@@ -217,11 +217,11 @@ module _ (program : List ℤ) (budget : ℕ) where
   as-loop (in-loop here f v a x) e k = k _ v (rw (ap (drop 1) (sym f ∙ e)) at a) x
 
   -- what is to be known of a piece, and what it comes to; for a while, with any fuel that the budget cannot use up
-  abbrev Known : Code → Type 0
+  abbrev pub Known : Code → Type 0
   Known (block d p) = InProgram program (block d p)
   Known (statements d n p) = InProgram program (statements d n p)
   Known (statement d p) = InProgram program (statement d p)
-  Known (turning d p) = (q : List ℤ) × (Takes (Expression false expressionDepth) p q × InProgram program (block d q))
+  Known (turning d p) = StatementThere program (pos 8 ∷ p) × ((q : List ℤ) × (Takes (Expression false expressionDepth) p q × InProgram program (block d q)))
 
   abbrev Comes : Code → Tally → Out → Type 0
   Comes (block d p) t o = does program budget (block d p) t ≡ o
@@ -276,20 +276,20 @@ module _ (program : List ℤ) (budget : ℕ) where
       rw (v, test-is w, past k, past-block j, e) (comes r (rw e at z) g)
   comes (r-no-if {p = p} {t = t} u) x g = as-branch x refl λ q r v k j y z.
       rw (v, untested-complete (t .state .cells) p u)
-  comes (r-while r) x g = as-loop x refl λ q v k y. rw v (comes r (q, (k, y)) g (suc budget) (omega arith))
+  comes (r-while r) x g = as-loop x refl λ q v k y. rw v (comes r (in-there x, (q, (k, y))) g (suc budget) (omega arith))
   comes (r-stop {p = p} {t = t} w) x g = once-more _ _ p t _ g λ fuel h. rw (test-is w)
-  comes (r-go {d = d} {p = p} {q = q} {t = t} {u = u} w r l z) (q', (k, x)) g =
+  comes (r-go {d = d} {p = p} {q = q} {t = t} {u = u} w r l z) (here, (q', (k, x))) g =
       let y : InProgram program (block d q) = rw (value-rest k w) x in
       let a : after (readExpression expressionDepth false p) ≡ q = past k ∙ sym (value-rest k w) in
       let e : does program budget (block d q) (knowing true t) ≡ on u = comes r y g in
       once-more _ _ p t _ g λ fuel h.
       rw (test-is w, a, e, paid-on budget (positionOf program (pos 8 ∷ p)) u l)
-      (rw a at (comes z (q', (k, x)) (record { held = ran-on y g e .good .held; within = l }) fuel (omega (arith, ran-on y g e .grown))))
-  comes (r-no-turn {d = d} {p = p} {q = q} {t = t} {u = u} w r h) (q', (k, x)) g =
+      (rw a at (comes z (here, (q', (k, x))) (record { held = ran-on y g e .good .held; within = l }) fuel (omega (arith, ran-on y g e .grown))))
+  comes (r-no-turn {d = d} {p = p} {q = q} {t = t} {u = u} w r h) (here, (q', (k, x))) g =
       let a : after (readExpression expressionDepth false p) ≡ q = past k ∙ sym (value-rest k w) in
       let e : does program budget (block d q) (knowing true t) ≡ on u = comes r (rw (value-rest k w) x) g in
       once-more _ _ p t _ g λ fuel m. rw (test-is w, a, e, paid-ends budget (positionOf program (pos 8 ∷ p)) u h)
-  comes (r-broken {d = d} {n = n} {place = place} {p = p} {q = q} {t = t} {u = u} w r) (q', (k, x)) g =
+  comes (r-broken {d = d} {n = n} {place = place} {p = p} {q = q} {t = t} {u = u} w r) (here, (q', (k, x))) g =
       let a : after (readExpression expressionDepth false p) ≡ q = past k ∙ sym (value-rest k w) in
       let e : does program budget (block d q) (knowing true t) ≡ end n place u = comes r (rw (value-rest k w) x) g in
       once-more _ _ p t _ g λ fuel m. rw (test-is w, a, e)

@@ -29,7 +29,7 @@ use Rattle.rules.specs.Rules.Constraints.{FirstNot}
 use Rattle.rules.specs.Rules.Proposals.{Each, none, more}
 use Rattle.rules.specs.Rules.Kept.{KeptStands, inOrder, Stands}
 use Rattle.rules.specs.Rules.Answers.{Measured, TableFits, Unstarted, wrong, unreadable, unfit, broken, Passes}
-use Rattle.rules.proofs.AcceptanceLaws.{met-iff}
+use Rattle.rules.proofs.AcceptanceLaws.{fails, met-iff}
 use Rattle.rules.proofs.HoldLaws.{each-left, each-right}
 use Rattle.rules.proofs.StandRules.{kept-iff}
 
@@ -51,10 +51,6 @@ judged {P = P} t (x ∷ xs) = go (t x) (judged t xs)
     go (is a) (all e) = all (more a e)
     go (is a) (not-all y f) = not-all y (FirstNot.later a f)
     go (is-not a) j = not-all x (FirstNot.here a)
-
-not-true : (b : Bool) → (b ≡ true → ⊥) → b ≡ false
-not-true true f = absurd (f refl)
-not-true false f = refl
 
 true-tried : (b : Bool) → Tried (b ≡ true)
 true-tried true = is refl
@@ -198,7 +194,7 @@ module _ (program : List ℤ) (budget : ℤ) (S : State) where
 
   unstarted-complete : {n place : ℕ} → Unstarted program budget S n place → starts program budget S ≡ stop (record { number = n; place = place })
   unfolding starts early
-  unstarted-complete (wrong f) = rw (not-true measures (λ e. f (measured-iff .0 e)))
+  unstarted-complete (wrong f) = rw (fails measures (λ e. f (measured-iff .0 e)))
   unstarted-complete (unreadable m r) = rw (measured-iff .1 m, r)
   unstarted-complete (unfit m g f) = rw (measured-iff .1 m, program-complete program g) (first _ f)
     where
@@ -206,9 +202,9 @@ module _ (program : List ℤ) (budget : ℤ) (S : State) where
           → (early 3 (want 0 (environmentFits (wordAt (S .cells .heap) 0) (S .cells .environment)))
           >> (early 3 (want 1 (heapFits (S .cells .heap))) >> (early 3 (want 2 (constraintsStand program (S .kept))) >> rest)))
           ≡ stop (record { number = 3; place = k })
-      first rest (FirstNot.here f) = rw (not-true _ f)
-      first rest (FirstNot.later a (FirstNot.here f)) = rw (a, not-true _ f)
-      first rest (FirstNot.later a (FirstNot.later b (FirstNot.here f))) = rw (a, b, not-true _ f)
+      first rest (FirstNot.here f) = rw (fails _ f)
+      first rest (FirstNot.later a (FirstNot.here f)) = rw (a, fails _ f)
+      first rest (FirstNot.later a (FirstNot.later b (FirstNot.here f))) = rw (a, b, fails _ f)
   unstarted-complete (broken {s = s} {k = k} m g (more a (more b (more c none))) f) =
       rw (measured-iff .1 m, program-complete program g, a, b, c) (order-stops program (S .cells) (S .kept) (s, k) f)
 
