@@ -1,6 +1,6 @@
 #!/usr/bin/env python3
 """Tests README.md, docs/OUTCOMES.md and docs/NOTATION.md: the inputs and outputs that they show are those of sheets/, the second page has a section with a sheet for every outcome
-from 0 to 19 and for `input=`, and each sheet of sheets/outcomes is named after what it answers. Every text of the first two is a file, and its refusal the `.shown` beside it; 7, 8,
+from 0 to 19, for 23 and for `input=`, and each sheet of sheets/outcomes is named after what it answers. Every text of the first two is a file, and its refusal the `.shown` beside it; 7, 8,
 9, 15, 17 and 19 have such texts. Every text of the third is a file, every refusal is its `.read` as hosts/rust prints it, and 20, 21 and 22 have a section each. `...` on a page
 stands for what is left out. That the sheets give their outputs is tested elsewhere."""
 import pathlib
@@ -67,7 +67,7 @@ def test_refused(text):
 def test_outcomes(page):
     sections = re.split(r"^## ", page, flags=re.M)[1:]
     headings = [section.split(":")[0] for section in sections]
-    if headings != [str(number) for number in range(20)] + ["`input=`"]:
+    if headings != [str(number) for number in [*range(20), 23]] + ["`input=`"]:
         faults.append(f"the sections are {headings}")
     for section, heading in zip(sections, headings):
         answers = test_shown(section)
@@ -87,6 +87,10 @@ def test_names(page):
     for file in sorted((SHEETS / "outcomes").glob("*.out")):
         if not file.name.startswith(said(file.read_text()) + "-"):
             faults.append(f"{file.name} answers {said(file.read_text())}")
+    for file in sorted((SHEETS / "outcomes").glob("*.txt")):
+        answers = {line.split()[0].zfill(2) for line in file.read_text().splitlines()[2::3]}
+        if answers != {file.name[:2]}:
+            faults.append(f"{file.name} answers {sorted(answers)}")
     return len(sheets)
 
 

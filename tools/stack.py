@@ -35,7 +35,7 @@ NESTING = {
     "steps": 9,
 }
 # The calls, and how many bytes fail.
-CALLS = {"cordbasin_run": 65536, "cordbasin_read": 131072}
+CALLS = {"cordbasin_run": 65536, "cordbasin_assign": 65536, "cordbasin_read": 131072}
 MEMORY = {"memcpy", "memmove", "memset", "memcmp"}
 # A large frame is taken a page at a time, in a loop that ends at an address worked out here. On x86-64 %r11 is so far below %rsp, or a copy of
 # %rsp from which so much is taken.

@@ -32,6 +32,14 @@ enum {
     CORDBASIN_REFERENCE = 4 /* payload a record number below the record count */
 };
 
+/* The words of a literal, behind the target in an entry of a list. */
+enum {
+    CORDBASIN_LITERAL_NIL = 20,
+    CORDBASIN_LITERAL_FALSE = 21,
+    CORDBASIN_LITERAL_TRUE = 22,
+    CORDBASIN_LITERAL_INTEGER = 23 /* the integer is the next word */
+};
+
 /* Outcomes, and the place that each comes with. 1 to 4 are tried in this order; they cost no steps, accept no proposal and change no
    table. From 5 on the tables hold what the last accepted statement left. 7, 8, 9 and 15 come with the word at fault; the place of the
    others from 5 on is the word of the statement that is refused (the while's where a later test cannot be paid). For a program that
@@ -91,11 +99,17 @@ enum {
     CORDBASIN_OVER_LIMIT = 22
 };
 
+/* The outcome of a list, beside those of a run. From 5 on a list's place is the index of the entry that is refused, no word. */
+enum {
+    /* an entry is no target and literal: a word is out of its range, or the words run out; found at its turn, before 5 */
+    CORDBASIN_UNFIT_ASSIGNMENT = 23
+};
+
 /* Where each number stands in the answer. */
 enum {
     CORDBASIN_OUTCOME = 0,
     CORDBASIN_PLACE = 1,
-    CORDBASIN_STEPS = 2,     /* statements begun, refused ones too, and later tests of whiles */
+    CORDBASIN_STEPS = 2,     /* statements or entries begun, refused ones too, and later tests of whiles */
     CORDBASIN_ACCEPTED = 3,  /* proposals accepted */
     CORDBASIN_VARIABLES = 2, /* of a text: how many variables have names */
     CORDBASIN_LABELS = 3     /* of a text: how many labels have names */
@@ -119,6 +133,23 @@ enum {
 size_t cordbasin_run(const int32_t *program, size_t program_words, int32_t *environment, size_t environment_words,
                      int32_t *heap, size_t heap_words, int32_t *constraints, size_t constraints_words,
                      const int32_t *proposals, size_t proposals_words, int32_t budget, int32_t answer[4]);
+
+/* Carries out a list of entries on lent tables, up to the first that is refused. Each is the assignment of a literal to a target, costs
+   a step and reads one proposal.
+
+   What is said of pointers, of overlap and of threads above holds here too. Program, tables, proposals, budget and answer are as for a
+   run. The program is not run: it is the one that the kept positions stand in.
+
+   entries   one after another until the words end, any number of them; only read. Each is a variable, 0 to 63; n, 0 to 7; n labels, 0
+             to 31; and 20 for nil, 21 for false, 22 for true, or 23 and an integer
+
+   Returns how many words of the proposals are unread, as a run does. Outcome 0 comes with the number of entries as place, 1 to 4 with
+   the place of a run, any other with the index of the refused entry, from 0. Entries after it are not looked at, and the tables hold
+   what the entries before it left. An entry that is no target and literal costs no step. */
+size_t cordbasin_assign(const int32_t *program, size_t program_words, int32_t *environment, size_t environment_words,
+                        int32_t *heap, size_t heap_words, int32_t *constraints, size_t constraints_words,
+                        const int32_t *entries, size_t entries_words, const int32_t *proposals, size_t proposals_words,
+                        int32_t budget, int32_t answer[4]);
 
 /* Reads a text in the papers' notation to the words of a program.
 

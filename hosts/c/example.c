@@ -1,5 +1,5 @@
-/* Reads three sheets from their texts, runs each from fresh tables and prints what comes back: document 01's sheet K1; one that is
-   refused when it runs; and one that is no program. Also builds as C++. */
+/* Reads three sheets from their texts, runs each from fresh tables and prints what comes back: document 01's sheet K1, on whose tables
+   two lists then set fields; one that is refused when it runs; and one that is no program. Also builds as C++. */
 #include "cordbasin.h"
 
 #include <stdio.h>
@@ -8,7 +8,9 @@
 /* The text at hand. */
 static const char *text;
 
+/* Its program, and how many words that has. */
 static int32_t program[CORDBASIN_PROGRAM_WORDS];
+static size_t program_words;
 static int32_t origins[CORDBASIN_PROGRAM_WORDS];
 static int32_t names[CORDBASIN_NAMES_WORDS];
 
@@ -67,6 +69,20 @@ static void print_constraints(void)
         printf("kept identity: byte %d of the text\n", (int)origins[constraints[66 + kept]]);
 }
 
+static void print_tables(void)
+{
+    print_variables();
+    print_records();
+    print_constraints();
+}
+
+static void print_answer(const char *call, const int32_t *answer, size_t unread)
+{
+    printf("%s: outcome %d at place %d\n", call, (int)answer[CORDBASIN_OUTCOME], (int)answer[CORDBASIN_PLACE]);
+    printf("%d steps, %d proposals accepted, %d words unread\n", (int)answer[CORDBASIN_STEPS],
+           (int)answer[CORDBASIN_ACCEPTED], (int)unread);
+}
+
 /* A refusal, shown in the text: its number, line and column, the line, and a mark under the byte. */
 static void show(int outcome, int place)
 {
@@ -83,37 +99,58 @@ static void show(int outcome, int place)
 }
 
 /* From 4 on the place is a word of the program, and the origins have the byte that it comes from. */
-static void run(size_t words, const int32_t *proposals, size_t count)
+static void run(const int32_t *proposals, size_t count)
 {
     int32_t answer[4];
     memset(environment, 0, sizeof environment);
     memset(heap, 0, sizeof heap);
     memset(constraints, 0, sizeof constraints);
-    size_t unread = cordbasin_run(program, words, environment, CORDBASIN_ENVIRONMENT_WORDS, heap, CORDBASIN_HEAP_WORDS, constraints,
-                                  CORDBASIN_CONSTRAINTS_WORDS, proposals, count, 100, answer);
-    printf("run: outcome %d at place %d\n", (int)answer[CORDBASIN_OUTCOME], (int)answer[CORDBASIN_PLACE]);
-    printf("%d steps, %d proposals accepted, %d words unread\n", (int)answer[CORDBASIN_STEPS],
-           (int)answer[CORDBASIN_ACCEPTED], (int)unread);
+    size_t unread = cordbasin_run(program, program_words, environment, CORDBASIN_ENVIRONMENT_WORDS, heap, CORDBASIN_HEAP_WORDS,
+                                  constraints, CORDBASIN_CONSTRAINTS_WORDS, proposals, count, 100, answer);
+    print_answer("run", answer, unread);
     if (answer[CORDBASIN_OUTCOME] >= CORDBASIN_UNFIT_START)
         show((int)answer[CORDBASIN_OUTCOME], (int)origins[answer[CORDBASIN_PLACE]]);
-    print_variables();
-    print_records();
-    print_constraints();
+    print_tables();
+}
+
+/* On the tables that are there. From 5 on the place is an entry's index, and no word of the program. */
+static void assign(const int32_t *entries, size_t entries_words, const int32_t *proposals, size_t count)
+{
+    int32_t answer[4];
+    size_t unread = cordbasin_assign(program, program_words, environment, CORDBASIN_ENVIRONMENT_WORDS, heap, CORDBASIN_HEAP_WORDS,
+                                     constraints, CORDBASIN_CONSTRAINTS_WORDS, entries, entries_words, proposals, count, 100, answer);
+    print_answer("list", answer, unread);
+    if (answer[CORDBASIN_OUTCOME] >= CORDBASIN_BUDGET_SPENT)
+        printf("entry %d is refused\n", (int)answer[CORDBASIN_PLACE]);
+    print_tables();
+    printf("\n");
 }
 
 static void read_and_run(const char *typed, const int32_t *proposals, size_t count)
 {
     int32_t answer[4];
     text = typed;
-    size_t words = cordbasin_read((const uint8_t *)text, strlen(text), program, CORDBASIN_PROGRAM_WORDS, origins,
-                                  CORDBASIN_PROGRAM_WORDS, names, CORDBASIN_NAMES_WORDS, answer);
+    program_words = cordbasin_read((const uint8_t *)text, strlen(text), program, CORDBASIN_PROGRAM_WORDS, origins,
+                                   CORDBASIN_PROGRAM_WORDS, names, CORDBASIN_NAMES_WORDS, answer);
     printf("read: outcome %d at byte %d, %d words, %d variables, %d labels\n", (int)answer[CORDBASIN_OUTCOME],
-           (int)answer[CORDBASIN_PLACE], (int)words, (int)answer[CORDBASIN_VARIABLES], (int)answer[CORDBASIN_LABELS]);
+           (int)answer[CORDBASIN_PLACE], (int)program_words, (int)answer[CORDBASIN_VARIABLES], (int)answer[CORDBASIN_LABELS]);
     if (answer[CORDBASIN_OUTCOME] == CORDBASIN_FINISHED)
-        run(words, proposals, count);
+        run(proposals, count);
     else
         show((int)answer[CORDBASIN_OUTCOME], (int)answer[CORDBASIN_PLACE]);
     printf("\n");
+}
+
+/* On K1's tables. x is variable 0; bytes is label 0, at location 64, and samples label 1, at 65. */
+static void set_fields(void)
+{
+    /* x.samples := 40, with 160 for x.bytes; x.bytes := 192, with 48 for x.samples. */
+    static const int32_t lengths[] = {0, 1, 1, CORDBASIN_LITERAL_INTEGER, 40, 0, 1, 0, CORDBASIN_LITERAL_INTEGER, 192};
+    static const int32_t fitting[] = {1, 64, 160, 1, 65, 48};
+    assign(lengths, 10, fitting, 6);
+    /* The same, and no change for the second, so that x.bytes is not 4 * x.samples. */
+    static const int32_t silent[] = {1, 64, 160, 0};
+    assign(lengths, 10, silent, 4);
 }
 
 int main(void)
@@ -124,6 +161,7 @@ int main(void)
                  "always required x.bytes = 4 * x.samples;\n"
                  "x.samples := 32",
                  proposals, 5);
+    set_fields();
     /* The new record has no samples, so that the kept constraint no longer reads. */
     read_and_run("x := new {bytes: 64, samples: 16};\n"
                  "always required x.bytes = 4 * x.samples;\n"

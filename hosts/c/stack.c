@@ -1,5 +1,5 @@
 /* How much stack the calls take, on a stack that was painted before: a run of a sheet with blocks nested 8 deep and an expression nested
-   16 deep; reading such a text; and reading one bracket and 30,000 around a number. */
+   16 deep; a list over such a sheet; reading such a text; and reading one bracket and 30,000 around a number. */
 #define _POSIX_C_SOURCE 200809L
 #include <pthread.h>
 #include <stdint.h>
@@ -9,6 +9,8 @@
 #include "cordbasin.h"
 
 enum { STACK = 1 << 20, PAINT = 0x5A, IFS = 7, DEEP = 15, BRACKETS = 30000, RUNNING = 65536, READING = 131072 };
+/* The word at which the program below has its constraint, and an always. */
+enum { CONSTRAINT = 6 + 3 * IFS, ALWAYS = 3 };
 
 static _Alignas(65536) unsigned char stack[STACK];
 static int32_t answer[4], program[CORDBASIN_PROGRAM_WORDS];
@@ -40,6 +42,16 @@ static void *run(void *unused) {
     static int32_t environment[128], heap[1601], constraints[98];
     const int32_t proposals[] = {0, 1, 0, 2};
     cordbasin_run(program, written(), environment, 128, heap, 1601, constraints, 98, proposals, 4, 100, answer);
+    return unused;
+}
+
+/* v0 := 2, and the constraint is always and kept: it is read again before the list and after the entry. */
+static void *assign(void *unused) {
+    static int32_t environment[128] = {CORDBASIN_INTEGER, 2}, heap[1601], constraints[98] = {1, 0, CONSTRAINT};
+    const int32_t entries[] = {0, 0, CORDBASIN_LITERAL_INTEGER, 2}, proposals[] = {0};
+    size_t words = written();
+    program[CONSTRAINT] = ALWAYS;
+    cordbasin_assign(program, words, environment, 128, heap, 1601, constraints, 98, entries, 4, proposals, 1, 100, answer);
     return unused;
 }
 
@@ -108,8 +120,9 @@ static size_t nested(void) {
 
 int main(void) {
     size_t deepest = taken("a run of blocks and an expression nested deep", run);
+    size_t list = taken("a list over blocks and an expression nested deep", assign);
     size_t one = bracketed("reading one bracket", 1);
     size_t many = bracketed("reading 30,000 brackets", BRACKETS);
     size_t read = nested();
-    return deepest < RUNNING && read < READING && many == one ? 0 : 1;
+    return deepest < RUNNING && list < RUNNING && read < READING && many == one ? 0 : 1;
 }

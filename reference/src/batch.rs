@@ -1,9 +1,9 @@
-//! Sheets and their answers, one to a line.
+//! Sheets, lists and their answers, one to a line.
 
+use crate::entries::assign;
 use crate::lister::number;
-use crate::run::{run, Answer};
+use crate::run::{run, Answer, Lent};
 use crate::tables::{CONSTRAINT_WORDS, ENVIRONMENT_WORDS, HEAP_WORDS};
-use std::fmt::Write as _;
 use std::io::{BufRead, Write};
 
 /// All that a run takes.
@@ -17,7 +17,14 @@ pub struct Sheet {
     pub budget: i32,
 }
 
-/// All that a run gives back.
+/// All that a list of entries takes: what a run does, and the entries.
+#[derive(Clone, Debug, PartialEq, Eq)]
+pub struct List {
+    pub sheet: Sheet,
+    pub entries: Vec<i32>,
+}
+
+/// All that a run or a list gives back.
 #[derive(Clone, Debug, PartialEq, Eq)]
 pub struct Finish {
     pub answer: Answer,
@@ -25,6 +32,9 @@ pub struct Finish {
     pub heap: Vec<i32>,
     pub constraints: Vec<i32>,
 }
+
+/// Where the entries stand among the fields of a list's line.
+const ENTRIES: usize = 4;
 
 impl Sheet {
     /// A sheet that starts from fresh tables.
@@ -41,57 +51,58 @@ impl Sheet {
 
     /// Reads a line `program|environment|heap|constraints|proposals|budget`.
     pub fn parse(line: &[u8]) -> Option<Sheet> {
-        let mut fields = line.split(|byte| *byte == b'|');
-        let sheet = Sheet {
-            program: numbers(fields.next()?)?,
-            environment: table(fields.next()?, ENVIRONMENT_WORDS)?,
-            heap: table(fields.next()?, HEAP_WORDS)?,
-            constraints: table(fields.next()?, CONSTRAINT_WORDS)?,
-            proposals: numbers(fields.next()?)?,
-            budget: number(fields.next()?)?,
+        Sheet::of(&split(line))
+    }
+
+    fn of(fields: &[&[u8]]) -> Option<Sheet> {
+        let &[program, environment, heap, constraints, proposals, budget] = fields else {
+            return None;
         };
-        match fields.next() {
-            None => Some(sheet),
-            Some(_) => None,
-        }
+        Some(Sheet {
+            program: numbers(program)?,
+            environment: table(environment, ENVIRONMENT_WORDS)?,
+            heap: table(heap, HEAP_WORDS)?,
+            constraints: table(constraints, CONSTRAINT_WORDS)?,
+            proposals: numbers(proposals)?,
+            budget: number(budget)?,
+        })
     }
 
     /// The line that parses to this sheet; fresh tables are written `F`.
     pub fn line(&self) -> String {
-        let mut line = String::new();
-        join(&mut line, &self.program);
-        for (table, words) in [
-            (&self.environment, ENVIRONMENT_WORDS),
-            (&self.heap, HEAP_WORDS),
-            (&self.constraints, CONSTRAINT_WORDS),
-        ] {
-            line.push('|');
-            if table.len() == words && table.iter().all(|word| *word == 0) {
-                line.push('F');
-            } else {
-                join(&mut line, table);
-            }
-        }
-        line.push('|');
-        join(&mut line, &self.proposals);
-        line.push('|');
-        join(&mut line, &[self.budget]);
-        line
+        self.fields().join("|")
+    }
+
+    fn fields(&self) -> Vec<String> {
+        vec![
+            joined(&self.program),
+            shown(&self.environment, ENVIRONMENT_WORDS),
+            shown(&self.heap, HEAP_WORDS),
+            shown(&self.constraints, CONSTRAINT_WORDS),
+            joined(&self.proposals),
+            self.budget.to_string(),
+        ]
     }
 
     /// Runs the sheet on copies of its tables.
     pub fn answer(&self) -> Finish {
+        self.on_copies(|(environment, heap, constraints)| {
+            run(
+                &self.program,
+                environment,
+                heap,
+                constraints,
+                &self.proposals,
+                self.budget,
+            )
+        })
+    }
+
+    fn on_copies(&self, call: impl FnOnce(Lent) -> Answer) -> Finish {
         let mut environment = self.environment.clone();
         let mut heap = self.heap.clone();
         let mut constraints = self.constraints.clone();
-        let answer = run(
-            &self.program,
-            &mut environment,
-            &mut heap,
-            &mut constraints,
-            &self.proposals,
-            self.budget,
-        );
+        let answer = call((&mut environment, &mut heap, &mut constraints));
         Finish {
             answer,
             environment,
@@ -101,8 +112,46 @@ impl Sheet {
     }
 }
 
+impl List {
+    /// Reads a line
+    /// `program|environment|heap|constraints|entries|proposals|budget`.
+    pub fn parse(line: &[u8]) -> Option<List> {
+        let mut fields = split(line);
+        if fields.len() <= ENTRIES {
+            return None;
+        }
+        let entries = numbers(fields.remove(ENTRIES))?;
+        let sheet = Sheet::of(&fields)?;
+        Some(List { sheet, entries })
+    }
+
+    /// The line that parses to this list.
+    pub fn line(&self) -> String {
+        let mut fields = self.sheet.fields();
+        fields.insert(ENTRIES, joined(&self.entries));
+        fields.join("|")
+    }
+
+    /// Carries out the list on copies of its tables.
+    pub fn answer(&self) -> Finish {
+        let sheet = &self.sheet;
+        sheet.on_copies(|(environment, heap, constraints)| {
+            assign(
+                &sheet.program,
+                environment,
+                heap,
+                constraints,
+                &self.entries,
+                &sheet.proposals,
+                sheet.budget,
+            )
+        })
+    }
+}
+
 impl Finish {
-    /// The answer line; a table that did not change is written `=`.
+    /// The answer line; a table that did not change is written `=`. That of a
+    /// list is told against the list's sheet.
     pub fn line(&self, sheet: &Sheet) -> String {
         let answer = &self.answer;
         let mut line = format!(
@@ -115,22 +164,29 @@ impl Finish {
             (&sheet.constraints, &self.constraints),
         ] {
             line.push('|');
-            if old == new {
-                line.push('=');
-            } else {
-                join(&mut line, new);
+            match old == new {
+                true => line.push('='),
+                false => line.push_str(&joined(new)),
             }
         }
         line
     }
 }
 
-fn join(line: &mut String, words: &[i32]) {
-    for (number, word) in words.iter().enumerate() {
-        let space = if number == 0 { "" } else { " " };
-        // Writing to a String cannot fail.
-        let _ = write!(line, "{space}{word}");
+fn joined(words: &[i32]) -> String {
+    let words: Vec<String> = words.iter().map(i32::to_string).collect();
+    words.join(" ")
+}
+
+fn shown(table: &[i32], words: usize) -> String {
+    match table.len() == words && table.iter().all(|word| *word == 0) {
+        true => "F".to_string(),
+        false => joined(table),
     }
+}
+
+fn split(line: &[u8]) -> Vec<&[u8]> {
+    line.split(|byte| *byte == b'|').collect()
 }
 
 fn numbers(field: &[u8]) -> Option<Vec<i32>> {
@@ -146,10 +202,13 @@ fn table(field: &[u8], words: usize) -> Option<Vec<i32>> {
     }
 }
 
-/// The answer line for one line of batch input, or `unfit`.
+/// The answer line for one line of batch input, a sheet or a list, or `unfit`.
 pub fn answer_line(line: &[u8]) -> String {
-    match Sheet::parse(line) {
-        Some(sheet) => sheet.answer().line(&sheet),
+    if let Some(sheet) = Sheet::parse(line) {
+        return sheet.answer().line(&sheet);
+    }
+    match List::parse(line) {
+        Some(list) => list.answer().line(&list.sheet),
         None => "unfit".to_string(),
     }
 }
@@ -162,7 +221,7 @@ pub fn answer_all(mut input: impl BufRead, mut output: impl Write) -> std::io::R
         if input.read_until(b'\n', &mut line)? == 0 {
             return output.flush();
         }
-        let sheet = line.strip_suffix(b"\n").unwrap_or(&line);
-        writeln!(output, "{}", answer_line(sheet))?;
+        let asked = line.strip_suffix(b"\n").unwrap_or(&line);
+        writeln!(output, "{}", answer_line(asked))?;
     }
 }

@@ -2,11 +2,14 @@
 //!
 //! Program words become trees and tables become maps; the answers are the
 //! outcome, place, steps, proposals accepted, unread words and final tables.
-//! Texts in the papers' notation (document 02, W1) become program words.
+//! Texts in the papers' notation (document 02, W1) become program words, and
+//! lists of entries (W3) assignments.
 #![forbid(unsafe_code)]
 
 pub mod batch;
+pub mod causes;
 pub mod constraints;
+pub mod entries;
 pub mod evaluate;
 pub mod generator;
 pub mod identity;

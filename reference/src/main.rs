@@ -1,10 +1,12 @@
 //! The command line of the independent program.
 
-use reference::{batch, generator, lister};
+use reference::{batch, generator, lister, outcome::Outcome};
+use std::fmt::Display;
 use std::io::{self, BufReader, BufWriter, Read, Write};
 use std::process::ExitCode;
 
-const USAGE: &str = "usage: reference list | batch | generate SEED COUNT | histogram SEED COUNT";
+const USAGE: &str = "usage: reference list | batch | generate SEED COUNT | histogram SEED COUNT \
+    | generate-lists SEED COUNT | histogram-lists SEED COUNT";
 
 fn main() -> ExitCode {
     let arguments: Vec<String> = std::env::args_os()
@@ -15,17 +17,29 @@ fn main() -> ExitCode {
     let done = match words.as_slice() {
         ["list"] => list(),
         ["batch"] => answer_batch(),
-        ["generate", seed, count] => match (seed.parse(), count.parse()) {
-            (Ok(seed), Ok(count)) => generate(seed, count),
-            _ => usage(),
-        },
-        ["histogram", seed, count] => match (seed.parse(), count.parse()) {
-            (Ok(seed), Ok(count)) => histogram(seed, count),
+        [command, seed, count] => match (seed.parse(), count.parse()) {
+            (Ok(seed), Ok(count)) => generated(command, seed, count),
             _ => usage(),
         },
         _ => usage(),
     };
     done.unwrap_or(ExitCode::FAILURE)
+}
+
+fn generated(command: &str, seed: u64, count: u64) -> io::Result<ExitCode> {
+    match command {
+        "generate" => generate(count, |index| generator::sheet(seed, index).line()),
+        "generate-lists" => generate(count, |index| generator::list(seed, index).line()),
+        "histogram" => {
+            let (counts, places) = generator::histogram(seed, count);
+            histogram(count, &Outcome::ALL, &counts, places)
+        }
+        "histogram-lists" => {
+            let (counts, causes) = generator::lists::histogram(seed, count);
+            histogram(count, &Outcome::OF_LISTS, &counts, causes)
+        }
+        _ => usage(),
+    }
 }
 
 fn usage() -> io::Result<ExitCode> {
@@ -50,24 +64,28 @@ fn answer_batch() -> io::Result<ExitCode> {
     Ok(ExitCode::SUCCESS)
 }
 
-fn generate(seed: u64, count: u64) -> io::Result<ExitCode> {
+fn generate(count: u64, line: impl Fn(u64) -> String) -> io::Result<ExitCode> {
     let mut output = BufWriter::new(io::stdout());
     for index in 0..count {
-        writeln!(output, "{}", generator::sheet(seed, index).line())?;
+        writeln!(output, "{}", line(index))?;
     }
     output.flush()?;
     Ok(ExitCode::SUCCESS)
 }
 
 /// Fails if an outcome comes up fewer than 50 times in 10,000.
-fn histogram(seed: u64, count: u64) -> io::Result<ExitCode> {
+fn histogram(
+    count: u64,
+    outcomes: &[Outcome],
+    counts: &[u64],
+    told: impl Display,
+) -> io::Result<ExitCode> {
     let mut output = io::stdout();
-    let (counts, places) = generator::histogram(seed, count);
-    for (outcome, sheets) in counts.iter().enumerate() {
-        writeln!(output, "{outcome} {sheets}")?;
+    for (outcome, times) in outcomes.iter().zip(counts) {
+        writeln!(output, "{} {times}", outcome.number())?;
     }
-    writeln!(output, "{places}")?;
-    let rare = |sheets: &u64| u128::from(*sheets) * 10_000 < u128::from(count) * 50;
+    writeln!(output, "{told}")?;
+    let rare = |times: &u64| u128::from(*times) * 10_000 < u128::from(count) * 50;
     Ok(match counts.iter().any(rare) {
         true => ExitCode::FAILURE,
         false => ExitCode::SUCCESS,

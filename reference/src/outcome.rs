@@ -1,4 +1,4 @@
-//! The outcomes of document 01 under their numbers, and the word at fault.
+//! The outcomes of runs and lists under their numbers, and the word at fault.
 
 #[derive(Clone, Copy, Debug, PartialEq, Eq, PartialOrd, Ord)]
 pub enum Outcome {
@@ -22,9 +22,11 @@ pub enum Outcome {
     UnfitEntry = 17,
     NeedlessChange = 18,
     RequiredUnmet = 19,
+    UnfitAssignment = 23,
 }
 
 impl Outcome {
+    /// Those of a run, each under its number.
     pub const ALL: [Outcome; 20] = [
         Outcome::Finished,
         Outcome::WrongSize,
@@ -46,6 +48,27 @@ impl Outcome {
         Outcome::UnfitEntry,
         Outcome::NeedlessChange,
         Outcome::RequiredUnmet,
+    ];
+
+    /// Those of a list: its entries evaluate nothing, make no record and keep
+    /// nothing.
+    pub const OF_LISTS: [Outcome; 16] = [
+        Outcome::Finished,
+        Outcome::WrongSize,
+        Outcome::UnfitProgram,
+        Outcome::UnfitTable,
+        Outcome::UnfitStart,
+        Outcome::BudgetSpent,
+        Outcome::NoProposal,
+        Outcome::NoCell,
+        Outcome::IdentityClash,
+        Outcome::PlainIdentity,
+        Outcome::LostConstraint,
+        Outcome::UnfitProposal,
+        Outcome::UnfitEntry,
+        Outcome::NeedlessChange,
+        Outcome::RequiredUnmet,
+        Outcome::UnfitAssignment,
     ];
 
     pub fn number(self) -> i32 {

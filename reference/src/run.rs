@@ -29,6 +29,29 @@ pub fn run(
     proposals: &[i32],
     budget: i32,
 ) -> Answer {
+    let tables = (environment, heap, constraints);
+    begin(program, tables, proposals, budget, run_block)
+}
+
+fn run_block(machine: &mut Machine<Written>, program: &Program) -> (Outcome, usize) {
+    match machine.block(&program.block) {
+        Ok(()) => (Outcome::Finished, program.length),
+        Err(refusal) => (refusal.outcome, refusal.place),
+    }
+}
+
+/// The environment, the heap and the constraints, as lent.
+pub type Lent<'a> = (&'a mut [i32], &'a mut [i32], &'a mut [i32]);
+
+/// Tries what comes before the first statement, then does the work, which
+/// gives its outcome and place.
+pub fn begin(
+    program: &[i32],
+    (environment, heap, constraints): Lent,
+    proposals: &[i32],
+    budget: i32,
+    work: impl FnOnce(&mut Machine<Written>, &Program) -> (Outcome, usize),
+) -> Answer {
     let ready = match prepare(program, environment, heap, constraints, budget) {
         Ok(ready) => ready,
         Err((outcome, place)) => return refused(outcome, place, proposals.len()),
@@ -41,12 +64,8 @@ pub fn run(
         steps: 0,
         accepted: 0,
     };
-    let ended = machine.block(&ready.program.block);
+    let (outcome, place) = work(&mut machine, &ready.program);
     machine.tables.encode(environment, heap, constraints);
-    let (outcome, place) = match ended {
-        Ok(()) => (Outcome::Finished, ready.program.length),
-        Err(refusal) => (refusal.outcome, refusal.place),
-    };
     Answer {
         outcome: outcome.number(),
         place,

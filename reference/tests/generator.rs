@@ -1,5 +1,7 @@
 //! The generated sheets: always the same ones, and of every outcome.
 
+mod common;
+use common::digest;
 use reference::batch::{answer_line, Sheet};
 use reference::generator::{histogram, sheet};
 
@@ -41,15 +43,6 @@ fn a_seed_and_number_give_the_same_sheet() {
     }
     assert_ne!(sheet(SEED, 0), sheet(SEED + 1, 0));
     assert_ne!(sheet(SEED, 0), sheet(SEED, 1));
-}
-
-/// A sum of all bytes that depends on their order.
-fn digest(lines: impl Iterator<Item = String>) -> u64 {
-    let mut sum = 0xcbf2_9ce4_8422_2325u64;
-    for byte in lines.flat_map(String::into_bytes) {
-        sum = (sum ^ u64::from(byte)).wrapping_mul(0x0100_0000_01b3);
-    }
-    sum
 }
 
 #[test]

@@ -1,6 +1,7 @@
 //! Nothing that comes in, however unfit, stops the program.
 
-use reference::batch::{answer_all, answer_line, Sheet};
+use reference::batch::{answer_all, answer_line, List, Sheet};
+use reference::entries::assign;
 use reference::lister::list;
 use reference::run::run;
 
@@ -72,26 +73,63 @@ fn random_lister_lines() {
     }
 }
 
+/// Tables of random words, of their right lengths mostly.
+fn tables(numbers: &mut Numbers) -> [Vec<i32>; 3] {
+    let mut tables = [numbers.words(140), numbers.words(50), numbers.words(100)];
+    let sizes = [128, 1601, 98];
+    for (table, size) in tables.iter_mut().zip(sizes) {
+        if numbers.below(8) > 0 {
+            table.truncate(numbers.below(12));
+            table.resize(size, 0);
+        }
+    }
+    tables
+}
+
 #[test]
 fn random_words() {
     let mut numbers = Numbers(99);
     for _ in 0..20_000 {
         let program = numbers.words(60);
-        let mut tables = [numbers.words(140), numbers.words(50), numbers.words(100)];
-        let sizes = [128, 1601, 98];
-        for (table, size) in tables.iter_mut().zip(sizes) {
-            if numbers.below(8) > 0 {
-                table.truncate(numbers.below(12));
-                table.resize(size, 0);
-            }
-        }
+        let [mut environment, mut heap, mut constraints] = tables(&mut numbers);
         let proposals = numbers.words(20);
-        let budget = numbers.word();
-        let [environment, heap, constraints] = &mut tables;
-        let answer = run(&program, environment, heap, constraints, &proposals, budget);
+        let answer = run(
+            &program,
+            &mut environment,
+            &mut heap,
+            &mut constraints,
+            &proposals,
+            numbers.word(),
+        );
         assert!((0..20).contains(&answer.outcome));
         assert!(answer.unread <= proposals.len());
     }
+}
+
+#[test]
+fn random_entries() {
+    let mut numbers = Numbers(101);
+    let mut outcomes = [0; 24];
+    for _ in 0..20_000 {
+        let [mut environment, mut heap, mut constraints] = tables(&mut numbers);
+        if numbers.below(2) == 0 {
+            (environment, heap, constraints) = (vec![0; 128], vec![0; 1601], vec![0; 98]);
+        }
+        let (entries, proposals) = (numbers.words(20), numbers.words(8));
+        let answer = assign(
+            &[0],
+            &mut environment,
+            &mut heap,
+            &mut constraints,
+            &entries,
+            &proposals,
+            numbers.below(8) as i32,
+        );
+        outcomes[answer.outcome as usize] += 1;
+        assert!((3..=4).contains(&answer.outcome) || answer.place <= entries.len());
+        assert!(answer.unread <= proposals.len());
+    }
+    assert!(outcomes[23] > 1000 && outcomes[20..23] == [0; 3]);
 }
 
 #[test]
@@ -110,12 +148,18 @@ fn lines_that_are_no_sheets() {
         "0|f|F|F||1",
         "0|FF|F|F||1",
         "0\t|F|F|F||1",
+        "0|F|F|F|||1|",
+        "0|F|F|F|F||1",
+        "0|F|F|F|1 x||1",
+        "0|F|F|F|||",
     ] {
         assert_eq!(answer_line(line.as_bytes()), "unfit", "for {line:?}");
     }
     assert_eq!(answer_line(b"0|F|F|F|\xff|1"), "unfit");
     assert_eq!(answer_line(b"0|F|F|F||1"), "0 1 0 0 0|=|=|=");
     assert_eq!(answer_line(b"0||F|1 2 3|7|1"), "1 0 0 0 1|=|=|=");
+    assert_eq!(answer_line(b"0|F|F|F|||1"), "0 0 0 0 0|=|=|=");
+    assert_eq!(answer_line(b"0|F|F|F|64|7|1"), "23 0 0 0 1|=|=|=");
 }
 
 #[test]
@@ -128,4 +172,15 @@ fn sheets_and_lines_correspond() {
     assert!(sheet.constraints.is_empty());
     assert_eq!((sheet.proposals.len(), sheet.budget), (2, -7));
     assert_eq!(sheet.line(), line);
+}
+
+#[test]
+fn lists_and_lines_correspond() {
+    let line = "3 -4|1 2|F||5 6|9 9|-7";
+    let list = List::parse(line.as_bytes()).unwrap();
+    let sheet = Sheet::parse(b"3 -4|1 2|F||9 9|-7").unwrap();
+    assert_eq!((&list.sheet, &list.entries[..]), (&sheet, &[5, 6][..]));
+    assert_eq!(list.line(), line);
+    assert_eq!(Sheet::parse(line.as_bytes()), None);
+    assert_eq!(List::parse(sheet.line().as_bytes()), None);
 }

@@ -1,6 +1,7 @@
 //! Every batch sheet, of the decisions and of the outcomes, gets its expected answer line.
 //!
-//! A file holds groups of three lines: `#` and what is shown, the sheet, its answer.
+//! A file holds groups of three lines: `#` and what is shown, the sheet or list,
+//! its answer.
 
 use reference::batch;
 use std::ffi::OsStr;
@@ -24,7 +25,7 @@ fn every_reading_has_its_answer() {
 }
 
 #[test]
-fn every_outcome_of_the_start_has_its_answer() {
+fn every_outcome_has_its_answer() {
     test_directory("outcomes");
 }
 

@@ -45,7 +45,7 @@ pub record SameLengths (e₀ h₀ c₀ e h c : List ℤ) : Type 0 where
   pub heap : length h ≡ length h₀
   pub constraints : length c ≡ length c₀
 
-lengths-then : {e₀ h₀ c₀ e h c e′ h′ c′ : List ℤ} → SameLengths e₀ h₀ c₀ e h c → SameLengths e h c e′ h′ c′ → SameLengths e₀ h₀ c₀ e′ h′ c′
+pub lengths-then : {e₀ h₀ c₀ e h c e′ h′ c′ : List ℤ} → SameLengths e₀ h₀ c₀ e h c → SameLengths e h c e′ h′ c′ → SameLengths e₀ h₀ c₀ e′ h′ c′
 lengths-then a b = record { environment = b .environment ∙ a .environment; heap = b .heap ∙ a .heap; constraints = b .constraints ∙ a .constraints }
 
 -- the parts after the test, and after a block

@@ -69,7 +69,7 @@ module _ (program : List ℤ) (budget : ℕ) where
   pub ends-listed : {u : Tally} {p : List ℤ} {n place : ℕ} → Holds program (u .state) → Ends u p n place → Listed (verbOf (numberAt p 0)) n
   ends-listed hold (unpaid {p = p} here) = five-listed (verbOf (numberAt p 0))
   ends-listed {u} hold (refuses {f = f} {p = p} here low r) =
-      stops-listed program (u .state) (u .unread) hold p here low f (refused-rule program p (u .state) (u .unread) here hold low f .1 r)
+      stops-listed program (u .state) (u .unread) hold p (here .statement) low f (refused-rule program p (u .state) (u .unread) (here .statement) hold low f .1 r)
   ends-listed {u} hold (untested {verb = verb} {f = f} {p = p} {q = q} here a b t x) = go (ℕ-discrete verb 7)
     where
       e : test (u .state .cells) (t .words ++ q) ≡ stop f
@@ -77,9 +77,9 @@ module _ (program : List ℤ) (budget : ℕ) where
 
       go : Dec (verb ≡ 7) → Listed (verbOf (numberAt (pos verb ∷ p) 0)) (f .number)
       go (yes i) =
-          rw (statement-verb program (pos verb ∷ p) here branch (number-first (pos verb) p ∙ i))
+          rw (statement-verb (pos verb ∷ p) (here .statement) branch (number-first (pos verb) p ∙ i))
           (tests-read program branch (omega arith) (omega arith) (t .piece) q (u .state .cells) .bad f e)
       go (no i) =
           let j : verb ≡ 8 = omega arith in
-          rw (statement-verb program (pos verb ∷ p) here loop (number-first (pos verb) p ∙ j))
+          rw (statement-verb (pos verb ∷ p) (here .statement) loop (number-first (pos verb) p ∙ j))
           (tests-read program loop (omega arith) (omega arith) (t .piece) q (u .state .cells) .bad f e)

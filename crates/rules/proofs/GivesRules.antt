@@ -36,7 +36,7 @@ use Rattle.rules.specs.Statements.{fieldWords, valuePhase, doAssign, doN
 use Rattle.rules.specs.Rules.Identities.{Phase, PhaseFails}
 use Rattle.rules.specs.Rules.Statements.{pastPath, Gives, assigns, makes, Refused, f-value, f-target, f-field, f-full}
 use Rattle.rules.specs.Steps.Phases.{Target, by-variable, by-path, Ready, as-before, with-record}
-use Rattle.rules.specs.Steps.Holds.{Holds, StatementThere}
+use Rattle.rules.specs.Steps.Holds.{Holds, StatementReads}
 use Rattle.rules.proofs.NameLaws.{names-iff}
 use Rattle.rules.proofs.EvaluationLaws.{evaluate-iff}
 use Rattle.rules.proofs.PhaseLaws.{small-sound}
@@ -62,8 +62,8 @@ record NewThere (p q : List ℤ) : Type 0 where
   few : n ≤ mostFields
   fields : Fields n [] fs
 
-new-there : (program p : List ℤ) (here : StatementThere program (pos 2 ∷ p)) → NewThere p (here .rest)
-new-there program p here =
+new-there : (p : List ℤ) (here : StatementReads (pos 2 ∷ p)) → NewThere p (here .rest)
+new-there p here =
     let t = statement-sound (here .nest) (pos 2 ∷ p) (here .rest) (here .reads) in
     let w = new-words (here .rest) (t .piece) (rw (← t .split) (number-first (pos 2) p)) in
     let e : pos 2 ∷ p ≡ pos 2 ∷ pos (w .x) ∷ pos (w .n) ∷ (w .fs ++ here .rest) = t .split ∙ ap (λ (us : List ℤ). us ++ here .rest) (w .is) in
@@ -85,7 +85,7 @@ module _ (program : List ℤ) (S : State) (holds : Holds program S) where
   given-sound : {target : ℕ} {prefix : List ℕ} {v : Value} {N : Cells} → Given target prefix v N → Sound v
   given-sound {v = v} {N = N} x = small-sound v (recordCount (N .heap)) (fit-count N (x .fit)) (x .small)
 
-  given : {p : List ℤ} {target : ℕ} {prefix : List ℕ} {v : Value} {N : Cells} → Gives (S .cells) p target prefix v N → StatementThere program p → Given target prefix v N
+  given : {p : List ℤ} {target : ℕ} {prefix : List ℕ} {v : Value} {N : Cells} → Gives (S .cells) p target prefix v N → StatementReads p → Given target prefix v N
   given (assigns {v = v} {w = w} {p = p} {r = r} e way) here = record {
     fit = holds .fit;
     ready = as-before;
@@ -93,7 +93,7 @@ module _ (program : List ℤ) (S : State) (holds : Holds program S) where
     small = evaluate-there (S .cells) (holds .fit) expressionDepth (pastPath p) (v, r) (evaluate-iff expressionDepth (S .cells) (pastPath p) v r .1 e);
   }
   given (makes {x = x} {n = n} {fs = fs} {N = N} {p = p} a b f room adds) here =
-      let w = new-there program (pos x ∷ pos n ∷ p) here in
+      let w = new-there (pos x ∷ pos n ∷ p) here in
       let q = w .is in
       let m : w .n ≡ n = cc in
       let i : p ≡ w .fs ++ here .rest = cc in
@@ -105,7 +105,7 @@ module _ (program : List ℤ) (S : State) (holds : Holds program S) where
         small = λ r e. let k : recordCount (S .cells .heap) ≡ r = cc in omega (arith, adds .records);
       }
 
-  module _ {p : List ℤ} {target : ℕ} {prefix : List ℕ} {v : Value} {N : Cells} (g : Gives (S .cells) p target prefix v N) (here : StatementThere program p) where
+  module _ {p : List ℤ} {target : ℕ} {prefix : List ℕ} {v : Value} {N : Cells} (g : Gives (S .cells) p target prefix v N) (here : StatementReads p) where
     pub gives-sized : Sized N
     gives-sized = given g here .fit .sized
 
@@ -131,19 +131,19 @@ module _ (program : List ℤ) (S : State) (holds : Holds program S) where
         phase-fails-complete program (S .kept) (S .cells) N p target prefix v (holds .fit) (x .fit) (x .ready) (x .reached) (given-sound x)
 
   -- the definition goes on with them
-  pub gives-goes : {p : List ℤ} {target : ℕ} {prefix : List ℕ} {v : Value} {N : Cells} → Gives (S .cells) p target prefix v N → StatementThere program p → (ws : List ℤ)
+  pub gives-goes : {p : List ℤ} {target : ℕ} {prefix : List ℕ} {v : Value} {N : Cells} → Gives (S .cells) p target prefix v N → StatementReads p → (ws : List ℤ)
       → doSimple program p S ws (verbOf (numberAt p 0)) ≡ (identityPhase program (S .kept) (S .cells) N p target prefix v >>= λ Y. valuePhase program (S .kept) p target Y ws)
   unfolding doSimple doAssign doNew
   gives-goes (assigns {v = v} {w = w} {p = p} {r = r} e way) here ws =
       rw (
-        statement-verb program (pos 1 ∷ p) here assign (number-first (pos 1) p),
-        ← past-path program p here,
+        statement-verb (pos 1 ∷ p) here assign (number-first (pos 1) p),
+        ← past-path p here,
         evaluate-iff expressionDepth (S .cells) (pastPath p) v r .1 e,
         names-iff (S .cells) p w .1 way,
       )
   gives-goes (makes {x = x} {n = n} {fs = fs} {N = N} {p = p} a b f room adds) here ws =
       rw (
-        statement-verb program (pos 2 ∷ pos x ∷ pos n ∷ p) here new (number-first (pos 2) (pos x ∷ pos n ∷ p)),
+        statement-verb (pos 2 ∷ pos x ∷ pos n ∷ p) here new (number-first (pos 2) (pos x ∷ pos n ∷ p)),
         number-of 0 (variables - 1) x (pos n ∷ p) (omega arith) (omega arith),
         number-of 0 mostFields n p (omega arith) b,
         fields-complete f,
@@ -158,22 +158,22 @@ module _ (program : List ℤ) (S : State) (holds : Holds program S) where
       gives : {target : ℕ} {prefix : List ℕ} {v : Value} {N : Cells} → Gives (S .cells) p target prefix v N → Opens p
       closed : (f : Fault) → doSimple program p S ws (verbOf (numberAt p 0)) ≡ stop f → ((f .number ≡ 2 → ⊥) → Refused program S ws p f) → Opens p
 
-    assign-after : (p : List ℤ) → StatementThere program (pos 1 ∷ p) → Opens (pos 1 ∷ p)
+    assign-after : (p : List ℤ) → StatementReads (pos 1 ∷ p) → Opens (pos 1 ∷ p)
     unfolding doSimple doAssign
     assign-after p here =
-        let verb = statement-verb program (pos 1 ∷ p) here assign (number-first (pos 1) p) in
+        let verb = statement-verb (pos 1 ∷ p) here assign (number-first (pos 1) p) in
         either (evaluate expressionDepth (S .cells) (pastPath p))
         (λ x e.
         let value = evaluate-iff expressionDepth (S .cells) (pastPath p) (x .0) (x .1) .0 e in
         either (wayAt (S .cells) p)
         (λ w way. gives (assigns value (names-iff (S .cells) p w .0 way)))
-        (λ f way. closed f (rw (verb, ← past-path program p here, e, way)) (λ two. let a = astray-sound (S .cells) p f way two in rw (← a .0) (f-target value (a .1)))))
-        (λ f e. closed f (rw (verb, ← past-path program p here, e)) (λ two. f-value (meets-sound (S .cells) expressionDepth (pastPath p) f e two)))
+        (λ f way. closed f (rw (verb, ← past-path p here, e, way)) (λ two. let a = astray-sound (S .cells) p f way two in rw (← a .0) (f-target value (a .1)))))
+        (λ f e. closed f (rw (verb, ← past-path p here, e)) (λ two. f-value (meets-sound (S .cells) expressionDepth (pastPath p) f e two)))
 
-    new-fields : (x n : ℕ) (p : List ℤ) → x < variables → n ≤ mostFields → StatementThere program (pos 2 ∷ pos x ∷ pos n ∷ p) → Opens (pos 2 ∷ pos x ∷ pos n ∷ p)
+    new-fields : (x n : ℕ) (p : List ℤ) → x < variables → n ≤ mostFields → StatementReads (pos 2 ∷ pos x ∷ pos n ∷ p) → Opens (pos 2 ∷ pos x ∷ pos n ∷ p)
     unfolding doSimple doNew
     new-fields x n p a b here =
-        let verb = statement-verb program (pos 2 ∷ pos x ∷ pos n ∷ p) here new (number-first (pos 2) (pos x ∷ pos n ∷ p)) in
+        let verb = statement-verb (pos 2 ∷ pos x ∷ pos n ∷ p) here new (number-first (pos 2) (pos x ∷ pos n ∷ p)) in
         let first = number-of 0 (variables - 1) x (pos n ∷ p) (omega arith) (omega arith) in
         let second = number-of 0 mostFields n p (omega arith) b in
         either (fieldWords n (S .cells) p)
@@ -186,14 +186,14 @@ module _ (program : List ℤ) (S : State) (holds : Holds program S) where
         (λ c. closed (refused 10 (pos 2 ∷ pos x ∷ pos n ∷ p)) (rw (verb, first, second, e, c)) (λ two. f-full a b (fs .1 .0) (ltb-false (recordCount (S .cells .heap)) mostRecords c))))
         (λ f e. closed f (rw (verb, first, second, e)) (λ two. f-field a b (fields-meet-sound (S .cells) n p f e two)))
 
-    new-after : (p : List ℤ) → StatementThere program (pos 2 ∷ p) → Opens (pos 2 ∷ p)
+    new-after : (p : List ℤ) → StatementReads (pos 2 ∷ p) → Opens (pos 2 ∷ p)
     new-after p here =
-        let w = new-there program p here in
+        let w = new-there p here in
         rw (w .is) (new-fields (w .x) (w .n) (w .fs ++ here .rest) (w .small) (w .few) (rw (w .is) at here))
 
-    module _ (p : List ℤ) (here : StatementThere program p) where
+    module _ (p : List ℤ) (here : StatementReads p) where
       pub assign-opens : verbOf (numberAt p 0) ≡ assign → Opens p
-      assign-opens e = subst (λ (t : List ℤ). StatementThere program t → Opens t) (sym (verb-word e (omega arith))) (assign-after (drop 1 p)) here
+      assign-opens e = subst (λ (t : List ℤ). StatementReads t → Opens t) (sym (verb-word e (omega arith))) (assign-after (drop 1 p)) here
 
       pub new-opens : verbOf (numberAt p 0) ≡ new → Opens p
-      new-opens e = subst (λ (t : List ℤ). StatementThere program t → Opens t) (sym (verb-word e (omega arith))) (new-after (drop 1 p)) here
+      new-opens e = subst (λ (t : List ℤ). StatementReads t → Opens t) (sym (verb-word e (omega arith))) (new-after (drop 1 p)) here

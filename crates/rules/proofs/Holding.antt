@@ -37,7 +37,7 @@ module _ (program p : List ℤ) (here : StatementThere program p) where
   verb-holds S ws l holds skip q e = rw (← got-inj e) holds
   verb-holds S ws l holds assign q e = assign-holds program p S ws l holds e
   verb-holds S ws l holds new q e =
-      new-holds program p S ws l holds (here .nest) (here .rest) (statement-sound (here .nest) p (here .rest) (here .reads))
+      new-holds program p S ws l holds (here .statement .nest) (here .statement .rest) (statement-sound (here .statement .nest) p (here .statement .rest) (here .statement .reads))
       (rw q at (verb-number (numberAt p 0) (rw q (omega arith)))) e
   verb-holds S ws l holds always q e = always-holds program p S ws l holds (stands Values (rw q at (verb-number (numberAt p 0) (rw q (omega arith))))) e
   verb-holds S ws l holds once q e = once-holds program p S ws l holds e

@@ -97,7 +97,7 @@ entries-part : {low n : ℕ} {ws rest : List ℤ} {es : List Entry} → EntriesA
 entries-part {ws = ws} no-more = part-refl ws
 entries-part {ws = ws} (next a b others) = part-trans (part-drop 2 ws) (entries-part others)
 
-formed-part : {ws rest : List ℤ} {es : List Entry} → Formed ws es rest → Part ws rest
+pub formed-part : {ws rest : List ℤ} {es : List Entry} → Formed ws es rest → Part ws rest
 formed-part {ws = ws} (formed is) = part-trans (part-drop 1 ws) (entries-part is)
 
 -- a statement takes one proposal or none

@@ -4,6 +4,14 @@ pub mod NameLaws
 pub mod OperatorLaws
 pub mod EvaluationLaws
 pub mod EndLaws
+pub mod EntryWords
+pub mod EntryClauses
+pub mod EntryRules
+pub mod EntrySteps
+pub mod EntryFacts
+pub mod EntryStructure
+pub mod EntryRoom
+pub mod EntryProgram
 pub mod StopLaws
 pub mod LostLaws
 pub mod TypingLaws

@@ -130,15 +130,15 @@ module _ (program : List ℤ) (g : Program program) (S : State) (hold : Holds pr
   within here e x = inner (found-in program here e x)
 
   -- it reads as it does with no block inside it
-  flat : {p : List ℤ} {m : Reading (List ℤ)} (here : StatementThere program p) → ((d : ℕ) → readStatement d p ≡ m) → readStatement 0 p ≡ got (here .rest)
-  flat here opens = opens 0 ∙ sym (opens (here .nest)) ∙ here .reads
+  flat : {p : List ℤ} {m : Reading (List ℤ)} (here : StatementThere program p) → ((d : ℕ) → readStatement d p ≡ m) → readStatement 0 p ≡ got (here .statement .rest)
+  flat here opens = opens 0 ∙ sym (opens (here .statement .nest)) ∙ here .statement .reads
 
   assign-placed : {p : List ℤ} {f : Fault} → StatementThere program (pos 1 ∷ p)
       → ((r q : List ℤ) → pastPath p ≡ r → readPath p ≡ got r → readExpression expressionDepth false r ≡ got q → Inner (S .cells) false p q f) → Placed program S (pos 1 ∷ p) (f .number) (placeOf program f)
   assign-placed {p} here k =
       let e = flat here (λ d. assign-opens d p) in
       step (readPath p) _ (sym (assign-opens 0 p) ∙ e) λ r e1 e2.
-      within here e (k r (here .rest) (past-path program p here ∙ after-got e1) e1 e2)
+      within here e (k r (here .statement .rest) (past-path p (here .statement) ∙ after-got e1) e1 e2)
 
   constraint-placed : {p : List ℤ} {f : Fault} (verb : ℕ) (here : StatementThere program (pos verb ∷ p)) → ((d : ℕ) → readStatement d (pos verb ∷ p) ≡ readConstraint p)
       → ConstraintMeets (S .cells) p f → Placed program S (pos verb ∷ p) (f .number) (placeOf program f)
@@ -192,7 +192,7 @@ module _ (program : List ℤ) (g : Program program) (S : State) (hold : Holds pr
       → Gives (S .cells) p target prefix v N → Phase program (S .kept) (S .cells) N target prefix v Y → Uncounted program (S .kept) Y o f → Placed program S p (f .number) (placeOf program f)
   given-placed e here gives phase (Uncounted.own m) = absurd (let z : _≡_ {A = ℕ} 0 1 = cc in omega arith)
   given-placed e here gives phase (Uncounted.kept reads first m) =
-      in-kept refl (of-kept (there-at here) gives phase first (kept-found (gives-fit program S hold gives here phase) first m))
+      in-kept refl (of-kept (there-at here) gives phase first (kept-found (gives-fit program S hold gives (here .statement) phase) first m))
 
   own-placed : {f : Fault} {p c : List ℤ} {o : Option (List ℤ)} → o ≡ some c → (ConstraintMeets (S .cells) c f → Placed program S p (f .number) (placeOf program f))
       → Uncounted program (S .kept) (S .cells) o f → Placed program S p (f .number) (placeOf program f)

@@ -73,10 +73,8 @@ module _ (program : List ℤ) (short : length program ≤ mostWords) where
         record {
           short = short;
           part = whole .is;
-          nest = d;
+          statement = record { nest = d; rest = q; reads = yields-complete y q };
           there = sym (c ∙ rw e at (statement-in program (positionOf program (s ++ q)) (omega (arith, long y, whole .short))));
-          rest = q;
-          reads = yields-complete y q;
         }
 
     flat : {s : List ℤ} (y : Yields (statementOf d) s) → numberOfVerb (verbIn y) < 7 → Part b (s ++ q) → At-row (s ++ q) → InProgram program (statement d (s ++ q))
@@ -163,10 +161,8 @@ statement-there {program} g (at k {verb} {nest} e) =
     record {
       short = g .short;
       part = part-drop k program .is;
-      nest = nest;
+      statement = record { nest = nest; rest = x .found .rest; reads = rw (x .is) (x .found .reads) };
       there = rw (j, x .is, x .found .verb) e;
-      rest = x .found .rest;
-      reads = rw (x .is) (x .found .reads);
     }
 
 -- its first word is its verb's number

@@ -28,7 +28,7 @@ whole-reaches program ws budget S reads holds =
       simple = λ p here t h l k.
           record {
             holds = statements-hold program p (t .state) (t .unread) l here (h .holds) k;
-            reached = after-one (h .reached) (there-at here) (steps-rule program p (t .state) (t .unread) here (h .holds) l .0 k);
+            reached = after-one (h .reached) (there-at here) (steps-rule program p (t .state) (t .unread) (here .statement) (h .holds) l .0 k);
           };
     })
     (reads .yields) (firstTally S ws) (record { holds = holds; reached = at-first })

@@ -35,7 +35,7 @@ use Rattle.rules.specs.Rules.Proposals.{Unsettled}
 use Rattle.rules.specs.Rules.Statements.{asking, pastPath}
 use Rattle.rules.specs.Rules.Statements.{Refused, f-value, f-target, f-field, f-full, f-phase, f-given}
 use Rattle.rules.specs.Rules.Statements.{f-always, f-once, f-identity, f-unkept}
-use Rattle.rules.specs.Steps.Holds.{Holds, StatementThere}
+use Rattle.rules.specs.Steps.Holds.{Holds, StatementReads}
 use Rattle.rules.proofs.OperatorLaws.{agree}
 use Rattle.rules.proofs.EvaluationLaws.{evaluate-iff}
 use Rattle.rules.proofs.VerbLaws.{verb-in}
@@ -85,7 +85,7 @@ module _ (program : List ℤ) (S : State) (ws : List ℤ) (holds : Holds program
 
   -- ---- what stops is refused by the rules
 
-  gives-refused : {p : List ℤ} (f : Fault) → (f .number ≡ 2 → ⊥) → StatementThere program p → Opens program S holds ws p
+  gives-refused : {p : List ℤ} (f : Fault) → (f .number ≡ 2 → ⊥) → StatementReads p → Opens program S holds ws p
       → doSimple program p S ws (verbOf (numberAt p 0)) ≡ stop f → Refused program S ws p f
   gives-refused f two here (closed h c r) e = let i : h ≡ f = stop-inj (sym c ∙ e) in rw i at r two
   gives-refused {p} f two here (gives {target = target} {prefix = prefix} {v = v} {N = N} g) e =
@@ -126,7 +126,7 @@ module _ (program : List ℤ) (S : State) (ws : List ℤ) (holds : Holds program
     once-identity-refused e =
         stopped-on (sameNow (S .cells) (pos 6 ∷ p) p) _ e (λ e1. f-identity (omega arith) (omega arith) (unsame-sound (S .cells) (pos 6 ∷ p) p f e1 two)) (λ u e1 k1. stop≢got (sym k1))
 
-  module _ (p : List ℤ) (here : StatementThere program p) (f : Fault) (two : f .number ≡ 2 → ⊥) where
+  module _ (p : List ℤ) (here : StatementReads p) (f : Fault) (two : f .number ≡ 2 → ⊥) where
     -- the statement's word and the part after it
     worded : (v : Verb) → verbOf (numberAt p 0) ≡ v → numberOfVerb v < 9
         → ((q : List ℤ) → doSimple program (pos (numberOfVerb v) ∷ q) S ws v ≡ stop f → Refused program S ws (pos (numberOfVerb v) ∷ q) f)
@@ -148,23 +148,23 @@ module _ (program : List ℤ) (S : State) (ws : List ℤ) (holds : Holds program
 
   -- ---- what the rules refuse stops
 
-  refused-stops : {p : List ℤ} {f : Fault} → Refused program S ws p f → StatementThere program p → doSimple program p S ws (verbOf (numberAt p 0)) ≡ stop f
+  refused-stops : {p : List ℤ} {f : Fault} → Refused program S ws p f → StatementReads p → doSimple program p S ws (verbOf (numberAt p 0)) ≡ stop f
   unfolding doSimple doAssign doNew doConstraint doIdentity
   refused-stops (f-value {p = p} m) here =
-      rw (statement-verb program (pos 1 ∷ p) here assign (number-first (pos 1) p), ← past-path program p here) (stops-then _ (meets-complete m))
+      rw (statement-verb (pos 1 ∷ p) here assign (number-first (pos 1) p), ← past-path p here) (stops-then _ (meets-complete m))
   refused-stops (f-target {v = v} {p = p} {r = r} e a) here =
-      rw (statement-verb program (pos 1 ∷ p) here assign (number-first (pos 1) p), ← past-path program p here, evaluate-iff expressionDepth (S .cells) (pastPath p) v r .1 e)
+      rw (statement-verb (pos 1 ∷ p) here assign (number-first (pos 1) p), ← past-path p here, evaluate-iff expressionDepth (S .cells) (pastPath p) v r .1 e)
       (stops-then _ (astray-complete (S .cells) a))
   refused-stops (f-field {x = x} {m = m} {p = p} a b e) here =
       rw (
-        statement-verb program (pos 2 ∷ pos x ∷ pos m ∷ p) here new (number-first (pos 2) (pos x ∷ pos m ∷ p)),
+        statement-verb (pos 2 ∷ pos x ∷ pos m ∷ p) here new (number-first (pos 2) (pos x ∷ pos m ∷ p)),
         number-of 0 (variables - 1) x (pos m ∷ p) (omega arith) (omega arith),
         number-of 0 mostFields m p (omega arith) b,
       )
       (stops-then _ (fields-meet-complete e))
   refused-stops (f-full {x = x} {m = m} {p = p} a b e l) here =
       rw (
-        statement-verb program (pos 2 ∷ pos x ∷ pos m ∷ p) here new (number-first (pos 2) (pos x ∷ pos m ∷ p)),
+        statement-verb (pos 2 ∷ pos x ∷ pos m ∷ p) here new (number-first (pos 2) (pos x ∷ pos m ∷ p)),
         number-of 0 (variables - 1) x (pos m ∷ p) (omega arith) (omega arith),
         number-of 0 mostFields m p (omega arith) b,
         fields-complete e,
@@ -175,22 +175,22 @@ module _ (program : List ℤ) (S : State) (ws : List ℤ) (holds : Holds program
       rw (gives-goes program S holds g here ws, gives-phase program S holds g here Y .1 phase)
       (value-stops p target Y (phase-sized (gives-sized program S holds g here) phase) u)
   refused-stops (f-always {b = b} {p = p} r u) here =
-      rw (statement-verb program (pos 3 ∷ p) here always (number-first (pos 3) p), agree (hasRoom (S .kept) Values (positionOf program (pos 3 ∷ p))) b (room-iff (S .kept) Values (positionOf program (pos 3 ∷ p))) r)
+      rw (statement-verb (pos 3 ∷ p) here always (number-first (pos 3) p), agree (hasRoom (S .kept) Values (positionOf program (pos 3 ∷ p))) b (room-iff (S .kept) Values (positionOf program (pos 3 ∷ p))) r)
       (stops-then _ (unsettled-complete program (S .kept) (asking (some p) none b) (pos 3 ∷ p) (S .cells) ws u))
   refused-stops (f-once {p = p} u) here =
-      rw (statement-verb program (pos 4 ∷ p) here once (number-first (pos 4) p))
+      rw (statement-verb (pos 4 ∷ p) here once (number-first (pos 4) p))
       (stops-then _ (unsettled-complete program (S .kept) (asking (some p) none true) (pos 4 ∷ p) (S .cells) ws u))
   refused-stops (f-identity {verb = verb} {f = f} {p = p} a b u) here = identity-stops (ℕ-discrete verb 5)
     where
       identity-stops : Dec (verb ≡ 5) → doSimple program (pos verb ∷ p) S ws (verbOf (numberAt (pos verb ∷ p) 0)) ≡ stop f
       identity-stops (yes e) =
-          rw (statement-verb program (pos verb ∷ p) here alwaysSame (rw e (number-first (pos 5) p))) (stops-on _ (unsame-complete (S .cells) (pos verb ∷ p) p u))
+          rw (statement-verb (pos verb ∷ p) here alwaysSame (rw e (number-first (pos 5) p))) (stops-on _ (unsame-complete (S .cells) (pos verb ∷ p) p u))
       identity-stops (no n) =
           let e : verb ≡ 6 = omega arith in
-          rw (statement-verb program (pos verb ∷ p) here onceSame (rw e (number-first (pos 6) p))) (stops-on _ (unsame-complete (S .cells) (pos verb ∷ p) p u))
+          rw (statement-verb (pos verb ∷ p) here onceSame (rw e (number-first (pos 6) p))) (stops-on _ (unsame-complete (S .cells) (pos verb ∷ p) p u))
   refused-stops (f-unkept {p = p} s r) here =
       rw (
-        statement-verb program (pos 5 ∷ p) here alwaysSame (number-first (pos 5) p),
+        statement-verb (pos 5 ∷ p) here alwaysSame (number-first (pos 5) p),
         same-iff (S .cells) (pos 5 ∷ p) p .1 s,
         full-iff (S .kept) Identities (positionOf program (pos 5 ∷ p)) .1 r,
       )
@@ -202,17 +202,17 @@ module _ (program : List ℤ) (S : State) (ws : List ℤ) (holds : Holds program
   piece-reads y q p is less f e =
       rw (is, verb-in y q) (simple-reads program y q S ws (ties-are-read program S holds) (rw (is, verb-in y q) at less) .bad f (rw (is, verb-in y q) at e))
 
-  pub stops-listed : (p : List ℤ) → StatementThere program p → numberOfVerb (verbOf (numberAt p 0)) < 7 → (f : Fault) → doSimple program p S ws (verbOf (numberAt p 0)) ≡ stop f
+  pub stops-listed : (p : List ℤ) → StatementReads p → numberOfVerb (verbOf (numberAt p 0)) < 7 → (f : Fault) → doSimple program p S ws (verbOf (numberAt p 0)) ≡ stop f
       → Listed (verbOf (numberAt p 0)) (f .number)
   stops-listed p here less f e =
       let t = statement-sound (here .nest) p (here .rest) (here .reads) in
       piece-reads (t .piece) (here .rest) p (t .split) less f e
 
-  not-two : (p : List ℤ) → StatementThere program p → numberOfVerb (verbOf (numberAt p 0)) < 7 → (f : Fault) → doSimple program p S ws (verbOf (numberAt p 0)) ≡ stop f → f .number ≡ 2 → ⊥
+  not-two : (p : List ℤ) → StatementReads p → numberOfVerb (verbOf (numberAt p 0)) < 7 → (f : Fault) → doSimple program p S ws (verbOf (numberAt p 0)) ≡ stop f → f .number ≡ 2 → ⊥
   not-two p here less f e two = two-not-listed (verbOf (numberAt p 0)) (rw two at (stops-listed p here less f e))
 
 -- a statement that holds no block is refused exactly where the rules say so
-pub refused-rule : (program p : List ℤ) (S : State) (ws : List ℤ) → StatementThere program p → Holds program S → numberOfVerb (verbOf (numberAt p 0)) < 7
+pub refused-rule : (program p : List ℤ) (S : State) (ws : List ℤ) → StatementReads p → Holds program S → numberOfVerb (verbOf (numberAt p 0)) < 7
     → (f : Fault) → (doSimple program p S ws (verbOf (numberAt p 0)) ≡ stop f) ↔ Refused program S ws p f
 refused-rule program p S ws here holds less f = (
   λ e. verb-refused program S ws holds p here f (not-two program S ws holds p here less f e) (verbOf (numberAt p 0)) refl e,

@@ -31,15 +31,15 @@ use Rattle.rules.proofs.RunFacts.{answers}
 
 -- ---- records
 
-record RecordsStay (S Z : Cells) : Type 0 where
+pub record RecordsStay (S Z : Cells) : Type 0 where
   count : recordCount (S .heap) ≤ recordCount (Z .heap)
   fields : (r : ℕ) → r < recordCount (S .heap) → fieldCount (Z .heap) r ≡ fieldCount (S .heap) r
   labels : (r f : ℕ) → r < recordCount (S .heap) → labelAt (Z .heap) r f ≡ labelAt (S .heap) r f
 
 -- what becomes of an environment and a heap of their lengths
-record Grows (S Z : Cells) : Type 0 where
-  stay : RecordsStay S Z
-  sized : Sized Z
+pub record Grows (S Z : Cells) : Type 0 where
+  pub stay : RecordsStay S Z
+  pub sized : Sized Z
 
 records-trans : {S Y Z : Cells} → RecordsStay S Y → RecordsStay Y Z → RecordsStay S Z
 records-trans a b = record {
@@ -93,7 +93,7 @@ gives-grows z (makes a b f room adds) = new-grows z adds
 
 -- ---- kept positions
 
-record PositionsStay (c d : List ℤ) : Type 0 where
+pub record PositionsStay (c d : List ℤ) : Type 0 where
   count : (s : Sort) → keptCount c s ≤ keptCount d s
   places : (s : Sort) (i : ℕ) → i < keptCount c s → positionAt d s i ≡ positionAt c s i
 
@@ -127,22 +127,22 @@ keeps-long {c} {s = s} {k = k} (added e l) = keep-length c s k
 -- ---- statements
 
 -- what stays, and the lengths of the tables after it
-record Step (S Z : State) : Type 0 where
-  cells : Grows (S .cells) (Z .cells)
-  kept : PositionsStay (S .kept) (Z .kept)
-  long : length (Z .kept) ≡ constraintsWords
+pub record Step (S Z : State) : Type 0 where
+  pub cells : Grows (S .cells) (Z .cells)
+  pub kept : PositionsStay (S .kept) (Z .kept)
+  pub long : length (Z .kept) ≡ constraintsWords
 
-step-stays : {S Z : State} → Step S Z → Stays S Z
+pub step-stays : {S Z : State} → Step S Z → Stays S Z
 step-stays a = let r = a .cells .stay in record { records = r .count; fields = r .fields; labels = r .labels; kept = a .kept .count; places = a .kept .places }
 
-step-trans : {S Y Z : State} → Step S Y → Step Y Z → Step S Z
+pub step-trans : {S Y Z : State} → Step S Y → Step Y Z → Step S Z
 step-trans a b = record { cells = grows-trans (a .cells) (b .cells); kept = positions-trans (a .kept) (b .kept); long = b .long }
 
-step-self : (S : State) → Sized (S .cells) → length (S .kept) ≡ constraintsWords → Step S S
+pub step-self : (S : State) → Sized (S .cells) → length (S .kept) ≡ constraintsWords → Step S S
 step-self S z long = record { cells = grows-self (S .cells) z; kept = positions-self (S .kept); long = long }
 
 module _ (program : List ℤ) (S : State) (ws : List ℤ) (z : Sized (S .cells)) (long : length (S .kept) ≡ constraintsWords) where
-  step-of : {p : List ℤ} {l : Left} → Steps program S ws p l → Step S (l .state)
+  pub step-of : {p : List ℤ} {l : Left} → Steps program S ws p l → Step S (l .state)
   step-of s-skip = step-self S z long
   step-of (s-gives {Y = Y} {Z = Z} {rest = rest} g phase s) =
       let a = gives-grows z g in
@@ -166,7 +166,7 @@ chain program ws S Z us n z long (after-one {Z = Y} {us = vs} {n = m} r here s) 
     let a = chain program ws S Y vs m z long r in
     step-trans a (step-of program Y vs (a .cells .sized) (a .long) s)
 
-stays-self : (S : State) → Stays S S
+pub stays-self : (S : State) → Stays S S
 stays-self S = record { records = omega arith; fields = λ r h. refl; labels = λ r f h. refl; kept = λ s. omega arith; places = λ s i h. refl }
 
 passed-stays : (program ws : List ℤ) (budget : ℤ) (S : State) (e : Ended) → Passes program budget S → Answered program ws budget S e → Stays S (e .state)

@@ -40,7 +40,7 @@ not-nowhere : {program p : List ℤ} → StatementThere program p → statementA
 not-nowhere here z = at-nowhere (sym (here .there) ∙ z)
 
 -- the place of a program that does not read
-unread-places : (p : List ℤ) (k : ℕ) → readProgram p ≡ stop k → (k ≤ mostWords) × ((k ≤ length p) × (mostWords < length p → k ≡ mostWords))
+pub unread-places : (p : List ℤ) (k : ℕ) → readProgram p ≡ stop k → (k ≤ mostWords) × ((k ≤ length p) × (mostWords < length p → k ≡ mostWords))
 unread-places p k e = go (decLt mostWords (length p))
   where
     go : Dec (mostWords < length p) → (k ≤ mostWords) × ((k ≤ length p) × (mostWords < length p → k ≡ mostWords))

@@ -91,12 +91,12 @@ module _ (program : List ℤ) (budget : ℕ) where
   unfolding taken
   simple-ran p t here low g = either (doSimple program p (t .state) (t .unread) (verbOf (numberAt p 0)))
       (λ l e. rw e (record {
-        runs = r-simple (steps-rule program p (t .state) (t .unread) here (g .held) l .0 e);
+        runs = r-simple (steps-rule program p (t .state) (t .unread) (here .statement) (g .held) l .0 e);
         good = record { held = statements-hold program p (t .state) (t .unread) l here (g .held) e; within = g .within };
         grown = omega arith;
       }))
       (λ f e. rw e (record {
-        runs = r-refused (refused-rule program p (t .state) (t .unread) here (g .held) low f .0 e);
+        runs = r-refused (refused-rule program p (t .state) (t .unread) (here .statement) (g .held) low f .0 e);
         good = g;
         grown = omega arith;
       }))
@@ -262,12 +262,12 @@ module _ (program : List ℤ) (budget : ℕ) where
   comes (r-simple {d = d} {p = p} {t = t} {l = l} s) x g = as-simple x (steps-low s) λ here low.
       rw (
         simple-is program budget d p t low,
-        steps-rule program p (t .state) (t .unread) here (g .held) l .1 s,
+        steps-rule program p (t .state) (t .unread) (here .statement) (g .held) l .1 s,
       )
   comes (r-refused {d = d} {f = f} {p = p} {t = t} s) x g = as-simple x (refused-low s) λ here low.
       rw (
         simple-is program budget d p t low,
-        refused-rule program p (t .state) (t .unread) here (g .held) low f .1 s,
+        refused-rule program p (t .state) (t .unread) (here .statement) (g .held) low f .1 s,
       )
   comes (r-then {p = p} {t = t} w r) x g = as-branch x refl λ q' r' v k j y z.
       rw (v, test-is w, past k, ← value-rest k w) (comes r (rw (value-rest k w) y) g)

@@ -22,7 +22,7 @@ pub statements-stand : StatementsStand
 statements-stand program p S ws l reads found stands s =
     let here = statement-there reads found in
     let holds = stands-iff program S .1 stands in
-    stands-iff program (l .state) .0 (statements-hold program p S ws l here holds (steps-rule program p S ws here holds l .1 s))
+    stands-iff program (l .state) .0 (statements-hold program p S ws l here holds (steps-rule program p S ws (here .statement) holds l .1 s))
 
 -- what holds after a run that passed its start
 whole-stands : (program ws : List ℤ) (budget : ℤ) (S : State) (o : Out) → Passes program budget S

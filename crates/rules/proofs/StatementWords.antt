@@ -19,12 +19,12 @@ use Rattle.program.proofs.BlockLaws.{statement-none}
 use Rattle.program.proofs.GrammarLaws.{path-complete}
 use Rattle.program.proofs.GrammarSound.{statement-sound}
 use Rattle.rules.specs.Rules.Statements.{pastPath}
-use Rattle.rules.specs.Steps.Holds.{StatementThere}
+use Rattle.rules.specs.Steps.Holds.{StatementReads}
 use Rattle.rules.proofs.VerbLaws.{verb-back, verb-none, told-apart}
 
 -- ---- its word, and its verb
 
-module _ (program p : List ℤ) (here : StatementThere program p) where
+module _ (p : List ℤ) (here : StatementReads p) where
   -- it reads, so its word stands for a verb
   known : numberOfVerb (verbOf (numberAt p 0)) < 9
   known = go (decLt (numberOfVerb (verbOf (numberAt p 0))) 9)
@@ -40,11 +40,11 @@ module _ (program p : List ℤ) (here : StatementThere program p) where
 
 -- ---- the part after an L
 
-labels-length : {n : ℕ} {ls : List ℤ} → Labels n ls → length ls ≡ n
+pub labels-length : {n : ℕ} {ls : List ℤ} → Labels n ls → length ls ≡ n
 labels-length Labels.none = refl
 labels-length (Labels.one h l) = ap suc (labels-length l)
 
-path-past : {a : List ℤ} → Path a → (q : List ℤ) → pastPath (a ++ q) ≡ q
+pub path-past : {a : List ℤ} → Path a → (q : List ℤ) → pastPath (a ++ q) ≡ q
 path-past (Path.path {x = x} {n = n} {ls = ls} a b l) q =
     let k : numberAt (pos x ∷ pos n ∷ (ls ++ q)) 1 ≡ n = sym (number-drop (pos x ∷ pos n ∷ (ls ++ q)) 1 0) ∙ number-first (pos n) (ls ++ q) in
     let i : n + 2 ≡ suc (suc n) = omega arith in
@@ -68,8 +68,8 @@ assign-words q (Yields.branch x y z) e = absurd (omega (arith, sym (number-first
 assign-words q (Yields.loop x y) e = absurd (omega (arith, sym (number-first _ _) ∙ e))
 
 -- the part after the target path of an assignment
-pub past-path : (program p : List ℤ) → StatementThere program (pos 1 ∷ p) → pastPath p ≡ after (readPath p)
-past-path program p here =
+pub past-path : (p : List ℤ) → StatementReads (pos 1 ∷ p) → pastPath p ≡ after (readPath p)
+past-path p here =
     let t = statement-sound (here .nest) (pos 1 ∷ p) (here .rest) (here .reads) in
     let w = assign-words (here .rest) (t .piece) (rw (← t .split) (number-first (pos 1) p)) in
     let e : pos 1 ∷ p ≡ pos 1 ∷ ((w .target ++ w .value) ++ here .rest) = t .split ∙ ap (λ (us : List ℤ). us ++ here .rest) (w .is) in

@@ -22,7 +22,7 @@ use Rattle.rules.specs.Statements.{Left, positionOf, hasRoom, valuePhase
 use Rattle.rules.specs.Rules.Proposals.{Settles}
 use Rattle.rules.specs.Rules.Statements.{leaves, asking}
 use Rattle.rules.specs.Rules.Statements.{Steps, s-skip, s-gives, s-always, s-once, s-always-identity, s-once-identity}
-use Rattle.rules.specs.Steps.Holds.{Holds, StatementThere}
+use Rattle.rules.specs.Steps.Holds.{Holds, StatementReads}
 use Rattle.rules.proofs.ProposalLaws.{settle-iff}
 use Rattle.rules.proofs.TieLaws.{same-iff}
 use Rattle.rules.proofs.StatementWords.{statement-verb}
@@ -46,7 +46,7 @@ module _ (program : List ℤ) (S : State) (ws : List ℤ) (holds : Holds program
 
   -- ---- what is accepted followed the rules
 
-  gives-sound : {p : List ℤ} (l : Left) → StatementThere program p → Opens program S holds ws p → doSimple program p S ws (verbOf (numberAt p 0)) ≡ got l → Steps program S ws p l
+  gives-sound : {p : List ℤ} (l : Left) → StatementReads p → Opens program S holds ws p → doSimple program p S ws (verbOf (numberAt p 0)) ≡ got l → Steps program S ws p l
   gives-sound l here (closed f c r) e = stop≢got (sym c ∙ e)
   gives-sound {p} l here (gives {target = target} {prefix = prefix} {v = v} {N = N} g) e =
       step (identityPhase program (S .kept) (S .cells) N p target prefix v) _ (sym (gives-goes program S holds g here ws) ∙ e) λ Y phase k.
@@ -82,7 +82,7 @@ module _ (program : List ℤ) (S : State) (ws : List ℤ) (holds : Holds program
     unfolding doIdentity
     once-identity-sound e = step-on (sameNow (S .cells) (pos 6 ∷ p) p) _ e λ u s k. rw (← got-inj k) (s-once-identity (same-iff (S .cells) (pos 6 ∷ p) p .0 s))
 
-  module _ (p : List ℤ) (here : StatementThere program p) (l : Left) where
+  module _ (p : List ℤ) (here : StatementReads p) (l : Left) where
     -- the statement's word and the part after it
     worded : (v : Verb) → verbOf (numberAt p 0) ≡ v → numberOfVerb v < 9
         → ((q : List ℤ) → doSimple program (pos (numberOfVerb v) ∷ q) S ws v ≡ got l → Steps program S ws (pos (numberOfVerb v) ∷ q) l)
@@ -104,35 +104,35 @@ module _ (program : List ℤ) (S : State) (ws : List ℤ) (holds : Holds program
 
   -- ---- what the rules say is accepted
 
-  steps-complete : {p : List ℤ} {l : Left} → Steps program S ws p l → StatementThere program p → doSimple program p S ws (verbOf (numberAt p 0)) ≡ got l
+  steps-complete : {p : List ℤ} {l : Left} → Steps program S ws p l → StatementReads p → doSimple program p S ws (verbOf (numberAt p 0)) ≡ got l
   unfolding doSimple doConstraint doIdentity
-  steps-complete (s-skip {p = p}) here = rw (statement-verb program (pos 0 ∷ p) here skip (number-first (pos 0) p))
+  steps-complete (s-skip {p = p}) here = rw (statement-verb (pos 0 ∷ p) here skip (number-first (pos 0) p))
   steps-complete (s-gives {target = target} {Y = Y} {Z = Z} {p = p} {rest = rest} g phase s) here =
       rw (gives-goes program S holds g here ws, gives-phase program S holds g here Y .1 phase) (value-complete p target Y Z rest s)
   steps-complete (s-always {Z = Z} {p = p} {rest = rest} s k) here =
       rw (
-        statement-verb program (pos 3 ∷ p) here always (number-first (pos 3) p),
+        statement-verb (pos 3 ∷ p) here always (number-first (pos 3) p),
         keeps-room (S .kept) Values (positionOf program (pos 3 ∷ p)) k,
         settle-iff program (S .kept) (asking (some p) none true) (pos 3 ∷ p) (S .cells) ws Z rest .1 s,
         keeps-is (S .kept) Values (positionOf program (pos 3 ∷ p)) k,
       )
   steps-complete (s-once {Z = Z} {p = p} {rest = rest} s) here =
       rw (
-        statement-verb program (pos 4 ∷ p) here once (number-first (pos 4) p),
+        statement-verb (pos 4 ∷ p) here once (number-first (pos 4) p),
         settle-iff program (S .kept) (asking (some p) none true) (pos 4 ∷ p) (S .cells) ws Z rest .1 s,
       )
   steps-complete (s-always-identity {p = p} s k) here =
       rw (
-        statement-verb program (pos 5 ∷ p) here alwaysSame (number-first (pos 5) p),
+        statement-verb (pos 5 ∷ p) here alwaysSame (number-first (pos 5) p),
         same-iff (S .cells) (pos 5 ∷ p) p .1 s,
         keeps-room (S .kept) Identities (positionOf program (pos 5 ∷ p)) k,
         keeps-is (S .kept) Identities (positionOf program (pos 5 ∷ p)) k,
       )
   steps-complete (s-once-identity {p = p} s) here =
-      rw (statement-verb program (pos 6 ∷ p) here onceSame (number-first (pos 6) p), same-iff (S .cells) (pos 6 ∷ p) p .1 s)
+      rw (statement-verb (pos 6 ∷ p) here onceSame (number-first (pos 6) p), same-iff (S .cells) (pos 6 ∷ p) p .1 s)
 
 -- a statement that holds no block comes through exactly where the rules say so
-pub steps-rule : (program p : List ℤ) (S : State) (ws : List ℤ) → StatementThere program p → Holds program S
+pub steps-rule : (program p : List ℤ) (S : State) (ws : List ℤ) → StatementReads p → Holds program S
     → (l : Left) → (doSimple program p S ws (verbOf (numberAt p 0)) ≡ got l) ↔ Steps program S ws p l
 steps-rule program p S ws here holds l = (
   steps-sound program S ws holds p here l (verbOf (numberAt p 0)) refl,

@@ -6,3 +6,4 @@ pub mod Acceptance
 pub mod Holding
 pub mod OneStructure
 pub mod Room
+pub mod Entries

@@ -7,6 +7,7 @@ pub mod Proposals
 pub mod Statements
 pub mod Running
 pub mod Start
+pub mod Entries
 pub mod Sheets
 pub mod Rules
 pub mod Effects

@@ -8,3 +8,4 @@ pub mod Statements
 pub mod Runs
 pub mod Kept
 pub mod Answers
+pub mod Entries

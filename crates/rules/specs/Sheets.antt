@@ -1,4 +1,4 @@
--- The sheets K1 to K12 of document 01, "Sheets to try", a while, two of `and` and one of 15: what is run, and the whole of what must come out.
+-- The sheets K1 to K12 of document 01, "Sheets to try", a while, two of `and`, one of 15, and five lists of entries: what is run, and the whole of what must come out.
 -- Assumes nothing: these are definitions.
 use Prim.Native.Nat.{ℕ, zero, suc, _+_, _-_}
 use mathlib.Core.List.{List, [], _∷_, _++_}
@@ -8,6 +8,7 @@ use mathlib.Core.Bool.{Bool, true, false}
 use Rattle.tables.specs.Cells.{cells}
 use Rattle.rules.specs.State.{State, freshState}
 use Rattle.rules.specs.Start.{Ended, run}
+use Rattle.rules.specs.Entries.{assigns}
 
 -- naturals as words, and a table of n words that begins with these
 abbrev pub words : List ℕ → List ℤ
@@ -229,3 +230,66 @@ given (s ∷ ss) = run (s .program) (s .proposals) (s .budget) freshState ∷ gi
 unfoldable pub wanted : List Sheet → List Ended
 wanted [] = []
 wanted (s ∷ ss) = s .answer ∷ wanted ss
+
+-- ---- lists of entries (02, W3), over P and what its first two statements left
+
+pub record Listing : Type 0 where
+  pub entries : List ℤ
+  pub proposals : List ℤ
+  pub budget : ℤ
+  pub answer : Ended
+
+-- x.1 := 32; x.1 := 8
+abbrev pub E1 : Listing
+E1 = record {
+  entries = words (0 ∷ 1 ∷ 1 ∷ 23 ∷ 32 ∷ 0 ∷ 1 ∷ 1 ∷ 23 ∷ 8 ∷ []);
+  proposals = words (1 ∷ 64 ∷ 128 ∷ 1 ∷ 64 ∷ 32 ∷ 0 ∷ []);
+  budget = pos 2;
+  answer = record { outcome = 0; place = 2; steps = 2; accepted = 2; state = two 32 8 (1 ∷ 0 ∷ 10 ∷ []); unread = words (0 ∷ []); tests = [] };
+}
+
+-- the same with no proposal for the second: 6
+abbrev pub E2 : Listing
+E2 = record {
+  entries = words (0 ∷ 1 ∷ 1 ∷ 23 ∷ 32 ∷ 0 ∷ 1 ∷ 1 ∷ 23 ∷ 8 ∷ []);
+  proposals = words (1 ∷ 64 ∷ 128 ∷ []);
+  budget = pos 2;
+  answer = record { outcome = 6; place = 1; steps = 2; accepted = 1; state = two 128 32 (1 ∷ 0 ∷ 10 ∷ []); unread = []; tests = [] };
+}
+
+-- the second has no literal: 23, though no step is left
+abbrev pub E3 : Listing
+E3 = record {
+  entries = words (0 ∷ 1 ∷ 1 ∷ 23 ∷ 32 ∷ 0 ∷ 1 ∷ 1 ∷ 24 ∷ 0 ∷ 0 ∷ []);
+  proposals = words (1 ∷ 64 ∷ 128 ∷ 0 ∷ []);
+  budget = pos 1;
+  answer = record { outcome = 23; place = 1; steps = 1; accepted = 1; state = two 128 32 (1 ∷ 0 ∷ 10 ∷ []); unread = words (0 ∷ []); tests = [] };
+}
+
+-- the second reads, and no step is left: 5, and the third, which does not read, is not looked at
+abbrev pub E4 : Listing
+E4 = record {
+  entries = words (0 ∷ 1 ∷ 1 ∷ 23 ∷ 32 ∷ 0 ∷ 1 ∷ 1 ∷ 23 ∷ 8 ∷ 99 ∷ []);
+  proposals = words (1 ∷ 64 ∷ 128 ∷ 1 ∷ 64 ∷ 32 ∷ []);
+  budget = pos 1;
+  answer = record { outcome = 5; place = 1; steps = 1; accepted = 1; state = two 128 32 (1 ∷ 0 ∷ 10 ∷ []); unread = words (1 ∷ 64 ∷ 32 ∷ []); tests = [] };
+}
+
+abbrev pub E5 : Listing
+E5 = record {
+  entries = [];
+  proposals = words (0 ∷ []);
+  budget = pos 0;
+  answer = record { outcome = 0; place = 0; steps = 0; accepted = 0; state = two 64 16 (1 ∷ 0 ∷ 10 ∷ []); unread = words (0 ∷ []); tests = [] };
+}
+
+abbrev pub listings : List Listing
+listings = E1 ∷ E2 ∷ E3 ∷ E4 ∷ E5 ∷ []
+
+unfoldable pub givenLists : List Listing → List Ended
+givenLists [] = []
+givenLists (x ∷ xs) = assigns P (x .entries) (x .proposals) (x .budget) (two 64 16 (1 ∷ 0 ∷ 10 ∷ [])) ∷ givenLists xs
+
+unfoldable pub wantedLists : List Listing → List Ended
+wantedLists [] = []
+wantedLists (x ∷ xs) = x .answer ∷ wantedLists xs

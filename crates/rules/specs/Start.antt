@@ -70,14 +70,23 @@ pub record Ended : Type 0 where
   pub unread : List ℤ
   pub tests : List Bool
 
-unfoldable pub ended : List ℤ → Out → Ended
-ended program (on t) = record { outcome = 0; place = length program; steps = t .steps; accepted = t .accepted; state = t .state; unread = t .unread; tests = t .tests }
-ended program (end n place t) = record { outcome = n; place = place; steps = t .steps; accepted = t .accepted; state = t .state; unread = t .unread; tests = t .tests }
+-- what is given for a tally, by outcome and place
+abbrev pub givenBy : ℕ → ℕ → Tally → Ended
+givenBy n place t = record { outcome = n; place = place; steps = t .steps; accepted = t .accepted; state = t .state; unread = t .unread; tests = t .tests }
 
--- "A run takes program, tables, proposals and a budget"; 1 to 4 "cost no steps, accept no proposal and change no table"
+unfoldable pub ended : List ℤ → Out → Ended
+ended program (on t) = givenBy 0 (length program) t
+ended program (end n place t) = givenBy n place t
+
+-- what goes on where a program may start; 1 to 4 "cost no steps, accept no proposal and change no table"
+abbrev pub fromStart : Answer Early (Unit {0}) → Tally → (Tally → Ended) → Ended
+fromStart (got u) t goes = goes t
+fromStart (stop e) t goes = givenBy (e .number) (e .place) t
+
+-- the tally before the first statement
+abbrev pub tallyFrom : State → List ℤ → Tally
+tallyFrom S ws = record { state = S; unread = ws; steps = 0; accepted = 0; tests = [] }
+
+-- "A run takes program, tables, proposals and a budget"
 unfoldable pub run : List ℤ → List ℤ → ℤ → State → Ended
-run program ws budget S =
-    elim (starts program budget S) [
-      | got u ↦ ended program (doBlock blockDepth program (numberOf budget) program (record { state = S; unread = ws; steps = 0; accepted = 0; tests = [] }))
-      | stop e ↦ record { outcome = e .number; place = e .place; steps = 0; accepted = 0; state = S; unread = ws; tests = [] }
-    ]
+run program ws budget S = fromStart (starts program budget S) (tallyFrom S ws) λ t. ended program (doBlock blockDepth program (numberOf budget) program t)

@@ -13,20 +13,20 @@ use Rattle.run.specs.Claims.{OneAnswer, EveryAnswer, AnswersExactly, Sta
 
 -- the words of an answer are its numbers
 module _ (e : Ended) where
-  outcome-is : numberAt (answerOf e) 0 ≡ e .outcome
+  pub outcome-is : numberAt (answerOf e) 0 ≡ e .outcome
   outcome-is = number-first (pos (e .outcome)) _
 
-  place-is : numberAt (answerOf e) 1 ≡ e .place
+  pub place-is : numberAt (answerOf e) 1 ≡ e .place
   place-is = sym (number-drop (answerOf e) 1 0) ∙ number-first (pos (e .place)) _
 
-  steps-are : numberAt (answerOf e) 2 ≡ e .steps
+  pub steps-are : numberAt (answerOf e) 2 ≡ e .steps
   steps-are = sym (number-drop (answerOf e) 2 0) ∙ number-first (pos (e .steps)) _
 
-  accepted-are : numberAt (answerOf e) 3 ≡ e .accepted
+  pub accepted-are : numberAt (answerOf e) 3 ≡ e .accepted
   accepted-are = sym (number-drop (answerOf e) 3 0) ∙ number-first (pos (e .accepted)) _
 
 pub one-answer : OneAnswer
-one-answer program ws budget S Z Y a b u w m n = (m .leaves ∙ sym (n .leaves), (m .answers ∙ sym (n .answers), m .hands-back ∙ sym (n .hands-back)))
+one-answer e Z Y a b u w m n = (m .leaves ∙ sym (n .leaves), (m .answers ∙ sym (n .answers), m .hands-back ∙ sym (n .hands-back)))
 
 pub every-answer : EveryAnswer
 every-answer program ws budget S Z a u m =

@@ -21,7 +21,7 @@ use Rattle.rules.specs.Claims.Answers.{Answer}
 use Rattle.rules.proofs.KeepLaws.{positions-iff}
 use Rattle.rules.proofs.StandRules.{each-over, each-join}
 use Rattle.rules.proofs.PlacedLaws.{first-each, inside-short, inner-or}
-use Rattle.rules.proofs.RunFacts.{answers}
+use Rattle.rules.proofs.RunFacts.{unread-places, answers}
 use Rattle.rules.proofs.AnswerRules.{rules}
 
 pub record Exact (e : Ended) : Type 0 where
@@ -52,11 +52,11 @@ third (more a (more b (more c none))) = c
 few : Each (λ k. k ≤ 2) (0 ∷ 1 ∷ 2 ∷ [])
 few = more {x = 0} (omega arith) (more {x = 1} (omega arith) (more {x = 2} (omega arith) none))
 
-early-small : {program : List ℤ} {budget : ℤ} {S : State} {n k : ℕ} → Unstarted program budget S n k → (n ≡ 2 → k ≤ 4096) → k < 2147483648
-early-small (wrong x) two = omega arith
-early-small (unreadable x e) two = omega (arith, two refl)
-early-small (unfit x p f) two = omega (arith, first-each few f)
-early-small {program} {S = S} (broken {k = k} x p t f) two = let l : k < length program = first-each (order-inside program S (third t)) f in omega (arith, p .short)
+pub early-small : {program : List ℤ} {budget : ℤ} {S : State} {n k : ℕ} → Unstarted program budget S n k → k < 2147483648
+early-small (wrong x) = omega arith
+early-small {program} {k = k} (unreadable x e) = omega (arith, unread-places program k e .0)
+early-small (unfit x p f) = omega (arith, first-each few f)
+early-small {program} {S = S} (broken {k = k} x p t f) = let l : k < length program = first-each (order-inside program S (third t)) f in omega (arith, p .short)
 
 -- ---- all numbers
 
@@ -69,7 +69,7 @@ module _ {program ws : List ℤ} {budget : ℤ} {S : State} {e : Ended} (a : Ans
       go (yes o) (no l) = absurd (l (inside-short (a .inside o)))
       go (no o) (no l) = absurd (a .at-statement h o (sym (statement-past program (e .place) (omega arith))))
   placed b (no h) (yes z) = omega (arith, a .finished z)
-  placed b (no h) (no z) = early-small (a .early (omega arith) (omega arith) .0) (λ q. a .unread-place q .0)
+  placed b (no h) (no z) = early-small (a .early (omega arith) (omega arith) .0)
 
 passed : {program ws : List ℤ} {budget : ℤ} {S : State} {e : Ended} → Passes program budget S → Answer program ws budget S e → Exact e
 passed {e = e} p a = record {
@@ -80,7 +80,7 @@ passed {e = e} p a = record {
 }
 
 exact-of : {program ws : List ℤ} {budget : ℤ} {S : State} {e : Ended} → Answered program ws budget S e → Answer program ws budget S e → Exact e
-exact-of (unstarted {n = n} u) a = record { outcome = omega (arith, a .known); place = early-small u (λ q. a .unread-place q .0); steps = omega arith; accepted = omega arith }
+exact-of (unstarted {n = n} u) a = record { outcome = omega (arith, a .known); place = early-small u; steps = omega arith; accepted = omega arith }
 exact-of (finished p r) a = passed p a
 exact-of (stopped p r) a = passed p a
 

@@ -5,7 +5,7 @@ use Prim.Native.Nat.{ℕ}
 use lib.IntN.{ℤ}
 use lib.ListN.{length}
 use Rattle.words.specs.Words.{wordOf, lastOf}
-use Rattle.words.specs.Answer.{got}
+use Rattle.words.specs.Answer.{got, stop}
 use Rattle.words.proofs.Laws.{word-is}
 use Rattle.words.proofs.AnswerLaws.{either}
 use Rattle.rules.specs.State.{State}
@@ -28,26 +28,32 @@ use Rattle.run.proofs.ExactLaws.{Exact, exact}
 words-are : (e : Ended) → Exact e → wordOf (e .outcome) ∷ wordOf (e .place) ∷ wordOf (e .steps) ∷ wordOf (e .accepted) ∷ [] ≡ answerOf e
 words-are e x = rw (word-is (e .outcome) (x .outcome), word-is (e .place) (x .place), word-is (e .steps) (x .steps), word-is (e .accepted) (x .accepted))
 
-module _ (program ws : List ℤ) (budget : ℤ) (S : State) where
-  meets : (given : Ended) → run program ws budget S ≡ given → {Z : State} {answer unread : List ℤ}
-      → answer ≡ wordOf (given .outcome) ∷ wordOf (given .place) ∷ wordOf (given .steps) ∷ wordOf (given .accepted) ∷ [] → Z ≡ given .state → unread ≡ given .unread
-      → Meets Z answer unread (run program ws budget S)
-  meets given r a z u = rw r (record { answers = a ∙ words-are given (rw r at (exact program ws budget S)); leaves = z; hands-back = u })
+-- the answer e, by what is given for it
+pub meets : {e : Ended} → Exact e → (given : Ended) → e ≡ given → {Z : State} {answer unread : List ℤ}
+    → answer ≡ wordOf (given .outcome) ∷ wordOf (given .place) ∷ wordOf (given .steps) ∷ wordOf (given .accepted) ∷ [] → Z ≡ given .state → unread ≡ given .unread → Meets Z answer unread e
+meets x given r a z u = rw r (record { answers = a ∙ words-are given (rw r at x); leaves = z; hands-back = u })
 
-  -- a run that did not begin
-  pub meets-early : {h : Started} {outcome place : ℕ} {answer : List ℤ} → h ≡ startedOf (starts program budget S) → h ≡ Refused outcome place
-      → answer ≡ wordOf outcome ∷ wordOf place ∷ wordOf 0 ∷ wordOf 0 ∷ [] → Meets S answer ws (run program ws budget S)
-  meets-early {outcome = n} {place = k} e h a =
-      either (starts program budget S)
+-- what the start said
+module _ (program : List ℤ) (budget : ℤ) (S : State) {h : Started} (e : h ≡ startedOf (starts program budget S)) where
+  pub begins : h ≡ Begins → starts program budget S ≡ got tt
+  begins h = either {X = starts program budget S ≡ got tt} (starts program budget S) (λ u x. x) (λ f x. unlike (let y = sym (rw x at e) ∙ h in cc))
+
+  pub refuses : {outcome place : ℕ} → h ≡ Refused outcome place → starts program budget S ≡ stop (record { number = outcome; place = place })
+  refuses {outcome = n} {place = k} h =
+      either {X = starts program budget S ≡ stop (record { number = n; place = k })} (starts program budget S)
       (λ u x. unlike (let y = sym (rw x at e) ∙ h in cc))
       (λ f x.
       let y = sym (rw x at e) ∙ h in
       let y1 : f .number ≡ n = cc in
       let y2 : f .place ≡ k = cc in
-      meets (gives (f .number) (f .place) (firstTally S ws)) (run-early program ws budget S x) (rw (y1, y2) a) refl refl)
+      rw (← y1, ← y2) x)
 
-  pub begins : {h : Started} → h ≡ startedOf (starts program budget S) → h ≡ Begins → starts program budget S ≡ got tt
-  begins e h = either {X = starts program budget S ≡ got tt} (starts program budget S) (λ u x. x) (λ f x. unlike (let y = sym (rw x at e) ∙ h in cc))
+module _ (program ws : List ℤ) (budget : ℤ) (S : State) where
+  -- a run that did not begin
+  pub meets-early : {h : Started} {outcome place : ℕ} {answer : List ℤ} → h ≡ startedOf (starts program budget S) → h ≡ Refused outcome place
+      → answer ≡ wordOf outcome ∷ wordOf place ∷ wordOf 0 ∷ wordOf 0 ∷ [] → Meets S answer ws (run program ws budget S)
+  meets-early {outcome = n} {place = k} e h a =
+      meets (exact program ws budget S) (gives n k (firstTally S ws)) (run-early program ws budget S (refuses program budget S e h)) a refl refl
 
   -- a run that began
   module _ (x : starts program budget S ≡ got tt) {Z : State} {t : Tally} (ran : Runs ws Z t (whole program ws budget S)) where
@@ -62,7 +68,7 @@ module _ (program ws : List ℤ) (budget : ℤ) (S : State) where
             let y2 : t .steps ≡ u .steps = ap (λ (c : Carries). c .steps) k in
             let y3 : t .accepted ≡ u .accepted = ap (λ (c : Carries). c .accepted) k in
             let y4 : lastOf (t .unread) ws ≡ u .unread = ap (λ (c : Carries). c .unread) k in
-            meets (gives 0 (length program) u) (run-on program ws budget S x w) (rw (← y2, ← y3) a) y1 y4
+            meets (exact program ws budget S) (gives 0 (length program) u) (run-on program ws budget S x w) (rw (← y2, ← y3) a) y1 y4
         by (end n place u) w e = unlike (cc)
 
     pub meets-end : {answer : List ℤ} → (t .outcome ≡ 0 → ⊥) → answer ≡ wordOf (t .outcome) ∷ wordOf (t .place) ∷ wordOf (t .steps) ∷ wordOf (t .accepted) ∷ []
@@ -79,4 +85,4 @@ module _ (program ws : List ℤ) (budget : ℤ) (S : State) where
             let y4 : lastOf (t .unread) ws ≡ u .unread = ap (λ (c : Carries). c .unread) w6 in
             let y5 : t .outcome ≡ m = cc in
             let y6 : t .place ≡ place = cc in
-            meets (gives m place u) (run-end program ws budget S x w) (rw (← y2, ← y3, ← y5, ← y6) a) y1 y4
+            meets (exact program ws budget S) (gives m place u) (run-end program ws budget S x w) (rw (← y2, ← y3, ← y5, ← y6) a) y1 y4

@@ -15,10 +15,9 @@ use Rattle.rules.specs.Rules.Kept.{Stands}
 use Rattle.rules.specs.Rules.Answers.{Answered}
 use Rattle.run.specs.Told.{Meets}
 
--- any two answers that the promise of run allows are equal: the tables, the four words, and the unread words
+-- any two answers that a promise to meet the rules' answer allows, as that of run, are equal: the tables, the four words, and the unread words
 abbrev pub OneAnswer : Type 0
-OneAnswer = (program ws : List ℤ) (budget : ℤ) (S Z Y : State) (a b u w : List ℤ)
-    → Meets Z a u (run program ws budget S) → Meets Y b w (run program ws budget S) → (Z ≡ Y) × ((a ≡ b) × (u ≡ w))
+OneAnswer = (e : Ended) (Z Y : State) (a b u w : List ℤ) → Meets Z a u e → Meets Y b w e → (Z ≡ Y) × ((a ≡ b) × (u ≡ w))
 
 -- demand 1: the four words are outcome, place, steps and accepted proposals
 pub record Keeps (program ws : List ℤ) (budget : ℤ) (S Z : State) (answer unread : List ℤ) : Type 0 where

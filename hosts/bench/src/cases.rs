@@ -1,13 +1,16 @@
 //! The sheets that are timed.
 
+use crate::lists;
 use crate::written::{self, Words};
 use cordbasin::{Outcome, Tables};
 
-/// A sheet with what its run is known to give.
+/// A sheet with what its run, or a list on it, is known to give.
 pub struct Case {
     pub name: &'static str,
     pub title: &'static str,
     pub program: Words,
+    /// A list's entries; none where the program is run.
+    pub entries: Option<Words>,
     pub tables: Tables,
     pub proposals: Words,
     pub budget: i32,
@@ -28,6 +31,7 @@ pub fn all() -> Vec<Case> {
         class_in_order("class-back", "the same, kept from the far end", true),
         full_tables(),
         long_program(),
+        lists::morning(),
     ]
 }
 
@@ -44,6 +48,7 @@ fn k1() -> Case {
         name: "k1",
         title: "K1 from start to end",
         program,
+        entries: None,
         tables: Tables::fresh(),
         proposals: vec![0, 0, 1, 64, 128],
         budget: 100,
@@ -84,6 +89,7 @@ fn five_constraints() -> Case {
         name: "five",
         title: "loop over 5 kept constraints",
         program: written::block(&statements),
+        entries: None,
         tables: Tables::fresh(),
         proposals: vec![0; 1_000_000],
         budget: 1_000_000,
@@ -120,6 +126,7 @@ fn fifteen_constraints() -> Case {
         name: "fifteen",
         title: "loop over 15 kept constraints of 16 parts",
         program: written::block(&statements),
+        entries: None,
         tables: Tables::fresh(),
         proposals: vec![0; 2_000],
         budget: 1_000_000,
@@ -172,6 +179,7 @@ fn desk_constraints() -> Case {
         name: "desk",
         title: "loop over 6 constraints as a desk writes them",
         program: written::block(&statements),
+        entries: None,
         tables: Tables::fresh(),
         proposals: vec![0; 10 + turns as usize],
         budget: 1_000_000,
@@ -199,6 +207,7 @@ fn class_in_order(name: &'static str, title: &'static str, back: bool) -> Case {
         name,
         title,
         program: written::block(&statements),
+        entries: None,
         tables: Tables::fresh(),
         proposals: vec![0; 3_000],
         budget: 3_000,
@@ -247,6 +256,7 @@ fn full_tables() -> Case {
         name: "start",
         title: "start over full tables",
         program: written::block(&statements),
+        entries: None,
         tables,
         proposals: Vec::new(),
         budget: 0,
@@ -275,6 +285,7 @@ fn long_program() -> Case {
         name: "reading",
         title: "reading 4,096 words",
         program: written::block(&statements),
+        entries: None,
         tables: Tables::fresh(),
         proposals: Vec::new(),
         budget: 0,
@@ -287,12 +298,12 @@ fn long_program() -> Case {
 #[cfg(test)]
 mod tests {
     use super::*;
-    use crate::measured::agree;
+    use crate::measured::{agree, run, Side};
 
     #[test]
     fn both_programs_give_what_each_case_says() {
         let told: Result<Vec<()>, String> = all().iter().map(agree).collect();
-        assert_eq!(told.map(|cases| cases.len()), Ok(8));
+        assert_eq!(told.map(|cases| cases.len()), Ok(9));
     }
 
     #[test]
@@ -307,15 +318,10 @@ mod tests {
     }
 
     /// How many constraints and identities are kept where a case ends.
-    fn kept(mut case: Case) -> (usize, usize) {
-        let answer = cordbasin::run(
-            &case.program,
-            &mut case.tables,
-            &case.proposals,
-            case.budget,
-        );
-        assert_eq!(answer.outcome, case.outcome);
-        let tables = &case.tables;
+    fn kept(case: Case) -> (usize, usize) {
+        let mut tables = case.tables.clone();
+        let answer = run(Side::Proved, &case, &mut tables, case.budget);
+        assert_eq!(answer.0, case.outcome.number());
         (
             tables.kept_constraints().len(),
             tables.kept_identities().len(),
@@ -323,10 +329,11 @@ mod tests {
     }
 
     #[test]
-    fn the_loops_keep_what_they_say() {
+    fn the_cases_keep_what_they_say() {
         assert_eq!(kept(five_constraints()), (5, 0));
         assert_eq!(kept(fifteen_constraints()), (15, 0));
         assert_eq!(kept(desk_constraints()), (6, 0));
+        assert_eq!(kept(lists::morning()), (5, 0));
         assert_eq!(kept(class_in_order("", "", false)), (0, 32));
         assert_eq!(kept(class_in_order("", "", true)), (0, 32));
     }

@@ -3,6 +3,7 @@
 mod cases;
 mod clock;
 mod instructions;
+mod lists;
 mod measured;
 mod times;
 mod typed;

@@ -45,9 +45,11 @@ fn row(title: &str, unit: &str, units: f64, [proved, independent]: [Vec<f64>; 2]
     println!("| {title} | {unit} | {here:.1} | {there:.1} | {ratio:.2} |");
 }
 
-/// What is counted, and how many there are in a run of so many steps.
+/// What is counted, and how many there are in a run of so many steps. A list's
+/// steps are its entries.
 pub fn unit(case: &Case, steps: u32) -> (&'static str, f64) {
     match steps {
+        entries if case.entries.is_some() => ("entry", f64::from(entries)),
         0 if case.name == "reading" => ("word", case.program.len() as f64),
         0 => ("run", 1.0),
         steps => ("step", f64::from(steps)),

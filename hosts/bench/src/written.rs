@@ -14,7 +14,13 @@ pub fn skip() -> Words {
 
 /// The target is the expression that reads it.
 pub fn assign(target: &[i32], value: Words) -> Words {
-    joined(&[&[1], &target[1..], &value])
+    joined(&[&[1], &entry(target, value)])
+}
+
+/// A list's entry, where the value is a literal: an assignment without its
+/// first word.
+pub fn entry(target: &[i32], value: Words) -> Words {
+    joined(&[&target[1..], &value])
 }
 
 /// A record of labels and integers.
@@ -52,6 +58,10 @@ pub fn choose(test: Words, yes: &[Words], no: &[Words]) -> Words {
 
 pub fn repeat(test: Words, body: &[Words]) -> Words {
     joined(&[&[8], &test, &block(body)])
+}
+
+pub fn falsity() -> Words {
+    vec![21]
 }
 
 pub fn truth() -> Words {

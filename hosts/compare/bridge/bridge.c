@@ -1,4 +1,4 @@
-/* Answers from the proved archives, for a machine that cannot link them. A question on standard input begins with a number, 0 to 3.
+/* Answers from the proved archives, for a machine that cannot link them. A question on standard input begins with a number, 0 to 4.
    0, of the reader: three counts, of the program's words, places and tables; the places; the program; the tables. The
    answer is the program's number, then one for each place and each table.
    1, of pieces: five counts, of the words of the program, the environment, the heap and the constraints, and of pieces;
@@ -6,11 +6,13 @@
    2, of a text: four counts, of its bytes and of the words of program, origins and names; the bytes; these words. The answer
    is the four words of the reading's answer, how many words the program has, and program, origins and names.
    3, of a run: five counts, of the words of program, environment, heap, constraints and proposals; the budget; these words.
-   The answer is the four words of the run's answer, how many words of the proposals are unread, and the three tables. */
+   The answer is the four words of the run's answer, how many words of the proposals are unread, and the three tables.
+   4, of a list: six counts, of the words of program, environment, heap, constraints, entries and proposals; the rest and the
+   answer are as for a run. */
 typedef __INT32_TYPE__ word;
 typedef __SIZE_TYPE__ number;
 
-enum { WORDS = 8192, PLACES = 1024, TABLES = 64, TABLE_WORDS = 98, PIECES = 256, BYTES = 1 << 20, LENT = 3, ROWS = 5 };
+enum { WORDS = 8192, PLACES = 1024, TABLES = 64, TABLE_WORDS = 98, PIECES = 256, BYTES = 1 << 20, LENT = 3, RUN_ROWS = 5, LIST_ROWS = 6 };
 
 number compared_program(const word *program, number words);
 number compared_statement(const word *program, number words, number at);
@@ -25,9 +27,11 @@ number cordbasin_read(const unsigned char *text, number bytes, word *program, nu
                       number n, word *answer);
 number cordbasin_run(const word *program, number p, word *environment, number e, word *heap, number h, word *constraints, number c,
                      const word *proposals, number r, word budget, word *answer);
+number cordbasin_assign(const word *program, number p, word *environment, number e, word *heap, number h, word *constraints, number c,
+                        const word *entries, number n, const word *proposals, number r, word budget, word *answer);
 
-static number what, counts[5], places[PLACES], answers[1 + PLACES + TABLES], pieces[PIECES][2];
-static word program[WORDS], tables[TABLES][TABLE_WORDS], environment[WORDS], heap[WORDS], constraints[WORDS], fours[PIECES][4], lent[LENT][WORDS], rows[ROWS][WORDS], budget;
+static number what, counts[LIST_ROWS], places[PLACES], answers[1 + PLACES + TABLES], pieces[PIECES][2];
+static word program[WORDS], tables[TABLES][TABLE_WORDS], environment[WORDS], heap[WORDS], constraints[WORDS], fours[PIECES][4], lent[LENT][WORDS], rows[LIST_ROWS][WORDS], budget;
 static unsigned char text[BYTES];
 
 static long call(long what, long first, const void *second, number third)
@@ -131,17 +135,23 @@ static void answer_text(void)
         pass(1, lent[i], counts[1 + i] * sizeof **lent, 0);
 }
 
-static void answer_run(void)
+/* A row and its count, as the calls take them. */
+#define ROW(i) rows[i], counts[i]
+
+/* Of a run or of a list, by how many rows of words it has. */
+static void answer_call(int count)
 {
-    pass(0, counts, ROWS * sizeof *counts, 0);
+    pass(0, counts, count * sizeof *counts, 0);
     pass(0, &budget, sizeof budget, 0);
-    for (int i = 0; i < ROWS; i++) {
+    for (int i = 0; i < count; i++) {
         if (counts[i] > WORDS)
             leave(2);
         pass(0, rows[i], counts[i] * sizeof **rows, 0);
     }
-    answers[0] = cordbasin_run(rows[0], counts[0], rows[1], counts[1], rows[2], counts[2], rows[3], counts[3], rows[4], counts[4],
-                               budget, fours[0]);
+    if (count == RUN_ROWS)
+        answers[0] = cordbasin_run(ROW(0), ROW(1), ROW(2), ROW(3), ROW(4), budget, fours[0]);
+    else
+        answers[0] = cordbasin_assign(ROW(0), ROW(1), ROW(2), ROW(3), ROW(4), ROW(5), budget, fours[0]);
     pass(1, fours[0], sizeof fours[0], 0);
     pass(1, answers, sizeof *answers, 0);
     for (int i = 1; i <= LENT; i++)
@@ -156,7 +166,9 @@ __attribute__((noreturn, used)) static void serve(void)
         case 0: answer_reader(); break;
         case 1: answer_pieces(); break;
         case 2: answer_text(); break;
-        default: answer_run();
+        case 3: answer_call(RUN_ROWS); break;
+        case 4: answer_call(LIST_ROWS); break;
+        default: leave(2);
         }
     }
 }

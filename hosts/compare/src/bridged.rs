@@ -58,7 +58,32 @@ impl Proved {
         proposals: &[i32],
         budget: i32,
     ) -> io::Result<Option<Told>> {
-        self.send(&run_bytes(program, tables, proposals, budget))?;
+        self.call(3, program, tables, &[proposals], budget)
+    }
+
+    /// What `cordbasin_assign` answers and returns, in the same way.
+    pub fn assign(
+        &mut self,
+        program: &[i32],
+        tables: &mut [Vec<i32>; 3],
+        entries: &[i32],
+        proposals: &[i32],
+        budget: i32,
+    ) -> io::Result<Option<Told>> {
+        self.call(4, program, tables, &[entries, proposals], budget)
+    }
+
+    fn call(
+        &mut self,
+        question: usize,
+        program: &[i32],
+        tables: &mut [Vec<i32>; 3],
+        rest: &[&[i32]],
+        budget: i32,
+    ) -> io::Result<Option<Told>> {
+        let [environment, heap, constraints] = &*tables;
+        let rows = [&[program, environment, heap, constraints], rest].concat();
+        self.send(&call_bytes(question, &rows, budget))?;
         self.told(tables)
     }
 
@@ -139,11 +164,10 @@ fn text_bytes(text: &[u8], lent: &[Vec<i32>; 3]) -> Vec<u8> {
     [numbers(counts), text.to_vec(), words(lent)].concat()
 }
 
-fn run_bytes(program: &[i32], tables: &[Vec<i32>; 3], proposals: &[i32], budget: i32) -> Vec<u8> {
-    let [environment, heap, constraints] = tables;
-    let lists = [program, environment, heap, constraints, proposals];
-    let counts = [3].into_iter().chain(lists.map(<[i32]>::len));
-    [numbers(counts), words([[budget]]), words(lists)].concat()
+fn call_bytes(question: usize, rows: &[&[i32]], budget: i32) -> Vec<u8> {
+    let counts = rows.iter().map(|row| row.len());
+    let counts = [question].into_iter().chain(counts);
+    [numbers(counts), words([[budget]]), words(rows)].concat()
 }
 
 fn numbers(numbers: impl IntoIterator<Item = usize>) -> Vec<u8> {

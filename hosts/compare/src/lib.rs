@@ -1,8 +1,11 @@
 //! Compares the proved functions with the independent program.
 
 pub mod answering;
+pub mod cases;
 pub mod comparison;
 pub mod damage;
+pub mod dealt;
+pub mod entries;
 pub mod expressions;
 pub mod grown;
 pub mod independent;

@@ -104,6 +104,18 @@ impl Proved {
     ) -> io::Result<Option<Told>> {
         Ok(None)
     }
+
+    /// As `read`.
+    pub fn assign(
+        &mut self,
+        _program: &[i32],
+        _tables: &mut [Vec<i32>; 3],
+        _entries: &[i32],
+        _proposals: &[i32],
+        _budget: i32,
+    ) -> io::Result<Option<Told>> {
+        Ok(None)
+    }
 }
 
 // In each call below the pointer and the count are those of one slice, which

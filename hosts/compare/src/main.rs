@@ -1,12 +1,12 @@
 //! The command line of the comparison.
 
 use compare::comparison::{self, Stop};
-use compare::{expressions, lister, notation, sheets};
+use compare::{entries, expressions, lister, notation, sheets};
 use std::fmt::Display;
 use std::process::ExitCode;
 use std::time::Instant;
 
-const USAGE: &str = "usage: compare reader|expressions|sheets|lister|notation SEED COUNT";
+const USAGE: &str = "usage: compare reader|expressions|sheets|entries|lister|notation SEED COUNT";
 
 fn main() -> ExitCode {
     let arguments: Vec<String> = std::env::args_os()
@@ -19,6 +19,7 @@ fn main() -> ExitCode {
             ("reader", Ok(seed), Ok(count)) => report(|| comparison::compare(seed, count)),
             ("expressions", Ok(seed), Ok(count)) => report(|| expressions::compare(seed, count)),
             ("sheets", Ok(seed), Ok(count)) => report(|| sheets::compare(seed, count)),
+            ("entries", Ok(seed), Ok(count)) => report(|| entries::compare(seed, count)),
             ("lister", Ok(seed), Ok(count)) => report(|| lister::compare(seed, count)),
             ("notation", Ok(seed), Ok(count)) => report(|| notation::compare(seed, count)),
             _ => usage(),

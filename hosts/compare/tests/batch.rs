@@ -1,9 +1,19 @@
-//! The C call on every batch sheet, of the decisions and of the outcomes.
+//! The C calls on every batch sheet, of the decisions and of the outcomes.
 
-use compare::sheets::call;
-use reference::batch::Sheet;
+use compare::{entries, sheets};
+use reference::batch::{List, Sheet};
 use std::fs;
 use std::path::Path;
+
+/// The answer line of a C call: `cordbasin_run` for a sheet, `cordbasin_assign`
+/// for a list.
+fn answer(line: &str) -> String {
+    if let Some(sheet) = Sheet::parse(line.as_bytes()) {
+        return sheets::call(&sheet).line(&sheet);
+    }
+    let list = List::parse(line.as_bytes()).expect("a sheet or a list");
+    entries::call(&list).line(&list.sheet)
+}
 
 /// Runs the batch sheets of a folder, and gives how many there are.
 fn test_folder(name: &str) -> usize {
@@ -22,9 +32,7 @@ fn test_folder(name: &str) -> usize {
             let [shown, line, expected] = group else {
                 panic!("{}: three lines make a group", path.display());
             };
-            let sheet = Sheet::parse(line.as_bytes()).expect("a batch sheet");
-            let answer = call(&sheet).line(&sheet);
-            assert_eq!(answer, *expected, "{}: {shown}", path.display());
+            assert_eq!(answer(line), *expected, "{}: {shown}", path.display());
             sheets += 1;
         }
     }
@@ -37,6 +45,6 @@ fn decisions_have_their_answers() {
 }
 
 #[test]
-fn outcomes_of_the_start_have_their_answers() {
-    assert_eq!(test_folder("outcomes"), 6);
+fn outcomes_have_their_answers() {
+    assert_eq!(test_folder("outcomes"), 20);
 }

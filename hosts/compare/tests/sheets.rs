@@ -176,7 +176,7 @@ fn wrong_lengths_are_refused() {
 #[test]
 fn a_short_run_is_the_same() {
     let tally = compare(3, 4000).expect("no difference");
-    assert_eq!(tally.outcomes.iter().sum::<u64>(), 4000);
+    assert_eq!(tally.cases(), 4000);
     assert!(tally.outcomes.iter().all(|sheets| *sheets > 20), "{tally}");
-    assert!(tally.places.are_met(50), "{tally}");
+    assert!(tally.noted.are_met(50), "{tally}");
 }

@@ -1,4 +1,4 @@
-//! What comes back from a run.
+//! What comes back from a run, and from a list.
 
 use core::fmt;
 
@@ -22,18 +22,48 @@ pub struct Answer<'p> {
     pub unread: &'p [i32],
 }
 
-/// How a run ended, under document 01's numbers, or how a text was read, which
-/// is 0, 1 or 20 to 22. Prints as what it says.
+/// What a list gives back beside its tables, which hold what the last accepted
+/// entry left.
+///
+/// It is no [`Answer`], whose place is a word that
+/// [`Program::refusal`](crate::Program::refusal) shows in the text: here the
+/// place is an entry's index, and the text has no place to show.
+///
+/// Prints on one line: `0 after 3 entries: finished`,
+/// `19 at entry 2: a required part is not met`, and for 1 to 4
+/// `3 at place 1: a table's content is unfit`.
+#[must_use = "an entry may be refused"]
+#[derive(Clone, Copy, Debug, PartialEq, Eq)]
+pub struct ListAnswer<'p> {
+    /// How the list ended.
+    pub outcome: Outcome,
+    /// The refused entry's index, from 0, or the number of entries where all
+    /// went through. For 1 to 4 it is the place of a run, see [`Outcome`]; that
+    /// of 4 is a word, which [`Program::spot`](crate::Program::spot) shows.
+    pub place: usize,
+    /// Entries begun, a refused one too; 5 and 23 begin none.
+    pub steps: u32,
+    /// Proposals accepted: one for each entry that went through.
+    pub accepted: u32,
+    /// The last words of the proposals, which were not read. A proposal that
+    /// was turned down is among them.
+    pub unread: &'p [i32],
+}
+
+/// How a run ended, under document 01's numbers; how a text was read, which is
+/// 0, 1 or 20 to 22; or how a list ended, which is a run's or 23. Prints as
+/// what it says.
 ///
 /// 1 to 4 are tried in their order; they cost no steps, accept no proposal and
 /// change no table. From 5 on the tables hold what the last accepted statement
 /// left. For 7, 8, 9 and 15 the place is the word at fault, as each tells; for
 /// the others from 5 to 19 it is the word of the refused statement (the while's
 /// where a later test cannot be paid).
-/// [`Program::refusal`](crate::Program::refusal) shows it in the text.
+/// [`Program::refusal`](crate::Program::refusal) shows it in the text. Of a
+/// list the place is, from 5 on, the refused entry's index.
 #[derive(Clone, Copy, Debug, PartialEq, Eq, PartialOrd, Ord, Hash)]
 pub enum Outcome {
-    /// The place is the program's length.
+    /// The place is the program's length, or the number of a list's entries.
     Finished = 0,
     /// A table's length or the budget is wrong. The place is 0.
     WrongSize = 1,
@@ -89,11 +119,14 @@ pub enum Outcome {
     TooManyNames = 21,
     /// A text's token passes a limit, or byte 65,536.
     OverLimit = 22,
+    /// An entry of a list is no target and literal: a word is out of its range,
+    /// or the words run out. Found at its turn, before 5.
+    UnfitAssignment = 23,
 }
 
 impl Outcome {
     /// Every outcome, each at its number.
-    pub const ALL: [Outcome; 23] = [
+    pub const ALL: [Outcome; 24] = [
         Outcome::Finished,
         Outcome::WrongSize,
         Outcome::UnfitProgram,
@@ -117,14 +150,15 @@ impl Outcome {
         Outcome::UnfitText,
         Outcome::TooManyNames,
         Outcome::OverLimit,
+        Outcome::UnfitAssignment,
     ];
 
-    /// Its number, 0 to 22.
+    /// Its number, 0 to 23.
     pub fn number(self) -> i32 {
         self as i32
     }
 
-    /// The outcome of a number from 0 to 22.
+    /// The outcome of a number from 0 to 23.
     pub fn of_number(number: i32) -> Option<Outcome> {
         let place = usize::try_from(number).ok()?;
         Outcome::ALL.get(place).copied()
@@ -160,6 +194,26 @@ impl Outcome {
             Outcome::UnfitText => "text unfit",
             Outcome::TooManyNames => "too many names",
             Outcome::OverLimit => "over 64 KiB or a limit",
+            Outcome::UnfitAssignment => "an entry is no target and literal",
+        }
+    }
+}
+
+impl<'p> ListAnswer<'p> {
+    /// The index of the entry that was refused. There is none where all went
+    /// through, and for 1 to 4, whose places are no entries.
+    pub fn refused(&self) -> Option<usize> {
+        (self.outcome >= Outcome::BudgetSpent).then_some(self.place)
+    }
+
+    /// The same numbers, of a list.
+    pub(crate) fn of(answer: Answer<'p>) -> ListAnswer<'p> {
+        ListAnswer {
+            outcome: answer.outcome,
+            place: answer.place,
+            steps: answer.steps,
+            accepted: answer.accepted,
+            unread: answer.unread,
         }
     }
 }
@@ -176,5 +230,16 @@ impl fmt::Display for Answer<'_> {
         writeln!(out, "place={}", self.place)?;
         writeln!(out, "steps={}", self.steps)?;
         writeln!(out, "proposals={}", self.accepted)
+    }
+}
+
+impl fmt::Display for ListAnswer<'_> {
+    fn fmt(&self, out: &mut fmt::Formatter<'_>) -> fmt::Result {
+        let (number, place, outcome) = (self.outcome.number(), self.place, self.outcome);
+        if outcome == Outcome::Finished {
+            return write!(out, "{number} after {place} entries: {outcome}");
+        }
+        let of = self.refused().map_or("place", |_| "entry");
+        write!(out, "{number} at {of} {place}: {outcome}")
     }
 }

@@ -1,6 +1,6 @@
 //! The calls of libcordbasin.a, made safe.
 
-use crate::answer::{Answer, Outcome};
+use crate::answer::{Answer, ListAnswer, Outcome};
 use crate::tables::Tables;
 
 /// The largest budget that is not refused.
@@ -22,6 +22,23 @@ extern "C" {
         heap_words: usize,
         constraints: *mut i32,
         constraints_words: usize,
+        proposals: *const i32,
+        proposals_words: usize,
+        budget: i32,
+        answer: *mut [i32; 4],
+    ) -> usize;
+
+    fn cordbasin_assign(
+        program: *const i32,
+        program_words: usize,
+        environment: *mut i32,
+        environment_words: usize,
+        heap: *mut i32,
+        heap_words: usize,
+        constraints: *mut i32,
+        constraints_words: usize,
+        entries: *const i32,
+        entries_words: usize,
         proposals: *const i32,
         proposals_words: usize,
         budget: i32,
@@ -91,6 +108,71 @@ pub fn run_words<'p>(
     };
     match typed(answer, proposals, unread) {
         Some(answer) => answer,
+        None => panic!("libcordbasin.a gave {answer:?} and {unread} words unread"),
+    }
+}
+
+/// Carries out a list of entries on tables, which then hold what the last
+/// accepted entry left: each is the assignment of a literal to a target, and
+/// reads one proposal. The program is not run; it is the one that the kept
+/// constraints stand in.
+///
+/// The entries are [`Entries`](crate::Entries), or words from elsewhere, one
+/// entry after another; only such words can be refused with
+/// [`Outcome::UnfitAssignment`]. Each one begun costs a step of the budget, 0 to
+/// 1,000,000. The first that is refused ends the list, and those after it are
+/// not looked at.
+pub fn assign<'p>(
+    program: &[i32],
+    tables: &mut Tables,
+    entries: impl AsRef<[i32]>,
+    proposals: &'p [i32],
+    budget: i32,
+) -> ListAnswer<'p> {
+    assign_words(
+        program,
+        &mut tables.environment,
+        &mut tables.heap,
+        &mut tables.constraints,
+        entries.as_ref(),
+        proposals,
+        budget,
+    )
+}
+
+/// As [`assign`], on tables that the host keeps as slices of its own. A slice
+/// of another length than its table's is refused with [`Outcome::WrongSize`].
+pub fn assign_words<'p>(
+    program: &[i32],
+    environment: &mut [i32],
+    heap: &mut [i32],
+    constraints: &mut [i32],
+    entries: &[i32],
+    proposals: &'p [i32],
+    budget: i32,
+) -> ListAnswer<'p> {
+    let mut answer = [-1; 4];
+    // SAFETY: as in `run_words`.
+    let unread = unsafe {
+        cordbasin_assign(
+            program.as_ptr(),
+            program.len(),
+            environment.as_mut_ptr(),
+            environment.len(),
+            heap.as_mut_ptr(),
+            heap.len(),
+            constraints.as_mut_ptr(),
+            constraints.len(),
+            entries.as_ptr(),
+            entries.len(),
+            proposals.as_ptr(),
+            proposals.len(),
+            budget,
+            &mut answer,
+        )
+    };
+    match typed(answer, proposals, unread) {
+        Some(answer) => ListAnswer::of(answer),
         None => panic!("libcordbasin.a gave {answer:?} and {unread} words unread"),
     }
 }

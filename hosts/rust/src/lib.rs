@@ -4,12 +4,13 @@
 //! holds afterwards.
 //!
 //! [`Program::read`] reads a sheet as it is typed. [`run`] takes a program's
-//! words, [`Tables`], proposals and a budget, and gives an [`Answer`]. The work
-//! is done by `libcordbasin.a`, each function of which is proved to meet its
-//! contract; this crate is not proved. It links that archive, which
-//! `tools/native cordbasin` writes, and has no dependencies. A call allocates
-//! nothing and keeps nothing, so that two threads may run on tables of their
-//! own.
+//! words, [`Tables`], proposals and a budget, and gives an [`Answer`].
+//! [`assign`] sets fields by a list of [`Entries`], each [`Entry`] a target and
+//! a literal, and gives a [`ListAnswer`]. The work is done by `libcordbasin.a`, each function
+//! of which is proved to meet its contract; this crate is not proved. It links
+//! that archive, which `tools/native cordbasin` writes, and has no
+//! dependencies. A call allocates nothing and keeps nothing, so that two
+//! threads may run on tables of their own.
 //!
 //! # Example
 //!
@@ -70,17 +71,46 @@
 //!                                     ^");
 //! # Ok::<(), cordbasin::Refusal>(())
 //! ```
+//!
+//! A list goes on from the tables that a run left, one proposal for each entry,
+//! up to the first that is refused:
+//!
+//! ```
+//! use cordbasin::{assign, run, Entries, Literal, Outcome, Program, Tables, Value, LONGEST_ENTRY};
+//!
+//! let program = Program::read("x := new {bytes: 64, samples: 16};
+//!     always required x.bytes = 4 * x.samples; x.samples := 32")?;
+//! let mut tables = Tables::fresh();
+//! let answer = run(program.words(), &mut tables, &[0, 0, 1, 64, 128], 100);
+//! assert_eq!(answer.outcome, Outcome::Finished);
+//!
+//! let mut room = [0; 2 * LONGEST_ENTRY];
+//! let mut list = Entries::new(&mut room);
+//! for samples in [40, 48] {
+//!     let entry = program.entry("x.samples", Literal::Int(samples));
+//!     assert!(list.push(entry.expect("names of the program")));
+//! }
+//! // 160 for x.bytes, and no change.
+//! let answer = assign(program.words(), &mut tables, &list, &[1, 64, 160, 0], 100);
+//!
+//! assert_eq!(answer.to_string(), "19 at entry 1: a required part is not met");
+//! assert_eq!(tables.at(0, &[0]), Some(Value::Int(160)));
+//! assert_eq!(answer.unread, [0]);
+//! # Ok::<(), cordbasin::Refusal>(())
+//! ```
 
 #![no_std]
 #![warn(missing_docs)]
 
 mod answer;
 mod call;
+mod entry;
 mod program;
 mod tables;
 
-pub use answer::{Answer, Outcome};
-pub use call::{read_words, run, run_words, Reading};
+pub use answer::{Answer, ListAnswer, Outcome};
+pub use call::{assign, assign_words, read_words, run, run_words, Reading};
 pub use call::{LARGEST_BUDGET, LONGEST_PROGRAM, NAMES_WORDS};
+pub use entry::{Entries, Entry, Literal, LONGEST_ENTRY};
 pub use program::{Program, Refusal, Spot};
 pub use tables::{Tables, Value, CONSTRAINTS_WORDS, ENVIRONMENT_WORDS, HEAP_WORDS};

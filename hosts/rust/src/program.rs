@@ -3,6 +3,7 @@
 
 use crate::answer::{Answer, Outcome};
 use crate::call::{read_words, LONGEST_PROGRAM, NAMES_WORDS};
+use crate::entry::{Entry, Literal, LONGEST_PATH};
 use core::fmt;
 
 const FIRST_LABEL: usize = 128;
@@ -101,6 +102,20 @@ impl<'t> Program<'t> {
     /// The number of the label with this name.
     pub fn label(&self, name: &str) -> Option<usize> {
         self.labels().position(|other| other == name)
+    }
+
+    /// The entry of a list whose target is a path, typed as in a text without
+    /// white space: `x.bytes`. There is none where the program has no such
+    /// name, and for more than 7 labels.
+    pub fn entry(&self, path: &str, literal: Literal) -> Option<Entry> {
+        let mut names = path.split('.');
+        let variable = self.variable(names.next()?)?;
+        let (mut labels, mut count) = ([0; LONGEST_PATH], 0);
+        for name in names {
+            *labels.get_mut(count)? = self.label(name)?;
+            count += 1;
+        }
+        Entry::new(variable, labels.get(..count)?, literal)
     }
 
     /// A run's refusal in the text that was typed. For 7, 8, 9 and 15 the mark

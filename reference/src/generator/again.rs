@@ -49,7 +49,7 @@ pub fn again(mut draft: Draft) -> Sheet {
 }
 
 /// Sometimes another order of kept positions, or one of them less.
-fn rearrange(numbers: &mut Numbers, positions: &mut Vec<usize>) {
+pub fn rearrange(numbers: &mut Numbers, positions: &mut Vec<usize>) {
     match numbers.below(10) {
         0 | 1 => positions.reverse(),
         2 => {
@@ -87,7 +87,7 @@ fn search(numbers: &mut Numbers, program: &Program, tables: &Tables) -> Vec<i32>
 }
 
 /// One cell changed, so that a kept constraint fails if that can be had.
-fn spoilt(numbers: &mut Numbers, tables: Tables, always: &Always) -> Tables {
+pub fn spoilt(numbers: &mut Numbers, tables: Tables, always: &Always) -> Tables {
     let cells: Vec<(usize, Value)> = tables.cells().collect();
     for _ in 0..12 {
         let Some((location, value)) = numbers.pick(&cells) else {

@@ -106,7 +106,7 @@ impl Composer<'_> {
     }
 
     /// A record that several cells hold, tied to each other.
-    fn family(&mut self) -> Vec<i32> {
+    pub fn family(&mut self) -> Vec<i32> {
         let start = self.numbers.below(VARIABLE_NAMES.len());
         let mut names = VARIABLE_NAMES.iter().cycle().skip(start);
         let mut name = || names.next().copied().unwrap_or(0);

@@ -20,7 +20,7 @@ fn change(numbers: &mut Numbers, words: &mut [i32], most: usize) {
 }
 
 /// Changes, swaps, cuts, lengthens, drops or adds words of a list.
-fn spoil_list(numbers: &mut Numbers, words: &mut Vec<i32>) {
+pub fn spoil_list(numbers: &mut Numbers, words: &mut Vec<i32>) {
     let (first, second) = (numbers.below(words.len()), numbers.below(words.len()));
     match numbers.below(9) {
         0 => words.truncate(first),
@@ -42,6 +42,15 @@ fn spoil_length(numbers: &mut Numbers, table: &mut Vec<i32>) {
         _ => {
             table.pop();
         }
+    }
+}
+
+/// Gives one of the tables another length.
+pub fn spoil_lengths(numbers: &mut Numbers, sheet: &mut Sheet) {
+    match numbers.below(3) {
+        0 => spoil_length(numbers, &mut sheet.environment),
+        1 => spoil_length(numbers, &mut sheet.heap),
+        _ => spoil_length(numbers, &mut sheet.constraints),
     }
 }
 
@@ -131,11 +140,7 @@ pub fn spoil(numbers: &mut Numbers, sheet: &mut Sheet) {
         7 | 8 => change(numbers, &mut sheet.environment, 16),
         9..=11 => spoil_heap(numbers, &mut sheet.heap),
         12 | 13 => spoil_constraints(numbers, &mut sheet.constraints),
-        14 | 15 => match numbers.below(3) {
-            0 => spoil_length(numbers, &mut sheet.environment),
-            1 => spoil_length(numbers, &mut sheet.heap),
-            _ => spoil_length(numbers, &mut sheet.constraints),
-        },
+        14 | 15 => spoil_lengths(numbers, sheet),
         16 => sheet.budget = numbers.one_of(&[-1, 1_000_001, i32::MIN, i32::MAX, 0, 1]),
         17..=20 => spoil_list(numbers, &mut sheet.proposals),
         21 | 22 => spoil_reference(numbers, sheet),

@@ -177,6 +177,16 @@ impl Draft {
         }
     }
 
+    /// Begins again from the tables as they stand; the proposals and steps so
+    /// far are forgotten.
+    pub fn start_anew(&mut self) {
+        self.start = self.tables.clone();
+        self.search.words.clear();
+        self.search.starts.clear();
+        self.search.read = 0;
+        self.steps = 0;
+    }
+
     pub fn program(&self) -> Vec<i32> {
         let mut program = self.words.clone();
         program.splice(0..1, [i32::try_from(self.statements).unwrap_or(0)]);

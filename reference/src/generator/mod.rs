@@ -1,4 +1,5 @@
-//! Sheets for comparing two programs: a seed and a number give a sheet.
+//! Sheets, lists and texts for comparing two programs: a seed and a number
+//! give one.
 
 mod again;
 mod blocks;
@@ -7,10 +8,12 @@ mod damage;
 mod draft;
 mod inside;
 mod limits;
+pub mod lists;
 pub mod numbers;
 mod search;
 mod solve;
 mod start;
+mod states;
 pub mod texts;
 mod wishes;
 
@@ -18,6 +21,7 @@ use crate::batch::Sheet;
 use crate::outcome::Outcome;
 use crate::places::Places;
 use draft::Draft;
+pub use lists::{as_program, list};
 use numbers::Numbers;
 
 /// The sheet of a seed and number, the same on every machine.

@@ -2,9 +2,10 @@
 
 use super::compose::Composer;
 use super::draft::Draft;
-use super::inside::{behind_parts, under_operators, under_truths};
+use super::inside::{behind_parts, under_operators};
 use super::search::Mistake;
 use super::start;
+use super::states;
 use crate::batch::Sheet;
 use crate::outcome::Outcome;
 use crate::tables::{Kind, Value};
@@ -235,14 +236,11 @@ fn clash(draft: &mut Draft) {
         .unwrap_or(&[20]);
     match draft.numbers.below(4) {
         0 => {
-            let _ = draft.attempt(&[2, 20, 1, 0, 20]);
-            let _ = draft.attempt(&[1, 20, 1, 0, 24, 20, 0]);
+            states::self_reference(draft);
             last(draft, [&[1, 20, 2, 0, 0][..], value].concat());
         }
         1 => {
-            let _ = draft.attempt(&[2, 21, 2, 0, 20, 1, 23, 4]);
-            let _ = draft.attempt(&[1, 22, 0, 20]);
-            let _ = draft.attempt(&[5, 21, 1, 0, 22, 0]);
+            states::tied_field(draft);
             let statement = match draft.numbers.below(4) {
                 0 => vec![2, 21, 0],
                 1 => vec![2, 21, 1, 0, 20],
@@ -252,13 +250,7 @@ fn clash(draft: &mut Draft) {
         }
         2 => inner_clash(draft, value),
         _ => {
-            let _ = draft.attempt(&[2, 23, 1, 0, 20]);
-            let _ = draft.attempt(&[1, 24, 0, 24, 23, 0]);
-            let _ = draft.attempt(&[1, 25, 0, 24, 23, 0]);
-            let _ = draft.attempt(&[5, 24, 0, 25, 0]);
-            let _ = draft.attempt(&[5, 23, 0, 24, 0]);
-            let _ = draft.attempt(&[6, 23, 0, 25, 0]);
-            let _ = draft.attempt(&[5, 23, 1, 0, 24, 1, 0]);
+            states::tied_family(draft);
             last(draft, vec![2, 25, 1, 0, 20]);
         }
     }
@@ -266,11 +258,7 @@ fn clash(draft: &mut Draft) {
 
 /// A field on the way of a kept identity, reached by its own path or another.
 fn inner_clash(draft: &mut Draft, value: &[i32]) {
-    let _ = draft.attempt(&[2, 30, 1, 1, 20]);
-    let _ = draft.attempt(&[2, 31, 1, 0, 24, 30, 0]);
-    let _ = draft.attempt(&[1, 32, 0, 24, 31, 0]);
-    let _ = draft.attempt(&[1, 33, 0, 20]);
-    let _ = draft.attempt(&[5, 31, 2, 0, 1, 33, 0]);
+    states::tied_inner_field(draft);
     let name = draft.numbers.between(31, 32);
     let given = match draft.numbers.below(3) {
         0 => &[24, 30, 0],
@@ -281,20 +269,7 @@ fn inner_clash(draft: &mut Draft, value: &[i32]) {
 }
 
 fn plain_identity(draft: &mut Draft) {
-    let pair = draft.composer().identical_paths();
-    let (left, right) = match pair {
-        Some((left, right)) => (left.words, right.words),
-        None => {
-            let _ = draft.attempt(&[1, 26, 0, 20]);
-            (vec![26, 0], vec![26, 0])
-        }
-    };
-    let _ = draft.attempt(&[&[5][..], &left, &right].concat());
-    let named = if draft.numbers.chance(50) {
-        left
-    } else {
-        right
-    };
+    let named = states::tied_pair(draft);
     let mut statement = [&[1][..], &named].concat();
     let kinds = [Kind::Integer, Kind::Boolean];
     let kind = draft.numbers.pick(&kinds).unwrap_or(Kind::Integer);
@@ -319,15 +294,7 @@ fn no_room(draft: &mut Draft) {
 }
 
 fn lost_constraint(draft: &mut Draft) {
-    let _ = draft.attempt(&[2, 27, 2, 0, 23, 1, 1, 22]);
-    for _ in 0..=draft.numbers.below(2) {
-        let part = draft
-            .numbers
-            .pick(&[&[25, 6, 24, 27, 1, 0, 23, 1][..], &[24, 27, 1, 1]]);
-        let part = under_truths(&mut draft.numbers, part.unwrap_or(&[22]));
-        let constraint = behind_parts(&mut draft.numbers, &part);
-        let _ = draft.attempt(&[&[3][..], &constraint].concat());
-    }
+    states::named_fields(draft);
     let statement: &[i32] = match draft.numbers.below(6) {
         0 => &[1, 27, 0, 20],
         1 => &[2, 27, 1, 0, 23, 1],
@@ -342,9 +309,7 @@ fn lost_constraint(draft: &mut Draft) {
 /// Grows on with a mistake due at the next proposal it fits.
 fn mistake(draft: &mut Draft, mistake: Mistake) {
     if mistake == Mistake::Unmet {
-        let _ = draft.attempt(&[1, 28, 0, 23, 3]);
-        let _ = draft.attempt(&[1, 29, 0, 23, 4]);
-        let _ = draft.attempt(&[3, 1, 3, 25, 4, 24, 28, 0, 24, 29, 0]);
+        states::less_than_another(draft);
     }
     draft.search.mistake = Some(mistake);
     for _ in 0..6 {

@@ -1,10 +1,11 @@
 //! Builders of words and tables for the tests.
 #![allow(dead_code)]
 
+pub mod cores;
 pub mod judge;
 pub mod texts;
 
-use reference::batch::{Finish, Sheet};
+use reference::batch::{Finish, List, Sheet};
 use reference::tables::{CONSTRAINT_WORDS, ENVIRONMENT_WORDS, HEAP_WORDS};
 
 pub const P: [i32; 33] = [
@@ -80,19 +81,41 @@ pub fn block(statements: &[&[i32]]) -> Vec<i32> {
     words
 }
 
-/// Runs a sheet and compares outcome, place, steps, accepted and unread.
-pub fn check(sheet: &Sheet, expected: (i32, usize, u32, u32, usize)) -> Finish {
-    let finish = sheet.answer();
+/// Outcome, place, steps, accepted and unread.
+pub type Told = (i32, usize, u32, u32, usize);
+
+fn told(finish: &Finish) -> Told {
     let answer = &finish.answer;
-    let given = (
+    (
         answer.outcome,
         answer.place,
         answer.steps,
         answer.accepted,
         answer.unread,
-    );
+    )
+}
+
+/// Runs a sheet and compares what is told.
+pub fn check(sheet: &Sheet, expected: Told) -> Finish {
+    let finish = sheet.answer();
     let (program, proposals) = (&sheet.program, &sheet.proposals);
-    assert_eq!(given, expected, "for {program:?} with {proposals:?}");
+    assert_eq!(
+        told(&finish),
+        expected,
+        "for {program:?} with {proposals:?}"
+    );
+    finish
+}
+
+/// Carries out a list and compares what is told.
+pub fn check_list(list: &List, expected: Told) -> Finish {
+    let finish = list.answer();
+    let (entries, proposals) = (&list.entries, &list.sheet.proposals);
+    assert_eq!(
+        told(&finish),
+        expected,
+        "for {entries:?} with {proposals:?}"
+    );
     finish
 }
 
@@ -103,7 +126,22 @@ pub fn check_tables(finish: &Finish, environment: &[i32], heap: &[i32], constrai
 }
 
 /// As `check`, and no table may have changed.
-pub fn check_unchanged(sheet: &Sheet, expected: (i32, usize, u32, u32, usize)) {
+pub fn check_unchanged(sheet: &Sheet, expected: Told) {
     let finish = check(sheet, expected);
     check_tables(&finish, &sheet.environment, &sheet.heap, &sheet.constraints);
+}
+
+/// As `check_list`, and no table may have changed.
+pub fn check_list_unchanged(list: &List, expected: Told) {
+    let (finish, sheet) = (check_list(list, expected), &list.sheet);
+    check_tables(&finish, &sheet.environment, &sheet.heap, &sheet.constraints);
+}
+
+/// A sum of all bytes that depends on their order.
+pub fn digest(lines: impl Iterator<Item = String>) -> u64 {
+    let mut sum = 0xcbf2_9ce4_8422_2325u64;
+    for byte in lines.flat_map(String::into_bytes) {
+        sum = (sum ^ u64::from(byte)).wrapping_mul(0x0100_0000_01b3);
+    }
+    sum
 }

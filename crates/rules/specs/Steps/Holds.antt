@@ -39,11 +39,15 @@ pub record Holds (program : List ℤ) (S : State) : Type 0 where
   pub values : Each (ValueHolds program (S .cells)) (positions (S .kept) Values)
   pub identities : Each (IdentityHolds program (S .cells)) (positions (S .kept) Identities)
 
+-- p begins with a statement
+pub record StatementReads (p : List ℤ) : Type 0 where
+  pub nest : ℕ
+  pub rest : List ℤ
+  pub reads : readStatement nest p ≡ got rest
+
 -- p is the part of the program that begins at a statement of it
 pub record StatementThere (program p : List ℤ) : Type 0 where
   pub short : length program ≤ mostWords
   pub part : drop (positionOf program p) program ≡ p
-  pub nest : ℕ
-  pub there : statementAt program (positionOf program p) ≡ At (numberAt p 0) nest
-  pub rest : List ℤ
-  pub reads : readStatement nest p ≡ got rest
+  pub statement : StatementReads p
+  pub there : statementAt program (positionOf program p) ≡ At (numberAt p 0) (statement .nest)

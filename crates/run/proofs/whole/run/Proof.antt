@@ -32,7 +32,7 @@ enum-told c = search needs
 run-begun-requires : tie.Need-run-begun-requires
 run-begun-requires c κs =
     let b = back32 (c .before .before .before .before .before .before .before .before .before .before .args .budget) (c .before .before .before .before .before .before .before .before .before .before .fits .budget) in
-    rw b (begins (c .before .before .before .before .before .before .before .before .before .before .args .program .now) (c .before .before .before .before .before .before .before .before .before .before .args .proposals .now) (c .before .before .before .before .before .before .before .before .before .before .args .budget) (tables (c .before .before .before .before .before .before .before .before .before .before .args .environment .now) (c .before .before .before .before .before .before .before .before .before .before .args .heap .now) (c .before .before .before .before .before .before .before .before .before .before .args .constraints .now)) (rw b at (c .before .before .before .before .before .before .starts .ensures)) (c .before .before .before .before .enum-told .given .1))
+    rw b (begins (c .before .before .before .before .before .before .before .before .before .before .args .program .now) (c .before .before .before .before .before .before .before .before .before .before .args .budget) (tables (c .before .before .before .before .before .before .before .before .before .before .args .environment .now) (c .before .before .before .before .before .before .before .before .before .before .args .heap .now) (c .before .before .before .before .before .before .before .before .before .before .args .constraints .now)) (rw b at (c .before .before .before .before .before .before .starts .ensures)) (c .before .before .before .before .enum-told .given .1))
 
 -- src/whole.rt:79:13
 part-last-requires : tie.Need-part-last-requires

@@ -1,0 +1,5 @@
+pub mod LaidLaws
+pub mod ReadLaws
+pub mod ListLaws
+pub mod WholeLaws
+pub mod CodeClaims

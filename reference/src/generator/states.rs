@@ -1,0 +1,74 @@
+//! States in which a certain statement or entry is refused.
+
+use super::draft::Draft;
+use super::inside::{behind_parts, under_truths};
+
+/// v20.0 holds the record that v20 does, so that it is on its own way.
+pub fn self_reference(draft: &mut Draft) {
+    let _ = draft.attempt(&[2, 20, 1, 0, 20]);
+    let _ = draft.attempt(&[1, 20, 1, 0, 24, 20, 0]);
+}
+
+/// v21 is on the way of v21.0 == v22.
+pub fn tied_field(draft: &mut Draft) {
+    let _ = draft.attempt(&[2, 21, 2, 0, 20, 1, 23, 4]);
+    let _ = draft.attempt(&[1, 22, 0, 20]);
+    let _ = draft.attempt(&[5, 21, 1, 0, 22, 0]);
+}
+
+/// v31.0, which is v32.0 too, is on the way of v31.0.1 == v33.
+pub fn tied_inner_field(draft: &mut Draft) {
+    let _ = draft.attempt(&[2, 30, 1, 1, 20]);
+    let _ = draft.attempt(&[2, 31, 1, 0, 24, 30, 0]);
+    let _ = draft.attempt(&[1, 32, 0, 24, 31, 0]);
+    let _ = draft.attempt(&[1, 33, 0, 20]);
+    let _ = draft.attempt(&[5, 31, 2, 0, 1, 33, 0]);
+}
+
+/// v23, v24 and v25 are one class, two of them on the way of v23.0 == v24.0.
+pub fn tied_family(draft: &mut Draft) {
+    let _ = draft.attempt(&[2, 23, 1, 0, 20]);
+    let _ = draft.attempt(&[1, 24, 0, 24, 23, 0]);
+    let _ = draft.attempt(&[1, 25, 0, 24, 23, 0]);
+    let _ = draft.attempt(&[5, 24, 0, 25, 0]);
+    let _ = draft.attempt(&[5, 23, 0, 24, 0]);
+    let _ = draft.attempt(&[6, 23, 0, 25, 0]);
+    let _ = draft.attempt(&[5, 23, 1, 0, 24, 1, 0]);
+}
+
+/// Keeps an identity of any two cells that allow it, and gives a side's path.
+pub fn tied_pair(draft: &mut Draft) -> Vec<i32> {
+    let pair = draft.composer().identical_paths();
+    let (left, right) = match pair {
+        Some((left, right)) => (left.words, right.words),
+        None => {
+            let _ = draft.attempt(&[1, 26, 0, 20]);
+            (vec![26, 0], vec![26, 0])
+        }
+    };
+    let _ = draft.attempt(&[&[5][..], &left, &right].concat());
+    match draft.numbers.chance(50) {
+        true => left,
+        false => right,
+    }
+}
+
+/// Kept constraints name v27.0, an integer, and v27.1, a boolean.
+pub fn named_fields(draft: &mut Draft) {
+    let _ = draft.attempt(&[2, 27, 2, 0, 23, 1, 1, 22]);
+    for _ in 0..=draft.numbers.below(2) {
+        let part = draft
+            .numbers
+            .pick(&[&[25, 6, 24, 27, 1, 0, 23, 1][..], &[24, 27, 1, 1]]);
+        let part = under_truths(&mut draft.numbers, part.unwrap_or(&[22]));
+        let constraint = behind_parts(&mut draft.numbers, &part);
+        let _ = draft.attempt(&[&[3][..], &constraint].concat());
+    }
+}
+
+/// v28 < v29 is required, and v28 is 3.
+pub fn less_than_another(draft: &mut Draft) {
+    let _ = draft.attempt(&[1, 28, 0, 23, 3]);
+    let _ = draft.attempt(&[1, 29, 0, 23, 4]);
+    let _ = draft.attempt(&[3, 1, 3, 25, 4, 24, 28, 0, 24, 29, 0]);
+}
