@@ -7,13 +7,13 @@ use mathlib.Core.List.{List, [], _∷_, _++_, append-assoc, append-nil}
 use mathlib.Core.Option.{none, some}
 use lib.IntN.{ℤ, pos}
 use lib.ListN.{length, length-append}
-use Rattle.words.specs.Words.{numberAt}
+use Rattle.words.specs.Words.{numberAt, numberOf}
 use Rattle.words.specs.Answer.{got}
 use Rattle.words.proofs.Laws.{number-first}
-use Rattle.words.proofs.AnswerLaws.{got-inj}
+use Rattle.words.proofs.AnswerLaws.{got-inj, stop-inj, stop≢got}
 use Rattle.tables.specs.declared.Value.{Value}
 use Rattle.tables.specs.Cells.{Cells}
-use Rattle.program.specs.Forms.{expressionDepth}
+use Rattle.program.specs.Forms.{blockDepth, expressionDepth}
 use Rattle.program.specs.Grammar.{Labels, Path, statementOf, Yields, Takes}
 use Rattle.program.proofs.GrammarLaws.{yields-complete}
 use Rattle.rules.specs.State.{State, Fault, refused}
@@ -25,15 +25,18 @@ use Rattle.rules.specs.Start.{Ended}
 use Rattle.rules.specs.Rules.Expressions.{HasField, Leads, here, by, Names, names, Literal, Within, e-literal, Astray, astray, Meets}
 use Rattle.rules.specs.Rules.Proposals.{Each, Unsettled}
 use Rattle.rules.specs.Rules.Statements.{pastPath, asking, Gives, assigns, makes, Steps, s-gives, Refused}
-use Rattle.rules.specs.Rules.Runs.{statement, statements, begun, afterwards, Runs}
+use Rattle.rules.specs.Rules.Runs.{block, statement, statements, begun, afterwards, Runs, r-block}
 use Rattle.rules.specs.Rules.Runs.{r-none, r-some, r-unpaid, r-ended, r-simple, r-refused, r-then, r-else, r-no-if, r-while}
-use Rattle.rules.specs.Rules.Answers.{given}
-use Rattle.rules.specs.Rules.Entries.{Entry, entry, Sets, e-none, e-unfit, e-unpaid, e-refused, e-more}
-use Rattle.rules.specs.Claims.Entries.{wordsOf, rowOf, Alike, AsAProgram}
+use Rattle.rules.specs.Rules.Answers.{Unstarted, Passes, firstTally, given, Answered, finished, stopped}
+use Rattle.rules.specs.Rules.Entries.{Entry, entry, Sets, e-none, e-unfit, e-unpaid, e-refused, e-more, Listed, started}
+use Rattle.rules.specs.Claims.Entries.{wordsOf, rowOf, Alike, AsAProgram, programOf, tallyIn, AsItsProgram}
 use Rattle.rules.proofs.EvaluationLaws.{evaluate-iff}
 use Rattle.rules.proofs.StatementWords.{path-past}
+use Rattle.rules.proofs.WalkLaws.{tallyOf}
+use Rattle.rules.proofs.StartRules.{passes-iff, unstarted-iff}
+use Rattle.rules.proofs.EntryRules.{entries-rules}
 use Rattle.rules.proofs.EntryWords.{entry-long, takes-shorter, entry-yields}
-use Rattle.rules.proofs.EntrySteps.{other, entry-gave, literal-meets, entry-number}
+use Rattle.rules.proofs.EntrySteps.{other, entry-gave, literal-meets, Turned, by-value, by-target, by-phase, by-proposal, turned, entry-number}
 use Rattle.rules.proofs.EntryStructure.{same-entry}
 
 -- ---- what follows an entry is nothing to it: r and q are two things that may
@@ -87,10 +90,8 @@ module _ (S : Cells) where
   gives-on r q {x = x} en i (makes {x = y} {n = n} {p = p} a b c d f) =
       absurd (other 2 (pos y ∷ pos n ∷ p) (λ z. omega arith) refl (rw i (number-first (pos 1) (x ++ r))))
 
-  not-met : (r : List ℤ) {x p : List ℤ} {f : Fault} → Entry x → p ≡ x ++ r → Meets S false expressionDepth (pastPath p) f → ⊥
-  not-met r {p = p} (entry {a = a} {e = e} target literal) i m =
-      let k : p ≡ a ++ (e ++ r) = i ∙ append-assoc a e r in
-      literal-meets (literal-on literal r) (rw (k, path-past target (e ++ r)) at m)
+  not-met : (r : List ℤ) {x : List ℤ} {f : Fault} → Entry x → Meets S false expressionDepth (pastPath (x ++ r)) f → ⊥
+  not-met r (entry {a = a} {e = e} target literal) m = literal-meets (literal-on literal r) (rw (append-assoc a e r, path-past target (e ++ r)) at m)
 
 unsettled-on : {program kept ws w : List ℤ} {asked : Asked} {Y : Cells} {f : Fault} (u : List ℤ) → Unsettled program kept asked w Y ws f → (g : Fault) × ((g .number ≡ f .number) × Unsettled program kept asked u Y ws g)
 unsettled-on u (Unsettled.uncounted c) = (_, (refl, Unsettled.uncounted c))
@@ -107,23 +108,21 @@ module _ (program : List ℤ) (S : State) (ws r q : List ℤ) where
   steps-on : {x : List ℤ} {l : Left} → Entry x → Steps program S ws (pos 1 ∷ (x ++ r)) l → Steps program S ws (pos 1 ∷ (x ++ q)) l
   steps-on en s = let g = entry-gave s in rw (g .leaving) (s-gives (gives-on (S .cells) r q en refl (g .gives)) (g .phase) (g .settles))
 
-  target-on : {x p : List ℤ} → Entry x → p ≡ x ++ r → Astray (S .cells) p → RefusedOn program S ws 7 (pos 1 ∷ (x ++ q))
-  target-on {p = p} (entry {a = a} {e = e} target literal) i b =
-      let k : p ≡ a ++ (e ++ r) = i ∙ append-assoc a e r in
-      let y : Astray (S .cells) ((a ++ e) ++ q) = rw (append-assoc a e q) (astray-on (S .cells) (e ++ r) (e ++ q) target (rw k at b)) in
+  target-on : {x : List ℤ} → Entry x → Astray (S .cells) (x ++ r) → RefusedOn program S ws 7 (pos 1 ∷ (x ++ q))
+  target-on (entry {a = a} {e = e} target literal) b =
+      let y : Astray (S .cells) ((a ++ e) ++ q) = rw (append-assoc a e q) (astray-on (S .cells) (e ++ r) (e ++ q) target (rw (append-assoc a e r) at b)) in
       record { fault = refused 7 ((a ++ e) ++ q); number = refl; there = Refused.f-target (value-on (S .cells) target literal q) y }
 
-  refused-on : {s x : List ℤ} {f : Fault} → Entry x → s ≡ pos 1 ∷ (x ++ r) → Refused program S ws s f → RefusedOn program S ws (f .number) (pos 1 ∷ (x ++ q))
-  refused-on {x = x} en i (Refused.f-value {p = p} m) = let j : p ≡ x ++ r = cc in absurd (not-met (S .cells) r en j m)
-  refused-on {x = x} en i (Refused.f-target {p = p} a b) = let j : p ≡ x ++ r = cc in target-on en j b
-  refused-on {x = x} en i (Refused.f-phase {n = n} g a) = record { fault = refused n (pos 1 ∷ (x ++ q)); number = refl; there = Refused.f-phase (gives-on (S .cells) r q en i g) a }
-  refused-on {x = x} en i (Refused.f-given g a u) = let k = unsettled-on (pos 1 ∷ (x ++ q)) u in record { fault = k .0; number = k .1 .0; there = Refused.f-given (gives-on (S .cells) r q en i g) a (k .1 .1) }
-  refused-on {x = x} en i (Refused.f-field {x = y} {m = m} {p = p} a b c) = absurd (other 2 (pos y ∷ pos m ∷ p) (λ z. omega arith) refl (rw i (number-first (pos 1) (x ++ r))))
-  refused-on {x = x} en i (Refused.f-full {x = y} {m = m} {p = p} a b c d) = absurd (other 2 (pos y ∷ pos m ∷ p) (λ z. omega arith) refl (rw i (number-first (pos 1) (x ++ r))))
-  refused-on {x = x} en i (Refused.f-always {p = p} a b) = absurd (other 3 p (λ z. omega arith) refl (rw i (number-first (pos 1) (x ++ r))))
-  refused-on {x = x} en i (Refused.f-once {p = p} a) = absurd (other 4 p (λ z. omega arith) refl (rw i (number-first (pos 1) (x ++ r))))
-  refused-on {x = x} en i (Refused.f-identity {verb = verb} {p = p} a b c) = absurd (other verb p (λ z. omega arith) refl (rw i (number-first (pos 1) (x ++ r))))
-  refused-on {x = x} en i (Refused.f-unkept {p = p} a b) = absurd (other 5 p (λ z. omega arith) refl (rw i (number-first (pos 1) (x ++ r))))
+  turned-on : {x : List ℤ} {f : Fault} → Entry x → Turned program S ws (x ++ r) f → RefusedOn program S ws (f .number) (pos 1 ∷ (x ++ q))
+  turned-on en (by-value m) = absurd (not-met (S .cells) r en m)
+  turned-on en (by-target a b) = target-on en b
+  turned-on {x} en (by-phase {n = n} g a) = record { fault = refused n (pos 1 ∷ (x ++ q)); number = refl; there = Refused.f-phase (gives-on (S .cells) r q en refl g) a }
+  turned-on {x} en (by-proposal g a u) =
+      let k = unsettled-on (pos 1 ∷ (x ++ q)) u in
+      record { fault = k .0; number = k .1 .0; there = Refused.f-given (gives-on (S .cells) r q en refl g) a (k .1 .1) }
+
+  refused-on : {x : List ℤ} {f : Fault} → Entry x → Refused program S ws (pos 1 ∷ (x ++ r)) f → RefusedOn program S ws (f .number) (pos 1 ∷ (x ++ q))
+  refused-on en s = turned-on en (turned s)
 
 -- ---- an assignment in a run
 
@@ -177,7 +176,7 @@ module _ (program : List ℤ) (budget d : ℕ) (r : List ℤ) where
 
     broke-sets : {n place : ℕ} {u : Tally} → t .steps < budget → Did program (begun t) p (end n place u) → Lists (x ∷ xs) i t (end n place u)
     broke-sets b (stops s) =
-        let g = refused-on program (t .state) (t .unread) (rowOf xs ++ r) [] en e s in
+        let g = refused-on program (t .state) (t .unread) (rowOf xs ++ r) [] en (rw e at s) in
         let m : Sets program budget i (x ++ wordsOf xs) t (given (g .fault .number) i (begun t)) = e-refused (front xs en) b (rw (append-nil x) at (g .there)) in
         not-all (rw (g .number) at m)
 
@@ -239,7 +238,7 @@ module _ (program : List ℤ) (budget d : ℕ) (r : List ℤ) where
         broken {place = placeOf program (g .fault)} {u = begun t} h (rw row m)
 
     broken-row : {f : Fault} → t .steps < budget → Refused program (t .state) (t .unread) (pos 1 ∷ x) f → Rows (x ∷ xs) i t (given (f .number) i (begun t))
-    broken-row b s = refused-row (omega (arith, entry-number en s .least)) b (refused-on program (t .state) (t .unread) [] rest en (ap (λ (y : List ℤ). pos 1 ∷ y) alone) s)
+    broken-row b s = refused-row (omega (arith, entry-number en s .least)) b (refused-on program (t .state) (t .unread) [] rest en (rw alone at s))
 
     unpaid-row : budget ≤ t .steps → Rows (x ∷ xs) i t (given 5 i t)
     unpaid-row b = broken {n = 5} (omega arith) (r-unpaid b)
@@ -257,11 +256,7 @@ module _ (program : List ℤ) (budget d : ℕ) (r : List ℤ) where
   sets-row Each.none q m = no-entries (rw q (omega arith)) m
   sets-row (Each.more {x = x} {xs = xs} en es) q m = some-row en (record { words = x; piece = en; split = q }) refl (λ q u z n. sets-row es z n) m
 
--- ---- the claim
-
--- the tally in an answer
-abbrev tallyIn : Ended → Tally
-tallyIn e = record { state = e .state; unread = e .unread; steps = e .steps; accepted = e .accepted; tests = e .tests }
+-- ---- the claims
 
 module _ {program : List ℤ} {budget d : ℕ} {r : List ℤ} {xs : List (List ℤ)} {t : Tally} where
   to-sets : {u : Tally} → Lists program budget d r xs 0 t (on u) → Sets program budget 0 (wordsOf xs) t (given 0 (length xs) u)
@@ -284,3 +279,44 @@ as-a-program program budget d xs r t es = record {
   through = λ u. (λ m. to-sets (row-sets program budget d r es 0 refl m), λ m. to-row (sets-row program budget d r es refl m) refl);
   refused = λ n u h. (λ m. to-refusal (row-sets program budget d r es 0 refl (m .1)), λ m. to-broken (sets-row program budget d r es refl (m .1)) h refl);
 }
+
+-- ---- the program of the assignments alone
+
+abbrev outcomeOf : Out → ℕ
+outcomeOf (on u) = 0
+outcomeOf (end n place u) = n
+
+block-row : {program p : List ℤ} {budget d n : ℕ} {t : Tally} {o : Out} → Runs program budget (block (suc d) (pos n ∷ p)) t o → Runs program budget (statements d n p) t o
+block-row (r-block few m) = m
+
+module _ {xs : List (List ℤ)} (es : Each Entry xs) (ws : List ℤ) (budget : ℤ) (S : State) where
+  -- its start is the list's
+  not-both : {n k : ℕ} → Unstarted (programOf xs) budget S n k → Passes (programOf xs) budget S → ⊥
+  not-both {n} {k} u p = stop≢got (sym (unstarted-iff (programOf xs) budget S (record { number = n; place = k }) .1 u) ∙ passes-iff (programOf xs) budget S .1 p)
+
+  same-start : {n m k l : ℕ} → Unstarted (programOf xs) budget S n k → Unstarted (programOf xs) budget S m l → n ≡ m
+  same-start {n} {m} {k} {l} u v =
+      ap (λ y. y .number)
+      (stop-inj (sym (unstarted-iff (programOf xs) budget S (record { number = n; place = k }) .1 u) ∙ unstarted-iff (programOf xs) budget S (record { number = m; place = l }) .1 v))
+
+  -- what its row comes to, the list gives
+  listed : {o : Out} {b : Ended} → Passes (programOf xs) budget S → Lists (programOf xs) (numberOf budget) 7 [] xs 0 (firstTally S ws) o
+      → Listed (programOf xs) (wordsOf xs) ws budget S b → (outcomeOf o ≡ b .outcome) × (tallyOf o ≡ tallyIn b)
+  listed {b = b} p (all m) y =
+      let e = sym (entries-rules (programOf xs) (wordsOf xs) ws budget S _ .1 (started p m)) ∙ entries-rules (programOf xs) (wordsOf xs) ws budget S b .1 y in
+      (ap (λ z. z .outcome) e, ap tallyIn e)
+  listed {b = b} p (not-all m) y =
+      let e = sym (entries-rules (programOf xs) (wordsOf xs) ws budget S _ .1 (started p m)) ∙ entries-rules (programOf xs) (wordsOf xs) ws budget S b .1 y in
+      (ap (λ z. z .outcome) e, ap tallyIn e)
+
+  its-row : {o : Out} → Runs (programOf xs) (numberOf budget) (block blockDepth (programOf xs)) (firstTally S ws) o → Lists (programOf xs) (numberOf budget) 7 [] xs 0 (firstTally S ws) o
+  its-row m = row-sets (programOf xs) (numberOf budget) 7 [] es 0 (sym (append-nil (rowOf xs))) (block-row m)
+
+  same-answers : {a b : Ended} → Answered (programOf xs) ws budget S a → Listed (programOf xs) (wordsOf xs) ws budget S b → (a .outcome ≡ b .outcome) × (tallyIn a ≡ tallyIn b)
+  same-answers (Answered.unstarted u) (Listed.unstarted v) = (same-start u v, refl)
+  same-answers (Answered.unstarted u) (started p m) = absurd (not-both u p)
+  same-answers (finished p m) y = listed p (its-row m) y
+  same-answers (stopped p m) y = listed p (its-row m) y
+
+pub as-its-program : AsItsProgram
+as-its-program xs ws budget S a b es x y = same-answers es ws budget S x y

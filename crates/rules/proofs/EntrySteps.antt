@@ -13,12 +13,12 @@ use Rattle.words.proofs.AnswerLaws.{stop≢got}
 use Rattle.tables.specs.declared.Value.{Value}
 use Rattle.tables.specs.Cells.{Cells, Sized}
 use Rattle.program.specs.Forms.{expressionDepth}
-use Rattle.rules.specs.State.{State, Fault}
+use Rattle.rules.specs.State.{State, Fault, refused}
 use Rattle.rules.specs.Constraints.{Part}
 use Rattle.rules.specs.Proposals.{Asked}
 use Rattle.rules.specs.Statements.{Left}
 use Rattle.rules.specs.Effects.{Effect}
-use Rattle.rules.specs.Rules.Expressions.{Literal, Within, e-literal, Meets}
+use Rattle.rules.specs.Rules.Expressions.{Literal, Within, e-literal, Astray, Meets}
 use Rattle.rules.specs.Rules.Constraints.{Uncounted}
 use Rattle.rules.specs.Rules.Identities.{Phase, PhaseFails}
 use Rattle.rules.specs.Rules.Proposals.{Settles, Fails, Unsettled}
@@ -140,17 +140,35 @@ unsettled-number own room (Unsettled.uncounted u) = uncounted-number own u
 unsettled-number own room (Unsettled.no-room c r) = absurd (true≢false (sym room ∙ r))
 unsettled-number own room (Unsettled.turned-down c r f) = fails-number f
 
-refused-numbers : {program : List ℤ} {S : State} {ws s x : List ℤ} {f : Fault} → Entry x → s ≡ pos 1 ∷ x → Refused program S ws s f → Number (f .number)
-refused-numbers {x = x} e q (Refused.f-value {p = p} m) = let i : p ≡ x = cc in absurd (entry-meets e (rw i at m))
-refused-numbers e q (Refused.f-target a b) = record { known = there 7 numbers (omega arith); least = omega arith; most = omega arith }
-refused-numbers {x = x} e q (Refused.f-field {x = y} {m = m} {p = p} a b c) = absurd (other 2 (pos y ∷ pos m ∷ p) (λ z. omega arith) refl (rw q (number-first (pos 1) x)))
-refused-numbers {x = x} e q (Refused.f-full {x = y} {m = m} {p = p} a b c d) = absurd (other 2 (pos y ∷ pos m ∷ p) (λ z. omega arith) refl (rw q (number-first (pos 1) x)))
-refused-numbers e q (Refused.f-phase g a) = phase-number a
-refused-numbers e q (Refused.f-given g a u) = unsettled-number refl refl u
-refused-numbers {x = x} e q (Refused.f-always {p = p} a b) = absurd (other 3 p (λ z. omega arith) refl (rw q (number-first (pos 1) x)))
-refused-numbers {x = x} e q (Refused.f-once {p = p} a) = absurd (other 4 p (λ z. omega arith) refl (rw q (number-first (pos 1) x)))
-refused-numbers {x = x} e q (Refused.f-identity {verb = verb} {p = p} a b c) = absurd (other verb p (λ z. omega arith) refl (rw q (number-first (pos 1) x)))
-refused-numbers {x = x} e q (Refused.f-unkept {p = p} a b) = absurd (other 5 p (λ z. omega arith) refl (rw q (number-first (pos 1) x)))
+-- an assignment is refused by its value, its target, its identity phase, or what is asked of its proposal
+pub data Turned (program : List ℤ) (S : State) (ws x : List ℤ) : Fault → Type 0 where
+  by-value : {f : Fault} → Meets (S .cells) false expressionDepth (pastPath x) f → Turned program S ws x f
+  by-target : {v : Value} {r : List ℤ} → Within (S .cells) expressionDepth (pastPath x) v r → Astray (S .cells) x → Turned program S ws x (refused 7 x)
+  by-phase : {n target : ℕ} {prefix : List ℕ} {v : Value} {N : Cells} → Gives (S .cells) (pos 1 ∷ x) target prefix v N
+      → PhaseFails program (S .kept) (S .cells) target prefix v n → Turned program S ws x (refused n (pos 1 ∷ x))
+  by-proposal : {target : ℕ} {prefix : List ℕ} {v : Value} {N Y : Cells} {f : Fault} → Gives (S .cells) (pos 1 ∷ x) target prefix v N
+      → Phase program (S .kept) (S .cells) N target prefix v Y → Unsettled program (S .kept) (asking none (some target) true) (pos 1 ∷ x) Y ws f → Turned program S ws x f
+
+turned-by : {program : List ℤ} {S : State} {ws s x : List ℤ} {f : Fault} → s ≡ pos 1 ∷ x → Refused program S ws s f → Turned program S ws x f
+turned-by {x = x} q (Refused.f-value {p = p} m) = let i : p ≡ x = cc in by-value (rw i at m)
+turned-by {x = x} q (Refused.f-target {p = p} a b) = let i : p ≡ x = cc in rw i (by-target (rw i at a) (rw i at b))
+turned-by {x = x} q (Refused.f-field {x = y} {m = m} {p = p} a b c) = absurd (other 2 (pos y ∷ pos m ∷ p) (λ z. omega arith) refl (rw q (number-first (pos 1) x)))
+turned-by {x = x} q (Refused.f-full {x = y} {m = m} {p = p} a b c d) = absurd (other 2 (pos y ∷ pos m ∷ p) (λ z. omega arith) refl (rw q (number-first (pos 1) x)))
+turned-by q (Refused.f-phase g a) = rw q (by-phase (rw q at g) a)
+turned-by q (Refused.f-given g a u) = by-proposal (rw q at g) a (rw q at u)
+turned-by {x = x} q (Refused.f-always {p = p} a b) = absurd (other 3 p (λ z. omega arith) refl (rw q (number-first (pos 1) x)))
+turned-by {x = x} q (Refused.f-once {p = p} a) = absurd (other 4 p (λ z. omega arith) refl (rw q (number-first (pos 1) x)))
+turned-by {x = x} q (Refused.f-identity {verb = verb} {p = p} a b c) = absurd (other verb p (λ z. omega arith) refl (rw q (number-first (pos 1) x)))
+turned-by {x = x} q (Refused.f-unkept {p = p} a b) = absurd (other 5 p (λ z. omega arith) refl (rw q (number-first (pos 1) x)))
+
+pub turned : {program : List ℤ} {S : State} {ws x : List ℤ} {f : Fault} → Refused program S ws (pos 1 ∷ x) f → Turned program S ws x f
+turned r = turned-by refl r
+
+turned-number : {program : List ℤ} {S : State} {ws x : List ℤ} {f : Fault} → Entry x → Turned program S ws x f → Number (f .number)
+turned-number e (by-value m) = absurd (entry-meets e m)
+turned-number e (by-target a b) = record { known = there 7 numbers (omega arith); least = omega arith; most = omega arith }
+turned-number e (by-phase g a) = phase-number a
+turned-number e (by-proposal g a u) = unsettled-number refl refl u
 
 pub entry-number : {program : List ℤ} {S : State} {ws x : List ℤ} {f : Fault} → Entry x → Refused program S ws (pos 1 ∷ x) f → Number (f .number)
-entry-number e r = refused-numbers e refl r
+entry-number e r = turned-number e (turned r)

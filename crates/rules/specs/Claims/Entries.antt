@@ -23,7 +23,7 @@ use Rattle.rules.specs.Rules.Proposals.{Each}
 use Rattle.rules.specs.Rules.Statements.{asking, Gives, Steps}
 use Rattle.rules.specs.Rules.Runs.{statements, Runs}
 use Rattle.rules.specs.Rules.Kept.{Stands}
-use Rattle.rules.specs.Rules.Answers.{Unstarted, firstTally, given}
+use Rattle.rules.specs.Rules.Answers.{Unstarted, Answered, firstTally, given}
 use Rattle.rules.specs.Rules.Entries.{Entry, Sets, Listed}
 use Rattle.rules.specs.Claims.Room.{Stays}
 
@@ -51,6 +51,18 @@ pub record Alike (program : List ℤ) (budget d : ℕ) (xs : List (List ℤ)) (r
 
 abbrev pub AsAProgram : Type 0
 AsAProgram = (program : List ℤ) (budget d : ℕ) (xs : List (List ℤ)) (r : List ℤ) (t : Tally) → Each Entry xs → Alike program budget d xs r t
+
+-- the program of these assignments and nothing else, and what an answer has beside its outcome and its place
+abbrev pub programOf : List (List ℤ) → List ℤ
+programOf xs = pos (length xs) ∷ rowOf xs
+
+abbrev pub tallyIn : Ended → Tally
+tallyIn e = record { state = e .state; unread = e .unread; steps = e .steps; accepted = e .accepted; tests = e .tests }
+
+-- a run of that program and the list over it, from the same state, give the same outcome, tables, steps, accepted proposals and unread words
+abbrev pub AsItsProgram : Type 0
+AsItsProgram = (xs : List (List ℤ)) (ws : List ℤ) (budget : ℤ) (S : State) (a b : Ended) → Each Entry xs
+    → Answered (programOf xs) ws budget S a → Listed (programOf xs) (wordsOf xs) ws budget S b → (a .outcome ≡ b .outcome) × (tallyIn a ≡ tallyIn b)
 
 -- ---- demand 1: what every answer of the call keeps to
 
