@@ -2,24 +2,10 @@
 
 use reference::batch::{Finish, List, Sheet};
 use reference::entries::starts;
+use reference::generator::lists::{moved, MOVED};
 use reference::generator::{as_program, list};
 
 const SEED: u64 = 20_240_501;
-/// How much further on the list's own program stands.
-const MOVED: i32 = 3;
-
-/// Kept positions where the list's own program has them.
-fn moved_back(constraints: &[i32]) -> Vec<i32> {
-    let (counts, positions) = constraints.split_at(2);
-    let (values, identities) = positions.split_at(64);
-    let mut words = counts.to_vec();
-    for (count, positions) in counts.iter().zip([values, identities]) {
-        let kept = positions.iter().take(*count as usize);
-        words.extend(kept.map(|word| word - MOVED));
-        words.extend(positions.iter().skip(*count as usize));
-    }
-    words
-}
 
 /// The statement's word of an entry. 7 is told at its path, 15 elsewhere.
 fn place(list: &List, finish: &Finish) -> Option<usize> {
@@ -46,7 +32,8 @@ fn check(list: &List, program: &Sheet) {
     assert_eq!(run.answer.unread, finish.answer.unread, "{line}");
     assert_eq!(run.environment, finish.environment, "{line}");
     assert_eq!(run.heap, finish.heap, "{line}");
-    assert_eq!(moved_back(&run.constraints), finish.constraints, "{line}");
+    let constraints = moved(&run.constraints, -MOVED);
+    assert_eq!(constraints, Some(finish.constraints.clone()), "{line}");
     if let Some(place) = place(list, &finish) {
         assert_eq!(run.answer.place, place, "{line}");
     }

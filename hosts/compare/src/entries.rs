@@ -8,10 +8,9 @@ use crate::proved::{Proved, Told};
 use crate::sheets;
 use reference::batch::{Finish, List, Sheet};
 use reference::causes::Causes;
-use reference::generator;
+use reference::generator::{self, lists};
 use reference::outcome::Outcome;
 use reference::run::Answer;
-use reference::tables::VALUE_POSITIONS;
 use std::fmt;
 use std::io;
 
@@ -19,9 +18,6 @@ use std::io;
 /// least once in so many.
 const LONG_RUN: u64 = 100_000;
 const ONCE_IN: u64 = 500;
-
-/// How much further on the program of a list stands in that of its assignments.
-const MOVED: i32 = 3;
 
 pub type Tally = dealt::Tally<List>;
 
@@ -137,24 +133,11 @@ pub fn by_program(list: &List, finish: &Finish) -> Option<Finish> {
     run.answer.place = finish.answer.place;
     // The test before the list's program is a step of its own.
     run.answer.steps = run.answer.steps.wrapping_sub(1);
-    move_back(&mut run.constraints);
-    Some(run)
-}
-
-/// The kept positions where the list's own program has them.
-fn move_back(constraints: &mut [i32]) {
-    let Some((counts, positions)) = constraints.split_at_mut_checked(2) else {
-        return;
-    };
-    let Some((values, identities)) = positions.split_at_mut_checked(VALUE_POSITIONS) else {
-        return;
-    };
-    for (count, positions) in counts.iter().zip([values, identities]) {
-        let kept = usize::try_from(*count).unwrap_or(0);
-        for word in positions.iter_mut().take(kept) {
-            *word = word.wrapping_sub(MOVED);
-        }
+    // A table that cannot be moved back differs from the list's as it is.
+    if let Some(moved) = lists::moved(&run.constraints, -lists::MOVED) {
+        run.constraints = moved;
     }
+    Some(run)
 }
 
 impl fmt::Display for Counts {

@@ -18,7 +18,7 @@ use crate::outcome::Outcome;
 use crate::program::Program;
 use crate::tables::Tables;
 use draft::ListDraft;
-pub use program::as_program;
+pub use program::{as_program, moved, MOVED};
 
 /// The list of a seed and number, the same on every machine.
 pub fn list(seed: u64, index: u64) -> List {
