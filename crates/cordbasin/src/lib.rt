@@ -1,7 +1,8 @@
 // The calls for a host in C or Rust.
+pub mod lists; // lists.rt: the call for a list of entries
+
 ghost use mathlib.Core.Path.{_≡_};
 ghost use Rattle.rules.specs.Start.{run as runBy};
-ghost use Rattle.rules.specs.Entries.{assigns as assignsBy};
 ghost use Rattle.phases.specs.Told.{tables};
 ghost use Rattle.text.specs.Whole.{answered, read as readBy};
 ghost use Rattle.cordbasin.specs.Told.{Answers};
@@ -43,31 +44,4 @@ pub extern "C" fn cordbasin_read(
     ensures { λ n. ⌜ answered (now (program .exit)) (now (origins .exit)) (now (names .exit)) (now (answer .exit)) n ≡ readBy (now (text .entry)) (now (program .entry)) (now (origins .entry)) (now (names .entry)) ⌝ }
 {
     text::whole::read(text, program, origins, names, answer)
-}
-
-// A list of entries: the answer and what is returned are those of a run, but for the place, which from outcome 5 on is an entry's index and with 0 their number.
-#[no_mangle]
-pub extern "C" fn cordbasin_assign(
-    program: &[i32],
-    environment: &mut [i32],
-    heap: &mut [i32],
-    constraints: &mut [i32],
-    entries: &[i32],
-    proposals: &[i32],
-    budget: i32,
-    answer: &mut [i32; 4],
-) -> usize
-    ensures { λ r. ⌜ Answers (tables (now (environment .exit)) (now (heap .exit)) (now (constraints .exit))) (now (answer .exit)) r (assignsBy (now (program .entry)) (now (entries .entry)) (now (proposals .entry)) budget (tables (now (environment .entry)) (now (heap .entry)) (now (constraints .entry)))) ⌝ }
-{
-    let unread = entries::whole::assign(
-        program,
-        environment,
-        heap,
-        constraints,
-        entries,
-        proposals,
-        budget,
-        answer,
-    );
-    unread.len()
 }
