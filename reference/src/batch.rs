@@ -98,7 +98,7 @@ impl Sheet {
         })
     }
 
-    fn on_copies(&self, call: impl FnOnce(Lent) -> Answer) -> Finish {
+    pub fn on_copies(&self, call: impl FnOnce(Lent) -> Answer) -> Finish {
         let mut environment = self.environment.clone();
         let mut heap = self.heap.clone();
         let mut constraints = self.constraints.clone();

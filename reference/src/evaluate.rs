@@ -53,6 +53,7 @@ pub fn value(tables: &Tables, expression: &Expression) -> Result<Value, Fault> {
         Term::Apply(operator, left, right) => {
             let left = value(tables, left)?;
             let right = value(tables, right)?;
+            takes(expression.position, *operator, left.kind(), right.kind())?;
             apply(*operator, left, right).map_err(|outcome| outcome.at(expression.position))
         }
         Term::Identical(identity) => identical(tables, identity).map(Value::Boolean),
@@ -73,9 +74,25 @@ pub fn test(tables: &Tables, expression: &Expression) -> Result<bool, Fault> {
     }
 }
 
+/// 8 at the operator's first word, unless it takes operands of these kinds.
+fn takes(word: usize, operator: Operator, left: Kind, right: Kind) -> Result<(), Fault> {
+    let wanted = match operator {
+        Operator::Equal | Operator::Unequal => left != Kind::Reference,
+        Operator::And | Operator::Or => left == Kind::Boolean,
+        _ => left == Kind::Integer,
+    };
+    if wanted && left == right {
+        return Ok(());
+    }
+    Err(Fault {
+        operands: Some((operator, left, right)),
+        ..Outcome::WrongKind.at(word)
+    })
+}
+
+/// What an operator gives for operands that it takes, or 9.
 fn apply(operator: Operator, left: Value, right: Value) -> Result<Value, Outcome> {
     match (left, right) {
-        (Value::Reference(_), _) | (_, Value::Reference(_)) => Err(Outcome::WrongKind),
         _ if operator == Operator::Equal => Ok(Value::Boolean(left == right)),
         _ if operator == Operator::Unequal => Ok(Value::Boolean(left != right)),
         (Value::Integer(left), Value::Integer(right)) => apply_integers(operator, left, right),
@@ -117,23 +134,16 @@ pub fn kind(tables: &Tables, expression: &Expression) -> Result<Kind, Fault> {
         Term::Apply(operator, left, right) => {
             let left = kind(tables, left)?;
             let right = kind(tables, right)?;
-            let kind = kind_of_result(*operator, left, right);
-            kind.ok_or_else(|| Outcome::WrongKind.at(expression.position))
+            takes(expression.position, *operator, left, right)?;
+            Ok(kind_of_result(*operator))
         }
         Term::Identical(_) => Err(Outcome::WrongKind.at(expression.position)),
     }
 }
 
-fn kind_of_result(operator: Operator, left: Kind, right: Kind) -> Option<Kind> {
-    use Operator::*;
-    let fits = match operator {
-        Equal | Unequal => left != Kind::Reference && right != Kind::Reference,
-        And | Or => left == Kind::Boolean && right == Kind::Boolean,
-        _ => left == Kind::Integer && right == Kind::Integer,
-    };
+fn kind_of_result(operator: Operator) -> Kind {
     match operator {
-        _ if !fits => None,
-        Plus | Minus | Times => Some(Kind::Integer),
-        _ => Some(Kind::Boolean),
+        Operator::Plus | Operator::Minus | Operator::Times => Kind::Integer,
+        _ => Kind::Boolean,
     }
 }

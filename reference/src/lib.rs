@@ -9,6 +9,7 @@
 pub mod batch;
 pub mod causes;
 pub mod constraints;
+pub mod counts;
 pub mod entries;
 pub mod evaluate;
 pub mod generator;
@@ -22,3 +23,4 @@ pub mod run;
 pub mod statements;
 pub mod tables;
 pub mod text;
+pub mod unlike;

@@ -31,8 +31,8 @@ fn generated(command: &str, seed: u64, count: u64) -> io::Result<ExitCode> {
         "generate" => generate(count, |index| generator::sheet(seed, index).line()),
         "generate-lists" => generate(count, |index| generator::list(seed, index).line()),
         "histogram" => {
-            let (counts, places) = generator::histogram(seed, count);
-            histogram(count, &Outcome::ALL, &counts, places)
+            let (outcomes, counts) = generator::histogram(seed, count);
+            histogram(count, &Outcome::ALL, &outcomes, counts)
         }
         "histogram-lists" => {
             let (counts, causes) = generator::lists::histogram(seed, count);

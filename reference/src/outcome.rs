@@ -1,5 +1,8 @@
 //! The outcomes of runs and lists under their numbers, and the word at fault.
 
+use crate::program::Operator;
+use crate::tables::Kind;
+
 #[derive(Clone, Copy, Debug, PartialEq, Eq, PartialOrd, Ord)]
 pub enum Outcome {
     Finished = 0,
@@ -77,11 +80,14 @@ impl Outcome {
 
     pub fn at(self, word: usize) -> Fault {
         Fault {
-            outcome: self,
             word: Some(word),
+            ..self.into()
         }
     }
 }
+
+/// An operator, and the kinds that it met.
+pub type Operands = (Operator, Kind, Kind);
 
 /// Why a piece is refused, and the word at fault. Only 7, 8, 9 and 15 have
 /// one; for all others the place is the statement's word.
@@ -89,6 +95,8 @@ impl Outcome {
 pub struct Fault {
     pub outcome: Outcome,
     pub word: Option<usize>,
+    /// What an operator met that it does not take.
+    pub operands: Option<Operands>,
 }
 
 impl From<Outcome> for Fault {
@@ -96,6 +104,7 @@ impl From<Outcome> for Fault {
         Fault {
             outcome,
             word: None,
+            operands: None,
         }
     }
 }

@@ -3,7 +3,7 @@
 use crate::constraints;
 use crate::evaluate;
 use crate::identity;
-use crate::outcome::{Fault, Outcome};
+use crate::outcome::{Fault, Operands, Outcome};
 use crate::program::{Action, Always, Block, Constraint, Expression, Identity, Path, Statement};
 use crate::proposal::{Proposal, Source, Wanted};
 use crate::tables::{Location, Tables, Value, IDENTITY_POSITIONS, RECORDS, VALUE_POSITIONS};
@@ -14,6 +14,7 @@ use std::rc::Rc;
 pub struct Refusal {
     pub outcome: Outcome,
     pub place: usize,
+    pub operands: Option<Operands>,
 }
 
 /// A run under way. `tables` holds what the last accepted statement left.
@@ -36,6 +37,7 @@ impl<'a, S: Source> Machine<'a, S> {
         let at = |fault: Fault| Refusal {
             outcome: fault.outcome,
             place: fault.word.unwrap_or(place),
+            operands: fault.operands,
         };
         self.step().map_err(at)?;
         match &statement.action {

@@ -4,28 +4,56 @@ mod common;
 use common::digest;
 use reference::batch::{answer_line, Sheet};
 use reference::generator::{histogram, sheet};
+use reference::program::Operator;
+use reference::tables::Kind;
+use reference::unlike::operands;
 
 const SEED: u64 = 20_240_501;
 
 #[test]
 fn every_outcome_comes_up() {
-    let (counts, places) = histogram(SEED, 10_000);
-    assert_eq!(counts.iter().sum::<u64>(), 10_000);
-    for (outcome, sheets) in counts.iter().enumerate() {
+    let (outcomes, counts) = histogram(SEED, 10_000);
+    assert_eq!(outcomes.iter().sum::<u64>(), 10_000);
+    for (outcome, sheets) in outcomes.iter().enumerate() {
         assert!(*sheets >= 100, "outcome {outcome} only {sheets} times");
     }
-    assert!(counts[0] >= 2500, "only {} finished", counts[0]);
+    assert!(outcomes[0] >= 2500, "only {} finished", outcomes[0]);
+    let places = &counts.places;
     assert!(places.are_met(100), "{places}");
     assert!(places.sorts.iter().all(|count| *count >= 50), "{places}");
+    assert!(counts.unlike.are_met(300, 50), "{}", counts.unlike);
+}
+
+/// Unlike kinds and two references, by 8.
+#[test]
+fn every_two_kinds_are_compared_that_may_not_be() {
+    let mut met = Vec::new();
+    for sheet in (0..10_000).map(|index| sheet(SEED, index)) {
+        let finish = sheet.answer();
+        if finish.answer.outcome == 8 {
+            met.extend(operands(&sheet, &finish));
+        }
+    }
+    let kinds = [Kind::Integer, Kind::Boolean, Kind::Nil, Kind::Reference];
+    for operator in [Operator::Equal, Operator::Unequal] {
+        for (left, right) in kinds
+            .iter()
+            .flat_map(|left| kinds.map(|right| (*left, right)))
+        {
+            let wanted = left != right || left == Kind::Reference;
+            let found = met.contains(&(operator, left, right));
+            assert_eq!(found, wanted, "{operator:?} of {left:?} and {right:?}");
+        }
+    }
 }
 
 /// No place of 7, 8, 9 and 15 is a statement's word.
 #[test]
 fn every_place_of_a_word_at_fault_is_inside() {
-    let (counts, places) = histogram(SEED, 4000);
+    let (outcomes, counts) = histogram(SEED, 4000);
     assert_eq!(
-        places.outcomes,
-        [7, 8, 9, 15].map(|outcome| counts[outcome])
+        counts.places.outcomes,
+        [7, 8, 9, 15].map(|outcome| outcomes[outcome])
     );
 }
 
@@ -48,7 +76,7 @@ fn a_seed_and_number_give_the_same_sheet() {
 #[test]
 fn the_same_sheets_on_every_machine() {
     let lines = (0..500).map(|index| sheet(1, index).line());
-    assert_eq!(digest(lines), 7_284_792_273_068_740_245);
+    assert_eq!(digest(lines), 3_685_646_938_292_123_059);
 }
 
 #[test]

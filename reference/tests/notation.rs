@@ -84,7 +84,7 @@ fn every_text_beside_a_sheet_is_read_to_its_program() {
         assert_eq!(reading.words, words, "{}", file.display());
         beside += 1;
     }
-    assert_eq!(beside, 119);
+    assert_eq!(beside, 122);
 }
 
 #[test]

@@ -1,10 +1,10 @@
 -- What the code of the operators comes to. Assumes nothing.
 use mathlib.Core.Path.{_≡_, refl, sym, ap, _∙_}
-use mathlib.Core.Bool.{Bool, true, false, not, cond, _&&_, _||_}
-use Prim.Native.Nat.{ℕ, zero, suc, _≤_, _<_}
+use mathlib.Core.Bool.{Bool, true, false, cond, _&&_, _||_}
+use Prim.Native.Nat.{ℕ, zero, suc, _+_, _≤_, _<_}
 use native.Mathlib.Omega.{arith}
-use lib.Dec.{eqb}
-use borrow.Author.Tests.{eqb-true}
+use lib.Dec.{eqb, ltb}
+use borrow.Author.Tests.{eqb-true, ne-eqb, lt-ltb, le-ltb}
 use Rattle.words.specs.declared.Ranged.the-variants.{Within, Outside}
 use lib.IntN.{ℤ}
 use Rattle.words.specs.Range.{fits, ranged}
@@ -13,25 +13,37 @@ use Rattle.words.proofs.Laws.{ranged-is}
 use Rattle.tables.specs.declared.Value.{Value}
 use Rattle.tables.specs.declared.Value.the-variants.{Nil, Bool as Truth, Int, Ref}
 use Rattle.tables.proofs.SearchLaws.{cases}
-use Rattle.rules.specs.Evaluation.{Kind, isNil, isBool, isInt, isRef, kindOf, anInt, aBool, aRef, takes, opOf, made, apply}
+use Rattle.rules.specs.Evaluation.{Kind, isNil, isBool, isInt, isRef, kindOf, anInt, aBool, theNil, takes, opOf, made, apply}
 use Rattle.rules.specs.Evaluation.{ranged as inRange}
 use Rattle.rules.proofs.OperatorClauses.{ranged-is as in-range-is, apply-is, no-op, takes-none, made-0, made-none}
 use Rattle.expressions.specs.declared.Applied.{Applied}
 use Rattle.expressions.specs.Told.{kindNumber, kindFrom, appliedOf, rangedOf}
 
 -- kinds by their numbers
-pub int-number : (n : ℕ) → eqb n 3 ≡ anInt (kindFrom n)
-int-number n = cases (eqb n 2)
-    (λ e. rw (e, eqb-true n 2 e))
-    (λ e. cases (eqb n 3) (λ f. rw (e, f)) (λ f. cases (eqb n 4) (λ g. rw (e, f, g)) (λ g. rw (e, f, g))))
+pub nil-number : (n : ℕ) → eqb n 1 ≡ theNil (kindFrom n)
+nil-number n = cases (eqb n 1) (λ e. rw e) (λ e. cases (eqb n 2) (λ f. rw (e, f)) (λ f. cases (eqb n 3) (λ g. rw (e, f, g)) (λ g. rw (e, f, g))))
 
 pub bool-number : (n : ℕ) → eqb n 2 ≡ aBool (kindFrom n)
-bool-number n = cases (eqb n 2) (λ e. rw e) (λ e. cases (eqb n 3) (λ f. rw (e, f)) (λ f. cases (eqb n 4) (λ g. rw (e, f, g)) (λ g. rw (e, f, g))))
+bool-number n = cases (eqb n 1)
+    (λ e. rw (e, eqb-true n 1 e))
+    (λ e. cases (eqb n 2) (λ f. rw (e, f)) (λ f. cases (eqb n 3) (λ g. rw (e, f, g)) (λ g. rw (e, f, g))))
 
-pub ref-number : (n : ℕ) → not (eqb n 4) ≡ not (aRef (kindFrom n))
-ref-number n = cases (eqb n 2)
-    (λ e. rw (e, eqb-true n 2 e))
-    (λ e. cases (eqb n 3) (λ f. rw (e, f, eqb-true n 3 f)) (λ f. cases (eqb n 4) (λ g. rw (e, f, g)) (λ g. rw (e, f, g))))
+pub int-number : (n : ℕ) → eqb n 3 ≡ anInt (kindFrom n)
+int-number n = cases (eqb n 1)
+    (λ e. rw (e, eqb-true n 1 e))
+    (λ e. cases (eqb n 2) (λ f. rw (e, f, eqb-true n 2 f)) (λ f. cases (eqb n 3) (λ g. rw (e, f, g)) (λ g. rw (e, f, g))))
+
+-- two numbers of one kind, no reference's
+pub one-number : (a b : ℕ) → ((ltb 0 a && ltb a 4) && eqb b a) ≡ ((eqb a 3 && eqb b 3) || (eqb a 2 && eqb b 2) || (eqb a 1 && eqb b 1))
+one-number zero b = refl
+one-number (suc zero) b = refl
+one-number (suc (suc zero)) b = cases (eqb b 2) (λ e. rw e) (λ e. rw e)
+one-number (suc (suc (suc zero))) b = cases (eqb b 3) (λ e. rw e) (λ e. rw e)
+one-number (suc (suc (suc (suc n)))) b = above (suc (suc (suc (suc n)))) (omega arith)
+  where
+    above : (m : ℕ) → 4 ≤ m → ((ltb 0 m && ltb m 4) && eqb b m) ≡ ((eqb m 3 && eqb b 3) || (eqb m 2 && eqb b 2) || (eqb m 1 && eqb b 1))
+    above m l =
+        rw (lt-ltb 0 m (omega (arith, l)), le-ltb m 4 l, ne-eqb m 3 (λ e. omega (arith, l, e)), ne-eqb m 2 (λ e. omega (arith, l, e)), ne-eqb m 1 (λ e. omega (arith, l, e)))
 
 pub kind-back : (k : Kind) → kindFrom (kindNumber k) ≡ k
 kind-back isNil = refl

@@ -38,7 +38,7 @@ kindNumber isInt = 3
 kindNumber isRef = 4
 
 abbrev pub kindFrom : ℕ → Kind
-kindFrom n = cond (eqb n 2) isBool (cond (eqb n 3) isInt (cond (eqb n 4) isRef isNil))
+kindFrom n = cond (eqb n 1) isNil (cond (eqb n 2) isBool (cond (eqb n 3) isInt isRef))
 
 -- what an operator makes of two values, or the refusal's number
 abbrev pub does : Value → Applied

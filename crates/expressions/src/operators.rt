@@ -3,7 +3,7 @@ use crate::Applied;
 use tables::Value;
 use words::Ranged;
 ghost use mathlib.Core.Path.{_≡_};
-ghost use Rattle.rules.specs.Evaluation.{kindOf, intOf, boolOf, same, takes, made, opOf};
+ghost use Rattle.rules.specs.Evaluation.{kindOf, intOf, boolOf, same, comparable, takes, made, opOf};
 ghost use Rattle.expressions.specs.Told.{kindNumber, kindFrom, does, rangedOf, appliedOf};
 
 // The number of a value's kind.
@@ -51,6 +51,13 @@ pub fn are_same(a: Value, b: Value) -> bool
     words::same(x.kind, y.kind) & words::same(x.payload, y.payload)
 }
 
+// Two of one kind, and no references: two nils, two booleans or two integers.
+fn are_comparable(a: usize, b: usize) -> bool
+    ensures { λ r. ⌜ r ≡ comparable (kindFrom a) (kindFrom b) ⌝ }
+{
+    (0 < a) & (a < 4) & (b == a)
+}
+
 // Whether operator o takes operands of these kinds.
 pub fn takes_kinds(o: usize, a: usize, b: usize) -> bool
     ensures { λ r. ⌜ r ≡ takes (opOf o) (kindFrom a) (kindFrom b) ⌝ }
@@ -62,8 +69,8 @@ pub fn takes_kinds(o: usize, a: usize, b: usize) -> bool
         return (a == 3) & (b == 3);
     }
     match o {
-        6 => (a != 4) & (b != 4),
-        7 => (a != 4) & (b != 4),
+        6 => are_comparable(a, b),
+        7 => are_comparable(a, b),
         8 => (a == 3) & (b == 3),
         9 => (a == 3) & (b == 3),
         10 => (a == 2) & (b == 2),

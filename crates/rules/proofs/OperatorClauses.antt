@@ -12,7 +12,7 @@ use Rattle.words.specs.Answer.{Answer, got, stop, _>>_, want}
 use Rattle.tables.specs.declared.Value.{Value}
 use Rattle.tables.specs.declared.Value.the-variants.{Nil, Bool as Truth, Int, Ref}
 use Rattle.tables.specs.Values.{cellOf}
-use Rattle.rules.specs.Evaluation.{Kind, isBool, isInt, isNil, kindOf, Op, noOp, ops, opOf, anInt, aBool, aRef, comparable, two, takes, gives, same, intOf, boolOf, ranged, made, apply}
+use Rattle.rules.specs.Evaluation.{Kind, isBool, isInt, isNil, kindOf, Op, noOp, ops, opOf, anInt, aBool, theNil, comparable, two, takes, gives, same, intOf, boolOf, ranged, made, apply}
 
 pub no-op : (o : ℕ) → 11 < o → opOf o ≡ noOp
 unfolding opOf
@@ -30,13 +30,17 @@ module _ (a b : Kind) where
   takes-first (suc (suc (suc (suc (suc zero))))) h l = refl
   takes-first (suc (suc (suc (suc (suc (suc o)))))) h l = absurd (omega arith)
 
-  pub takes-equal : takes (opOf 6) a b ≡ (not (aRef a) && not (aRef b))
-  unfolding takes opOf comparable
+  pub takes-equal : takes (opOf 6) a b ≡ comparable a b
+  unfolding takes opOf
   takes-equal = refl
 
-  pub takes-unequal : takes (opOf 7) a b ≡ (not (aRef a) && not (aRef b))
-  unfolding takes opOf comparable
+  pub takes-unequal : takes (opOf 7) a b ≡ comparable a b
+  unfolding takes opOf
   takes-unequal = refl
+
+  pub comparable-is : comparable a b ≡ ((anInt a && anInt b) || (aBool a && aBool b) || (theNil a && theNil b))
+  unfolding comparable
+  comparable-is = refl
 
   pub takes-eight : takes (opOf 8) a b ≡ (anInt a && anInt b)
   unfolding takes opOf

@@ -19,7 +19,7 @@ use Rattle.tables.specs.Values.{cell, cellOf, slotOf, Sound}
 use Rattle.tables.proofs.SearchLaws.{cases, and-left, and-right, and-true}
 use Rattle.tables.proofs.ValueLaws.{slot-of-cell}
 use Rattle.program.specs.Forms.{operators}
-use Rattle.rules.specs.Evaluation.{Kind, isNil, isBool, isInt, isRef, kindOf, opOf, anInt, aBool, aRef, comparable, two, takes, gives, same, intOf, boolOf, ranged, made, apply}
+use Rattle.rules.specs.Evaluation.{Kind, isNil, isBool, isInt, isRef, kindOf, opOf, anInt, aBool, comparable, two, takes, gives, same, intOf, boolOf, ranged, made, apply}
 use Rattle.rules.specs.Rules.Operators.{Gives, Makes}
 
 -- ---- kind and payload
@@ -60,15 +60,6 @@ plain-sound (Truth b) h = tt
 plain-sound (Int n) h = tt
 plain-sound (Ref r) h = absurd (h refl)
 
-plain : (k : Kind) → k ≢ isRef → not (aRef k) ≡ true
-plain isNil h = refl
-plain isBool h = refl
-plain isInt h = refl
-plain isRef h = absurd (h refl)
-
-not-ref : (k : Kind) → not (aRef k) ≡ true → k ≢ isRef
-not-ref k e q = let c : false ≡ true = rw q at e in true≢false (sym c)
-
 -- ---- which kinds an operator takes
 
 -- what is asked of two kinds holds of these
@@ -90,15 +81,31 @@ bools P isNil b e k = absurd (true≢false (sym e))
 bools P isInt b e k = absurd (true≢false (sym e))
 bools P isRef b e k = absurd (true≢false (sym e))
 
+-- two integers, two booleans or two nils are of one kind, and no references
+one-kind : (P : Kind → Kind → Type 0) (a b : Kind) → comparable a b ≡ true → ((k : Kind) → k ≢ isRef → P k k) → P a b
+unfolding comparable
+one-kind P isNil isNil e f = f isNil (λ q. true≢false cc)
+one-kind P isBool isBool e f = f isBool (λ q. true≢false cc)
+one-kind P isInt isInt e f = f isInt (λ q. true≢false cc)
+one-kind P isNil isBool e f = absurd (true≢false (sym e))
+one-kind P isNil isInt e f = absurd (true≢false (sym e))
+one-kind P isNil isRef e f = absurd (true≢false (sym e))
+one-kind P isBool isNil e f = absurd (true≢false (sym e))
+one-kind P isBool isInt e f = absurd (true≢false (sym e))
+one-kind P isBool isRef e f = absurd (true≢false (sym e))
+one-kind P isInt isNil e f = absurd (true≢false (sym e))
+one-kind P isInt isBool e f = absurd (true≢false (sym e))
+one-kind P isInt isRef e f = absurd (true≢false (sym e))
+one-kind P isRef b e f = absurd (true≢false (sym e))
+
+compared : (k : Kind) → k ≢ isRef → comparable k k ≡ true
+unfolding comparable
+compared isNil h = refl
+compared isBool h = refl
+compared isInt h = refl
+compared isRef h = absurd (h refl)
+
 module _ (a b : Kind) where
-  plains {ℓ} : {X : Type ℓ} → comparable a b ≡ true → (a ≢ isRef → b ≢ isRef → X) → X
-  unfolding comparable
-  plains e k = k (not-ref a (and-left (not (aRef a)) (not (aRef b)) e)) (not-ref b (and-right (not (aRef a)) (not (aRef b)) e))
-
-  compared : a ≢ isRef → b ≢ isRef → comparable a b ≡ true
-  unfolding comparable
-  compared x y = and-true (not (aRef a)) (not (aRef b)) (plain a x) (plain b y)
-
   pub gives-sound : (o : ℕ) → 1 ≤ o → o ≤ operators → takes (opOf o) a b ≡ true → Gives o a b (gives (opOf o))
   unfolding takes gives opOf
   gives-sound zero h l e = absurd (omega arith)
@@ -107,8 +114,8 @@ module _ (a b : Kind) where
   gives-sound (suc (suc (suc zero))) h l e = ints (λ x y. Gives 3 x y isInt) a b e (Gives.number (omega arith) (omega arith))
   gives-sound (suc (suc (suc (suc zero)))) h l e = ints (λ x y. Gives 4 x y isBool) a b e (Gives.order (omega arith) (omega arith))
   gives-sound (suc (suc (suc (suc (suc zero))))) h l e = ints (λ x y. Gives 5 x y isBool) a b e (Gives.order (omega arith) (omega arith))
-  gives-sound (suc (suc (suc (suc (suc (suc zero)))))) h l e = plains e (Gives.equality (omega arith) (omega arith))
-  gives-sound (suc (suc (suc (suc (suc (suc (suc zero))))))) h l e = plains e (Gives.equality (omega arith) (omega arith))
+  gives-sound (suc (suc (suc (suc (suc (suc zero)))))) h l e = one-kind (λ x y. Gives 6 x y isBool) a b e λ k. Gives.equality (omega arith) (omega arith)
+  gives-sound (suc (suc (suc (suc (suc (suc (suc zero))))))) h l e = one-kind (λ x y. Gives 7 x y isBool) a b e λ k. Gives.equality (omega arith) (omega arith)
   gives-sound (suc (suc (suc (suc (suc (suc (suc (suc zero)))))))) h l e = ints (λ x y. Gives 8 x y isBool) a b e (Gives.reverse (omega arith) (omega arith))
   gives-sound (suc (suc (suc (suc (suc (suc (suc (suc (suc zero))))))))) h l e = ints (λ x y. Gives 9 x y isBool) a b e (Gives.reverse (omega arith) (omega arith))
   gives-sound (suc (suc (suc (suc (suc (suc (suc (suc (suc (suc zero)))))))))) h l e = bools (λ x y. Gives 10 x y isBool) a b e (Gives.logic (omega arith) (omega arith))
@@ -118,7 +125,7 @@ module _ (a b : Kind) where
 pub gives-operator : {o : ℕ} {a b k : Kind} → Gives o a b k → (1 ≤ o) × (o ≤ operators)
 gives-operator (Gives.number h l) = (omega arith, omega arith)
 gives-operator (Gives.order h l) = (omega arith, omega arith)
-gives-operator (Gives.equality h l x y) = (omega arith, omega arith)
+gives-operator (Gives.equality h l x) = (omega arith, omega arith)
 gives-operator (Gives.reverse h l) = (omega arith, omega arith)
 gives-operator (Gives.logic h l) = (omega arith, omega arith)
 
@@ -139,8 +146,8 @@ unfolding takes gives opOf
 gives-complete (Gives.number h l) =
     from (Given isInt isInt isInt) 1 h (refl, refl) λ i. from (Given isInt isInt isInt) 2 i (refl, refl) λ j. from (Given isInt isInt isInt) 3 j (refl, refl) λ k. absurd (omega arith)
 gives-complete (Gives.order h l) = from (Given isInt isInt isBool) 4 h (refl, refl) λ i. from (Given isInt isInt isBool) 5 i (refl, refl) λ j. absurd (omega arith)
-gives-complete (Gives.equality {a = a} {b = b} h l x y) =
-    from (Given a b isBool) 6 h (compared a b x y, refl) λ i. from (Given a b isBool) 7 i (compared a b x y, refl) λ j. absurd (omega arith)
+gives-complete (Gives.equality {k = a} h l x) =
+    from (Given a a isBool) 6 h (compared a x, refl) λ i. from (Given a a isBool) 7 i (compared a x, refl) λ j. absurd (omega arith)
 gives-complete (Gives.reverse h l) = from (Given isInt isInt isBool) 8 h (refl, refl) λ i. from (Given isInt isInt isBool) 9 i (refl, refl) λ j. absurd (omega arith)
 gives-complete (Gives.logic h l) = from (Given isBool isBool isBool) 10 h (refl, refl) λ i. from (Given isBool isBool isBool) 11 i (refl, refl) λ j. absurd (omega arith)
 
@@ -178,19 +185,26 @@ agree true t x y = sym (y .1 (x .0 refl))
 agree false true x y = x .1 (y .0 refl)
 agree false false x y = refl
 
--- kind and payload of plain values
-module _ (a b : Value) (x : kindOf a ≢ isRef) (y : kindOf b ≢ isRef) where
+-- kind and payload of plain values of one kind
+module _ (a b : Value) (k : kindOf a ≡ kindOf b) (x : kindOf a ≢ isRef) where
+  one : cellOf a ≡ cellOf b → a ≡ b
+  one = same-value a b (plain-sound a x) (plain-sound b (λ q. x (k ∙ q)))
+
   alike : (same a b ≡ true) ↔ (a ≡ b)
-  alike = (λ s. same-value a b (plain-sound a x) (plain-sound b y) (same-true a b s), λ q. cell-same a b (ap cellOf q))
+  alike = (λ s. one (same-true a b s), λ q. cell-same a b (ap cellOf q))
 
   apart : (not (same a b) ≡ true) ↔ (a ≢ b)
-  apart = (λ s q. true≢false (sym s ∙ rw (alike .1 q)), λ n. rw (cell-differs a b (λ q. n (same-value a b (plain-sound a x) (plain-sound b y) q))))
+  apart = (λ s q. true≢false (sym s ∙ rw (alike .1 q)), λ n. rw (cell-differs a b (λ q. n (one q))))
+
+  both-compared : comparable (kindOf a) (kindOf b) ≡ true
+  both-compared = rw (← k) (compared (kindOf a) x)
 
 module _ (v a b : Value) where
-  -- = and ≠: two plain values are one, or are apart
-  like-made {ℓ} : {X : Type ℓ} (f : Bool → Bool) → (want {E = ℕ} 8 (comparable (kindOf a) (kindOf b)) >> got (Truth (f (same a b)))) ≡ got v
-      → (kindOf a ≢ isRef → kindOf b ≢ isRef → Truth (f (same a b)) ≡ v → X) → X
-  like-made f e h = tested 8 (comparable (kindOf a) (kindOf b)) _ e λ c k. plains (kindOf a) (kindOf b) c λ x y. h x y (got-inj k)
+  -- = and ≠: two plain values of one kind are one, or are apart
+  like-made : {X : Type 0} (f : Bool → Bool) → (want {E = ℕ} 8 (comparable (kindOf a) (kindOf b)) >> got (Truth (f (same a b)))) ≡ got v
+      → (kindOf a ≡ kindOf b → kindOf a ≢ isRef → Truth (f (same a b)) ≡ v → X) → X
+  like-made {X} f e h =
+      tested 8 (comparable (kindOf a) (kindOf b)) _ e λ c k. one-kind (λ m n. (m ≡ n → m ≢ isRef → X) → X) (kindOf a) (kindOf b) c (λ m x g. g refl x) (λ q x. h q x (got-inj k))
 
   pub makes-sound : (o : ℕ) → 1 ≤ o → o ≤ operators → apply (opOf o) a b ≡ got v → Makes o a b v
   unfolding apply made takes opOf
@@ -230,8 +244,8 @@ makes-complete (Makes.minus c) = rw c
 makes-complete (Makes.times c) = rw c
 makes-complete Makes.less = refl
 makes-complete Makes.at-most = refl
-makes-complete (Makes.equal {a = a} {b = b} {t = t} x y q) = rw (compared (kindOf a) (kindOf b) x y, agree (same a b) t (alike a b x y) q)
-makes-complete (Makes.unequal {a = a} {b = b} {t = t} x y q) = rw (compared (kindOf a) (kindOf b) x y, agree (not (same a b)) t (apart a b x y) q)
+makes-complete (Makes.equal {a = a} {b = b} {t = t} x y q) = rw (both-compared a b x y, agree (same a b) t (alike a b x y) q)
+makes-complete (Makes.unequal {a = a} {b = b} {t = t} x y q) = rw (both-compared a b x y, agree (not (same a b)) t (apart a b x y) q)
 makes-complete Makes.at-least = refl
 makes-complete Makes.more = refl
 makes-complete Makes.both = refl

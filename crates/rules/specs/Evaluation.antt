@@ -37,7 +37,7 @@ ops = noOp ∷ add ∷ sub ∷ mul ∷ lt ∷ le ∷ eq ∷ ne ∷ ge ∷ gt ∷
 unfoldable pub opOf : ℕ → Op
 opOf n = getD ops n noOp
 
--- ---- kinds: "Operators 1 to 5, 8 and 9 want integers, 10 and 11 booleans, 6 and 7 any two values but references (T-OP)"
+-- ---- kinds: "Operators 1 to 5, 8 and 9 want integers, 10 and 11 booleans" (T-OP)
 
 abbrev pub anInt : Kind → Bool
 anInt isNil = false
@@ -51,18 +51,18 @@ aBool isBool = true
 aBool isInt = false
 aBool isRef = false
 
-abbrev pub aRef : Kind → Bool
-aRef isNil = false
-aRef isBool = false
-aRef isInt = false
-aRef isRef = true
-
--- the kinds that = and ≠ take, in this one place
-unfoldable pub comparable : Kind → Kind → Bool
-comparable a b = not (aRef a) && not (aRef b)
+abbrev pub theNil : Kind → Bool
+theNil isNil = true
+theNil isBool = false
+theNil isInt = false
+theNil isRef = false
 
 abbrev pub two : (Kind → Bool) → Kind → Kind → Bool
 two test a b = test a && test b
+
+-- 02, W4: "operators 6 and 7 want two integers, two booleans or two nils", in this one place
+unfoldable pub comparable : Kind → Kind → Bool
+comparable a b = two anInt a b || two aBool a b || two theNil a b
 
 -- whether an operator takes these kinds, and the kind of its result
 unfoldable pub takes : Op → Kind → Kind → Bool
@@ -95,7 +95,7 @@ gives noOp = isNil
 
 -- ---- values
 
--- "unlike kinds are unequal"; "L == L compares kind and payload of any two values"
+-- "L == L compares kind and payload of any two values"; = and ≠ those of two that they take
 unfoldable pub same : Value → Value → Bool
 same a b = eqZ (cellOf a .kind) (cellOf b .kind) && eqZ (cellOf a .payload) (cellOf b .payload)
 

@@ -1,4 +1,4 @@
--- The sheets K1 to K12 of document 01, "Sheets to try", a while, two of `and`, one of 15, and five lists of entries: what is run, and the whole of what must come out.
+-- The sheets K1 to K12 of document 01, "Sheets to try", a while, two of `and`, one of 15, one of unlike kinds, and five lists of entries: what is run, and the whole of what must come out.
 -- Assumes nothing: these are definitions.
 use Prim.Native.Nat.{ℕ, zero, suc, _+_, _-_}
 use mathlib.Core.List.{List, [], _∷_, _++_}
@@ -219,8 +219,17 @@ L1 = record {
   };
 }
 
+-- x := 5 = true (02, W4)
+abbrev pub U1 : Sheet
+U1 = record {
+  program = words (1 ∷ 1 ∷ 0 ∷ 0 ∷ 25 ∷ 6 ∷ 23 ∷ 5 ∷ 22 ∷ []);
+  proposals = words (0 ∷ []);
+  budget = pos 100;
+  answer = record { outcome = 8; place = 4; steps = 1; accepted = 0; state = tables (table 128 []) (table 1601 []) (table 98 []); unread = words (0 ∷ []); tests = [] };
+}
+
 abbrev pub sheets : List Sheet
-sheets = K1 ∷ K2 ∷ K3 ∷ K4 ∷ K5 ∷ K6 ∷ K7 ∷ K7' ∷ K8 ∷ K9 ∷ K10 ∷ K11 ∷ K12 ∷ K12' ∷ W1 ∷ A1 ∷ A2 ∷ L1 ∷ []
+sheets = K1 ∷ K2 ∷ K3 ∷ K4 ∷ K5 ∷ K6 ∷ K7 ∷ K7' ∷ K8 ∷ K9 ∷ K10 ∷ K11 ∷ K12 ∷ K12' ∷ W1 ∷ A1 ∷ A2 ∷ L1 ∷ U1 ∷ []
 
 -- what the definitions give, and what 01 says
 unfoldable pub given : List Sheet → List Ended

@@ -5,25 +5,42 @@ use crate::comparison::Stop;
 use crate::dealt;
 use crate::proved::{Proved, Told};
 use reference::batch::{Finish, Sheet};
+use reference::counts::Counts;
 use reference::generator;
 use reference::outcome::Outcome;
-use reference::places::Places;
 use reference::run::Answer;
 use std::io;
 
 /// From so many sheets on, each of 7, 8, 9 and 15 must have a place inside a
-/// statement so often.
+/// statement so often, and one sheet in so many must compare unlike kinds, in
+/// all and for each of 8, 15 and 4.
 const LONG_RUN: u64 = 1_000_000;
 const LEAST_PLACES: u64 = 10_000;
+const UNLIKE_ONCE_IN: u64 = 100;
+const EACH_UNLIKE_ONCE_IN: u64 = 1000;
 
 pub type Tally = dealt::Tally<Sheet>;
 
 pub fn compare(seed: u64, count: u64) -> Result<Tally, Stop> {
     let tally: Tally = dealt::compare(seed, count)?;
-    if count >= LONG_RUN && !tally.noted.are_met(LEAST_PLACES) {
-        return Err(Stop::Rare(format!("{tally}\ntoo few places inside")));
+    match rare(&tally.noted, count) {
+        Some(rare) => Err(Stop::Rare(format!("{tally}\ntoo few {rare}"))),
+        None => Ok(tally),
     }
-    Ok(tally)
+}
+
+/// What came up too seldom in a long run.
+pub fn rare(counts: &Counts, sheets: u64) -> Option<&'static str> {
+    let [all, each] = [UNLIKE_ONCE_IN, EACH_UNLIKE_ONCE_IN].map(|once| sheets.div_ceil(once));
+    if sheets < LONG_RUN {
+        None
+    } else if !counts.places.are_met(LEAST_PLACES) {
+        Some("places inside")
+    } else if !counts.unlike.are_met(all, each) {
+        Some("comparisons of unlike kinds")
+    } else {
+        None
+    }
 }
 
 /// What the C call gives, on copies of the sheet's tables.
@@ -34,7 +51,7 @@ pub fn call(sheet: &Sheet) -> Finish {
 impl Case for Sheet {
     const NAME: &'static str = "sheet";
     const OUTCOMES: &'static [Outcome] = &Outcome::ALL;
-    type Noted = Places;
+    type Noted = Counts;
 
     fn generated(seed: u64, index: u64) -> Sheet {
         generator::sheet(seed, index)
@@ -75,13 +92,13 @@ impl Case for Sheet {
     }
 }
 
-impl Noted<Sheet> for Places {
+impl Noted<Sheet> for Counts {
     fn note(&mut self, sheet: &Sheet, finish: &Finish) -> Result<(), String> {
         self.count(sheet, finish);
         Ok(())
     }
 
-    fn add(&mut self, other: &Places) {
-        Places::add(self, other);
+    fn add(&mut self, other: &Counts) {
+        Counts::add(self, other);
     }
 }

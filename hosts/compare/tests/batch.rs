@@ -46,5 +46,5 @@ fn decisions_have_their_answers() {
 
 #[test]
 fn outcomes_have_their_answers() {
-    assert_eq!(test_folder("outcomes"), 20);
+    assert_eq!(test_folder("outcomes"), 21);
 }

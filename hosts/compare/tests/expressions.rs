@@ -42,6 +42,7 @@ fn refusals_have_their_words() {
     assert_eq!(value(&[24, 3, 0]), [7, 2, 0, 0]);
     assert_eq!(value(&[24, 0, 1, 2]), [7, 3, 0, 0]);
     assert_eq!(value(&[25, 6, 24, 0, 0, 20]), [8, 6, 0, 0]);
+    assert_eq!(value(&[25, 7, 23, 1, 22]), [8, 5, 0, 0]);
     assert_eq!(value(&[25, 2, 23, i32::MIN, 23, 1]), [9, 6, 0, 0]);
     assert_eq!(value(&[25, 12, 20, 20]), [2, 3, 0, 0]);
     assert_eq!(value(&[]), [2, 0, 0, 0]);
@@ -71,13 +72,14 @@ fn and_looks_at_its_right_side() {
 
 #[test]
 fn constraints_are_weighed() {
-    let over = [25, 6, 25, 1, 23, i32::MAX, 23, 1, 20];
+    let over = [25, 6, 25, 1, 23, i32::MAX, 23, 1, 23, 1];
     let parts = |words: &[i32]| ask(Call::Constraint, words);
     assert_eq!(parts(&[2, 1, 22, 3, 22]), [0, 1, 1, 0]);
     assert_eq!(parts(&[2, 1, 21, 3, 22]), [0, 0, 1, 0]);
     assert_eq!(parts(&[2, 1, 22, 3, 21]), [0, 0, 0, 0]);
     assert_eq!(parts(&[&[1, 2], &over[..]].concat()), [0, 0, 1, 0]);
     assert_eq!(parts(&[1, 3, 23, 1]), [8, 3, 0, 0]);
+    assert_eq!(parts(&[1, 3, 25, 6, 24, 1, 0, 20]), [8, 6, 0, 0]);
     assert_eq!(parts(&[1, 3, 26, 0, 0, 0, 0]), [2, 5, 0, 0]);
     assert_eq!(parts(&[17, 3, 22]), [2, 3, 0, 0]);
 }
@@ -88,6 +90,8 @@ fn kept_constraints_are_weighed() {
     let kept = |words: &[i32]| ask(Call::Kept, words);
     assert_eq!(kept(&[3, 1, 3, 22, 0, 3, 1, 1, 21]), [0, 0, 1, 0]);
     assert_eq!(kept(&[3, 1, 3, 22, 0, 3, 1, 3, 20]), [15, 2, 0, 0]);
+    let unlike = [3, 1, 3, 22, 0, 3, 1, 1, 25, 7, 24, 2, 0, 21];
+    assert_eq!(kept(&unlike), [15, 6, 0, 0]);
     assert_eq!(kept(&[3, 1, 3, 22]), [15, 0, 0, 0]);
 }
 

@@ -34,7 +34,7 @@ fn every_text_gives_the_numbers_beside_it() {
             beside_answers += 1;
         }
     }
-    assert_eq!((beside_sheets, beside_answers), (119, 250));
+    assert_eq!((beside_sheets, beside_answers), (122, 250));
 }
 
 /// One text with most forms, and every text of sheets/ that is short, up to

@@ -1,7 +1,8 @@
 //! The C call on sheets whose answers are known, and on a short run.
 
-use compare::sheets::{call, compare};
+use compare::sheets::{call, compare, rare};
 use reference::batch::{Finish, Sheet};
+use reference::counts::Counts;
 use reference::run::Answer;
 use std::fs;
 use std::path::Path;
@@ -178,5 +179,27 @@ fn a_short_run_is_the_same() {
     let tally = compare(3, 4000).expect("no difference");
     assert_eq!(tally.cases(), 4000);
     assert!(tally.outcomes.iter().all(|sheets| *sheets > 20), "{tally}");
-    assert!(tally.noted.are_met(50), "{tally}");
+    assert!(tally.noted.places.are_met(50), "{tally}");
+    assert!(tally.noted.unlike.are_met(80, 15), "{tally}");
+}
+
+#[test]
+fn what_is_rare_in_a_long_run_is_told() {
+    let mut counts = Counts::default();
+    counts.places.sorts = [1; 5];
+    counts.places.outcomes = [10_000; 4];
+    counts.unlike.counts = [8000, 1000, 1000];
+    assert_eq!(rare(&counts, 1_000_000), None);
+    assert_eq!(
+        rare(&counts, 1_000_001),
+        Some("comparisons of unlike kinds")
+    );
+    counts.unlike.counts = [50_000, 50_000, 999];
+    assert_eq!(
+        rare(&counts, 1_000_000),
+        Some("comparisons of unlike kinds")
+    );
+    counts.places.outcomes[0] = 9999;
+    assert_eq!(rare(&counts, 1_000_000), Some("places inside"));
+    assert_eq!(rare(&counts, 999_999), None);
 }

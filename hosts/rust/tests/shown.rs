@@ -43,7 +43,7 @@ fn every_typed_sheet_is_shown_as_its_file_says() {
             sheets += 1;
         }
     }
-    assert_eq!((sheets, files), (57, 57));
+    assert_eq!((sheets, files), (60, 60));
 }
 
 #[test]

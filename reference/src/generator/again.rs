@@ -3,6 +3,7 @@
 use super::draft::Draft;
 use super::numbers::Numbers;
 use super::search::Searcher;
+use super::states;
 use crate::batch::Sheet;
 use crate::program::{Always, Program};
 use crate::run::unfit_at_start;
@@ -18,6 +19,9 @@ pub fn again(mut draft: Draft) -> Sheet {
     while draft.tables.values.is_empty() && draft.numbers.chance(90) {
         draft.grow(2);
     }
+    if draft.numbers.chance(40) {
+        states::named_fields(&mut draft);
+    }
     let mut left = draft.tables.clone();
     if draft.numbers.chance(40) {
         draft.grow(3);
@@ -32,7 +36,7 @@ pub fn again(mut draft: Draft) -> Sheet {
     let decoded = Program::decode(&program).ok();
     let proposals = match &decoded {
         Some(decoded) => {
-            if numbers.chance(35) {
+            if numbers.chance(45) {
                 left = spoilt(&mut numbers, left, &decoded.always());
             }
             search(&mut numbers, decoded, &left)
@@ -103,13 +107,24 @@ pub fn spoilt(numbers: &mut Numbers, tables: Tables, always: &Always) -> Tables 
 }
 
 fn other(numbers: &mut Numbers, value: Value, records: usize) -> Value {
+    if numbers.chance(50) {
+        return of_another_kind(numbers, value);
+    }
     match value {
-        Value::Integer(_) if numbers.chance(80) => Value::Integer(numbers.literal()),
-        Value::Boolean(truth) if numbers.chance(80) => Value::Boolean(!truth),
+        Value::Integer(_) => Value::Integer(numbers.literal()),
+        Value::Boolean(truth) => Value::Boolean(!truth),
         Value::Reference(_) if records > 1 && numbers.chance(50) => {
             Value::Reference(numbers.below(records))
         }
         Value::Nil if records > 0 => Value::Reference(numbers.below(records)),
         _ => Value::Nil,
     }
+}
+
+/// Nil, a boolean or an integer.
+fn of_another_kind(numbers: &mut Numbers, value: Value) -> Value {
+    let truth = Value::Boolean(numbers.chance(50));
+    let all = [Value::Nil, truth, Value::Integer(numbers.literal())];
+    let mut others = all.into_iter().filter(|own| own.kind() != value.kind());
+    others.nth(numbers.below(2)).unwrap_or(Value::Nil)
 }

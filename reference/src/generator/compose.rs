@@ -8,6 +8,8 @@ pub const VARIABLE_NAMES: [i32; 9] = [0, 1, 2, 3, 4, 5, 6, 7, 63];
 pub const LABEL_NAMES: [i32; 6] = [0, 1, 2, 3, 4, 31];
 const ARITHMETIC: [i32; 5] = [1, 1, 2, 2, 3];
 const COMPARISONS: [i32; 7] = [4, 5, 6, 6, 7, 8, 9];
+/// The kinds of which 6 and 7 take two.
+const PLAIN: [Kind; 3] = [Kind::Nil, Kind::Boolean, Kind::Integer];
 
 /// A path that exists, and what its cell holds.
 #[derive(Clone, Debug)]
@@ -132,8 +134,9 @@ impl<'a> Composer<'a> {
             }
             3 => {
                 words.extend([25, self.numbers.between(6, 7)]);
-                self.plain(words);
-                self.plain(words);
+                let kind = self.numbers.pick(&PLAIN).unwrap_or(Kind::Nil);
+                self.leaf(words, kind);
+                self.leaf(words, kind);
             }
             4 | 5 if place == Place::Statement => self.identical(words),
             _ => {
@@ -142,13 +145,6 @@ impl<'a> Composer<'a> {
                 self.integer(words, depth - 1);
             }
         }
-    }
-
-    /// A leaf of any kind but a reference.
-    fn plain(&mut self, words: &mut Vec<i32>) {
-        let kinds = [Kind::Nil, Kind::Boolean, Kind::Integer];
-        let kind = self.numbers.pick(&kinds).unwrap_or(Kind::Nil);
-        self.leaf(words, kind);
     }
 
     fn identical(&mut self, words: &mut Vec<i32>) {

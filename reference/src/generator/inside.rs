@@ -28,7 +28,7 @@ pub fn under_truths(numbers: &mut Numbers, boolean: &[i32]) -> Vec<i32> {
 }
 
 /// The leaf is the left operand or the right one.
-fn joined(numbers: &mut Numbers, operator: i32, leaf: &[i32], other: &[i32]) -> Vec<i32> {
+pub fn joined(numbers: &mut Numbers, operator: i32, leaf: &[i32], other: &[i32]) -> Vec<i32> {
     match numbers.chance(50) {
         true => [&[25, operator][..], leaf, other].concat(),
         false => [&[25, operator][..], other, leaf].concat(),
@@ -45,4 +45,19 @@ pub fn behind_parts(numbers: &mut Numbers, last: &[i32]) -> Vec<i32> {
     words.push(numbers.between(1, 3));
     words.extend(last);
     words
+}
+
+/// A statement that meets a faulty expression, in one of the places for it.
+pub fn meeting(numbers: &mut Numbers, faulty: &[i32]) -> Vec<i32> {
+    let faulty = under_operators(numbers, faulty);
+    match numbers.below(8) {
+        0 => [&[1, 0, 0][..], &faulty].concat(),
+        1 => [&[1, 60, 1, 0][..], &faulty].concat(),
+        2 => [&[2, 1, 1, 4][..], &faulty].concat(),
+        3 => [&[2, 1, 3, 3, 20, 4][..], &faulty, &[5, 22]].concat(),
+        4 => [&[3][..], &behind_parts(numbers, &faulty)].concat(),
+        5 => [&[4][..], &behind_parts(numbers, &faulty)].concat(),
+        6 => [&[7][..], &faulty, &[0, 0]].concat(),
+        _ => [&[8][..], &faulty, &[0]].concat(),
+    }
 }

@@ -18,8 +18,8 @@ pub mod texts;
 mod wishes;
 
 use crate::batch::Sheet;
+use crate::counts::Counts;
 use crate::outcome::Outcome;
-use crate::places::Places;
 use draft::Draft;
 pub use lists::{as_program, list};
 use numbers::Numbers;
@@ -28,8 +28,8 @@ use numbers::Numbers;
 pub fn sheet(seed: u64, index: u64) -> Sheet {
     let mut numbers = Numbers::new(seed, index);
     match numbers.below(100) {
-        0..=29 => finished(numbers),
-        30..=61 => wished(numbers),
+        0..=27 => finished(numbers),
+        28..=61 => wished(numbers),
         62..=75 => damaged(numbers),
         76..=87 => again::again(draft(numbers)),
         88..=94 => limits::sheet(&mut numbers),
@@ -51,9 +51,11 @@ fn finished(numbers: Numbers) -> Sheet {
     draft.sheet()
 }
 
+/// Those by which unlike kinds are refused are wished for twice as often.
 fn wished(mut numbers: Numbers) -> Sheet {
     let outcomes = Outcome::ALL.get(5..).unwrap_or(&[]);
-    let outcome = numbers.pick(outcomes).unwrap_or(Outcome::Finished);
+    let outcomes = [outcomes, &[Outcome::WrongKind, Outcome::LostConstraint]].concat();
+    let outcome = numbers.pick(&outcomes).unwrap_or(Outcome::Finished);
     wishes::wished(draft(numbers), outcome)
 }
 
@@ -73,18 +75,18 @@ fn extreme(mut numbers: Numbers) -> Sheet {
     finished(numbers)
 }
 
-/// How often each outcome comes up among the first sheets of a seed, and where
-/// the places inside statements are.
-pub fn histogram(seed: u64, count: u64) -> ([u64; 20], Places) {
-    let (mut counts, mut places) = ([0; 20], Places::default());
+/// How often each outcome comes up among the first sheets of a seed, and what
+/// else is counted of them.
+pub fn histogram(seed: u64, count: u64) -> ([u64; 20], Counts) {
+    let (mut outcomes, mut counts) = ([0; 20], Counts::default());
     for index in 0..count {
         let sheet = sheet(seed, index);
         let finish = sheet.answer();
         let outcome = usize::try_from(finish.answer.outcome).unwrap_or(0);
-        if let Some(count) = counts.get_mut(outcome) {
+        if let Some(count) = outcomes.get_mut(outcome) {
             *count += 1;
         }
-        places.count(&sheet, &finish);
+        counts.count(&sheet, &finish);
     }
-    (counts, places)
+    (outcomes, counts)
 }

@@ -1,8 +1,9 @@
 //! Drafts that are to end with a certain refusal from 5 on.
 
-use super::compose::Composer;
+use super::compose::{Composer, Place};
 use super::draft::Draft;
-use super::inside::{behind_parts, under_operators};
+use super::inside::{behind_parts, meeting, under_operators};
+use super::numbers::Numbers;
 use super::search::Mistake;
 use super::start;
 use super::states;
@@ -125,42 +126,78 @@ fn missing_cell(draft: &mut Draft) {
 }
 
 fn wrong_kind(draft: &mut Draft) {
-    let operator = draft.numbers.between(1, 11);
-    let mut composer = draft.composer();
-    let mut leaf = |kind: Kind| {
-        let mut words = Vec::new();
-        composer.leaf(&mut words, kind);
-        words
-    };
-    let (first, second) = match operator {
-        6 | 7 => (leaf(Kind::Integer), leaf(Kind::Reference)),
-        _ => (leaf(Kind::Integer), leaf(Kind::Boolean)),
-    };
-    let integer = leaf(Kind::Integer);
-    let reference = leaf(Kind::Reference);
-    if composer.numbers.below(9) == 0 {
-        let statement = unlike_identity(&mut composer);
-        return last(draft, statement);
-    }
-    let numbers = composer.numbers;
-    let wrong = under_operators(numbers, &[&[25, operator][..], &first, &second].concat());
-    let statement = match numbers.below(8) {
-        0 => [&[1, 0, 0][..], &wrong].concat(),
-        1 => [&[3][..], &behind_parts(numbers, &wrong)].concat(),
-        2 => [&[4][..], &behind_parts(numbers, &integer)].concat(),
-        3 => [&[7][..], &integer, &[0, 0]].concat(),
-        4 => [&[8][..], &reference, &[0]].concat(),
-        5 => [&[1, 2, 0, 25, 6][..], &reference, &[20]].concat(),
-        6 => [&[1, 60, 1, 0][..], &wrong].concat(),
-        _ => return later_test(draft, &integer),
+    let statement = match draft.numbers.below(10) {
+        0 => unlike_identity(&mut draft.composer()),
+        1..=3 => no_boolean(draft),
+        _ => {
+            let wrong = wrong_operands(draft);
+            meeting(&mut draft.numbers, &wrong)
+        }
     };
     last(draft, statement);
 }
 
-/// A while whose second test is no boolean.
-fn later_test(draft: &mut Draft, integer: &[i32]) {
+/// An operator over kinds that it does not take.
+fn wrong_operands(draft: &mut Draft) -> Vec<i32> {
+    let operator = match draft.numbers.chance(70) {
+        true => draft.numbers.between(6, 7),
+        false => draft.numbers.between(1, 11),
+    };
+    let (left, right) = match operator {
+        6 | 7 => uncompared(&mut draft.numbers),
+        _ => (Kind::Integer, Kind::Boolean),
+    };
+    if [left, right].contains(&Kind::Reference) {
+        let _ = draft.attempt(&[2, 36, 0]);
+    }
+    let mut words = vec![25, operator];
+    operand(&mut draft.composer(), &mut words, left);
+    operand(&mut draft.composer(), &mut words, right);
+    words
+}
+
+/// Kinds that 6 and 7 do not take: unlike ones, or two references.
+fn uncompared(numbers: &mut Numbers) -> (Kind, Kind) {
+    let kinds = [Kind::Integer, Kind::Boolean, Kind::Nil, Kind::Reference];
+    match (numbers.pick(&kinds), numbers.pick(&kinds)) {
+        (Some(left), Some(right)) if left != right || left == Kind::Reference => (left, right),
+        _ => (Kind::Integer, Kind::Boolean),
+    }
+}
+
+/// A leaf mostly; it may stand inside C.
+fn operand(composer: &mut Composer, words: &mut Vec<i32>, kind: Kind) {
+    let depth = 1 + composer.numbers.below(2);
+    match kind {
+        Kind::Integer => composer.integer(words, depth),
+        Kind::Boolean => composer.boolean(words, depth, Place::Constraint),
+        _ => composer.leaf(words, kind),
+    }
+}
+
+/// A test or a part that is no boolean.
+fn no_boolean(draft: &mut Draft) -> Vec<i32> {
+    let kinds = [Kind::Integer, Kind::Nil, Kind::Reference];
+    let kind = draft.numbers.pick(&kinds).unwrap_or(Kind::Nil);
+    let mut wrong = Vec::new();
+    draft.composer().leaf(&mut wrong, kind);
+    match draft.numbers.below(5) {
+        0 => [&[3][..], &behind_parts(&mut draft.numbers, &wrong)].concat(),
+        1 => [&[4][..], &behind_parts(&mut draft.numbers, &wrong)].concat(),
+        2 => [&[7][..], &wrong, &[0, 0]].concat(),
+        3 => [&[8][..], &wrong, &[0]].concat(),
+        _ => later_test(draft, &wrong),
+    }
+}
+
+/// A while whose second test is no boolean, or compares one with true.
+fn later_test(draft: &mut Draft, wrong: &[i32]) -> Vec<i32> {
     let _ = draft.attempt(&[1, 59, 0, 22]);
-    last(draft, [&[8, 24, 59, 0, 1, 1, 59, 0][..], integer].concat());
+    let test: &[i32] = match draft.numbers.chance(50) {
+        true => &[24, 59, 0],
+        false => &[25, 6, 24, 59, 0, 22],
+    };
+    [&[8][..], test, &[1, 1, 59, 0], wrong].concat()
 }
 
 /// An identity statement with one side or both neither reference nor nil.
@@ -294,16 +331,16 @@ fn no_room(draft: &mut Draft) {
 }
 
 fn lost_constraint(draft: &mut Draft) {
-    states::named_fields(draft);
-    let statement: &[i32] = match draft.numbers.below(6) {
-        0 => &[1, 27, 0, 20],
-        1 => &[2, 27, 1, 0, 23, 1],
-        2 => &[2, 27, 2, 0, 23, 1, 1, 23, 0],
-        3 => &[1, 27, 1, 1, 23, 1],
-        4 => &[1, 27, 1, 0, 24, 27, 0],
-        _ => &[1, 27, 0, 23, 5],
+    let field = states::named_fields(draft);
+    let statement = match draft.numbers.below(8) {
+        0 => vec![1, 27, 0, 20],
+        1 => vec![2, 27, 1, 0, 23, 1],
+        2 => vec![1, 27, 0, 23, 5],
+        3 => [&[1][..], &states::path(27, field), &[24, 27, 0]].concat(),
+        4 | 5 => states::other_record(&mut draft.numbers),
+        _ => [&[1][..], &states::other_field(&mut draft.numbers, field)].concat(),
     };
-    last(draft, statement.to_vec());
+    last(draft, statement);
 }
 
 /// Grows on with a mistake due at the next proposal it fits.

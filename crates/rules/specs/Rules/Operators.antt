@@ -11,12 +11,12 @@ use Rattle.tables.specs.declared.Value.{Value}
 use Rattle.tables.specs.declared.Value.the-variants.{Bool as Truth, Int}
 use Rattle.rules.specs.Evaluation.{Kind, isBool, isInt, isRef, kindOf}
 
--- T-OP: the operator takes operands of the first two kinds, and gives the third: "Operators 1 to 5, 8 and 9 want integers, 10 and 11 booleans,
--- 6 and 7 any two values but references"
+-- T-OP: the operator takes operands of the first two kinds, and gives the third: "Operators 1 to 5, 8 and 9 want integers, 10 and 11 booleans";
+-- 02, W4: "operators 6 and 7 want two integers, two booleans or two nils"
 pub data Gives : ℕ → Kind → Kind → Kind → Type 0 where
   number : {o : ℕ} → 1 ≤ o → o ≤ 3 → Gives o isInt isInt isInt
   order : {o : ℕ} → 4 ≤ o → o ≤ 5 → Gives o isInt isInt isBool
-  equality : {o : ℕ} {a b : Kind} → 6 ≤ o → o ≤ 7 → a ≢ isRef → b ≢ isRef → Gives o a b isBool
+  equality : {o : ℕ} {k : Kind} → 6 ≤ o → o ≤ 7 → k ≢ isRef → Gives o k k isBool
   reverse : {o : ℕ} → 8 ≤ o → o ≤ 9 → Gives o isInt isInt isBool
   logic : {o : ℕ} → 10 ≤ o → o ≤ 11 → Gives o isBool isBool isBool
 
@@ -27,9 +27,9 @@ pub data Makes : ℕ → Value → Value → Value → Type 0 where
   times : {m n : ℤ} → fits (m *ℤ n) ≡ true → Makes 3 (Int m) (Int n) (Int (m *ℤ n))
   less : {m n : ℤ} → Makes 4 (Int m) (Int n) (Truth (ltZ m n))
   at-most : {m n : ℤ} → Makes 5 (Int m) (Int n) (Truth (leZ m n))
-  -- "6 and 7 any two values but references"; "unlike kinds are unequal"
-  equal : {a b : Value} {t : Bool} → kindOf a ≢ isRef → kindOf b ≢ isRef → (t ≡ true) ↔ (a ≡ b) → Makes 6 a b (Truth t)
-  unequal : {a b : Value} {t : Bool} → kindOf a ≢ isRef → kindOf b ≢ isRef → (t ≡ true) ↔ (a ≢ b) → Makes 7 a b (Truth t)
+  -- two of one kind, and no references
+  equal : {a b : Value} {t : Bool} → kindOf a ≡ kindOf b → kindOf a ≢ isRef → (t ≡ true) ↔ (a ≡ b) → Makes 6 a b (Truth t)
+  unequal : {a b : Value} {t : Bool} → kindOf a ≡ kindOf b → kindOf a ≢ isRef → (t ≡ true) ↔ (a ≢ b) → Makes 7 a b (Truth t)
   at-least : {m n : ℤ} → Makes 8 (Int m) (Int n) (Truth (leZ n m))
   more : {m n : ℤ} → Makes 9 (Int m) (Int n) (Truth (ltZ n m))
   both : {a b : Bool} → Makes 10 (Truth a) (Truth b) (Truth (a && b))

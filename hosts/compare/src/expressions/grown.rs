@@ -91,7 +91,7 @@ impl Growth<'_> {
             operator @ 6..=7 => {
                 let left = self.kind();
                 let right = self.kind();
-                let same = self.numbers.chance(70);
+                let same = self.numbers.chance(90);
                 (operator, left, if same { left } else { right })
             }
             operator @ 10..=11 => (operator, Kind::Boolean, Kind::Boolean),

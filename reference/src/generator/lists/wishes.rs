@@ -128,14 +128,13 @@ fn plain_identity(draft: &mut Draft) -> Vec<Vec<i32>> {
 }
 
 fn lost_constraint(draft: &mut Draft) -> Vec<Vec<i32>> {
-    states::named_fields(draft);
-    let entry: &[i32] = match draft.numbers.below(4) {
-        0 => &[27, 0, 20],
-        1 => &[27, 0, 23, 5],
-        2 => &[27, 1, 0, 20],
-        _ => &[27, 1, 1, 23, 1],
+    let field = states::named_fields(draft);
+    let entry = match draft.numbers.below(4) {
+        0 => vec![27, 0, 20],
+        1 => vec![27, 0, 23, 5],
+        _ => states::other_field(&mut draft.numbers, field),
     };
-    vec![entry.to_vec()]
+    vec![entry]
 }
 
 fn unmet(draft: &mut Draft) -> Vec<Vec<i32>> {

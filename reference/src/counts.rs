@@ -1,0 +1,30 @@
+//! What is counted of many sheets beside their outcomes.
+
+use crate::batch::{Finish, Sheet};
+use crate::places::Places;
+use crate::unlike::Unlike;
+use std::fmt;
+
+#[derive(Clone, Debug, Default, PartialEq, Eq)]
+pub struct Counts {
+    pub places: Places,
+    pub unlike: Unlike,
+}
+
+impl Counts {
+    pub fn count(&mut self, sheet: &Sheet, finish: &Finish) {
+        self.places.count(sheet, finish);
+        self.unlike.count(sheet, finish);
+    }
+
+    pub fn add(&mut self, other: &Counts) {
+        self.places.add(&other.places);
+        self.unlike.add(&other.unlike);
+    }
+}
+
+impl fmt::Display for Counts {
+    fn fmt(&self, out: &mut fmt::Formatter<'_>) -> fmt::Result {
+        write!(out, "{}; {}", self.places, self.unlike)
+    }
+}
