@@ -76,7 +76,7 @@ fn a_seed_and_number_give_the_same_sheet() {
 #[test]
 fn the_same_sheets_on_every_machine() {
     let lines = (0..500).map(|index| sheet(1, index).line());
-    assert_eq!(digest(lines), 3_685_646_938_292_123_059);
+    assert_eq!(digest(lines), 17_725_543_481_413_841_199);
 }
 
 #[test]

@@ -1,7 +1,7 @@
 -- What the code of the operators comes to. Assumes nothing.
 use mathlib.Core.Path.{_≡_, refl, sym, ap, _∙_}
 use mathlib.Core.Bool.{Bool, true, false, cond, _&&_, _||_}
-use Prim.Native.Nat.{ℕ, zero, suc, _+_, _≤_, _<_}
+use Prim.Native.Nat.{ℕ, zero, suc, _≤_, _<_}
 use native.Mathlib.Omega.{arith}
 use lib.Dec.{eqb, ltb}
 use borrow.Author.Tests.{eqb-true, ne-eqb, lt-ltb, le-ltb}
@@ -39,11 +39,9 @@ one-number zero b = refl
 one-number (suc zero) b = refl
 one-number (suc (suc zero)) b = cases (eqb b 2) (λ e. rw e) (λ e. rw e)
 one-number (suc (suc (suc zero))) b = cases (eqb b 3) (λ e. rw e) (λ e. rw e)
-one-number (suc (suc (suc (suc n)))) b = above (suc (suc (suc (suc n)))) (omega arith)
-  where
-    above : (m : ℕ) → 4 ≤ m → ((ltb 0 m && ltb m 4) && eqb b m) ≡ ((eqb m 3 && eqb b 3) || (eqb m 2 && eqb b 2) || (eqb m 1 && eqb b 1))
-    above m l =
-        rw (lt-ltb 0 m (omega (arith, l)), le-ltb m 4 l, ne-eqb m 3 (λ e. omega (arith, l, e)), ne-eqb m 2 (λ e. omega (arith, l, e)), ne-eqb m 1 (λ e. omega (arith, l, e)))
+one-number (suc (suc (suc (suc n)))) b =
+    let m = suc (suc (suc (suc n))) in
+    rw (le-ltb m 4 (omega arith), ne-eqb m 3 (λ e. omega (arith, e)), ne-eqb m 2 (λ e. omega (arith, e)), ne-eqb m 1 (λ e. omega (arith, e)), lt-ltb 0 m (omega arith))
 
 pub kind-back : (k : Kind) → kindFrom (kindNumber k) ≡ k
 kind-back isNil = refl

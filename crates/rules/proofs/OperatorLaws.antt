@@ -187,14 +187,14 @@ agree false false x y = refl
 
 -- kind and payload of plain values of one kind
 module _ (a b : Value) (k : kindOf a ≡ kindOf b) (x : kindOf a ≢ isRef) where
-  one : cellOf a ≡ cellOf b → a ≡ b
-  one = same-value a b (plain-sound a x) (plain-sound b (λ q. x (k ∙ q)))
+  by-cell : cellOf a ≡ cellOf b → a ≡ b
+  by-cell = same-value a b (plain-sound a x) (plain-sound b (λ q. x (k ∙ q)))
 
   alike : (same a b ≡ true) ↔ (a ≡ b)
-  alike = (λ s. one (same-true a b s), λ q. cell-same a b (ap cellOf q))
+  alike = (λ s. by-cell (same-true a b s), λ q. cell-same a b (ap cellOf q))
 
   apart : (not (same a b) ≡ true) ↔ (a ≢ b)
-  apart = (λ s q. true≢false (sym s ∙ rw (alike .1 q)), λ n. rw (cell-differs a b (λ q. n (one q))))
+  apart = (λ s q. true≢false (sym s ∙ rw (alike .1 q)), λ n. rw (cell-differs a b (λ q. n (by-cell q))))
 
   both-compared : comparable (kindOf a) (kindOf b) ≡ true
   both-compared = rw (← k) (compared (kindOf a) x)

@@ -47,17 +47,25 @@ pub fn behind_parts(numbers: &mut Numbers, last: &[i32]) -> Vec<i32> {
     words
 }
 
-/// A statement that meets a faulty expression, in one of the places for it.
-pub fn meeting(numbers: &mut Numbers, faulty: &[i32]) -> Vec<i32> {
+/// A statement that evaluates a faulty expression outside C.
+pub fn evaluating(numbers: &mut Numbers, faulty: &[i32]) -> Vec<i32> {
     let faulty = under_operators(numbers, faulty);
-    match numbers.below(8) {
+    match numbers.below(6) {
         0 => [&[1, 0, 0][..], &faulty].concat(),
         1 => [&[1, 60, 1, 0][..], &faulty].concat(),
         2 => [&[2, 1, 1, 4][..], &faulty].concat(),
         3 => [&[2, 1, 3, 3, 20, 4][..], &faulty, &[5, 22]].concat(),
-        4 => [&[3][..], &behind_parts(numbers, &faulty)].concat(),
-        5 => [&[4][..], &behind_parts(numbers, &faulty)].concat(),
-        6 => [&[7][..], &faulty, &[0, 0]].concat(),
+        4 => [&[7][..], &faulty, &[0, 0]].concat(),
         _ => [&[8][..], &faulty, &[0]].concat(),
     }
+}
+
+/// A statement that meets a faulty expression, in C or outside it.
+pub fn meeting(numbers: &mut Numbers, faulty: &[i32]) -> Vec<i32> {
+    if numbers.chance(75) {
+        return evaluating(numbers, faulty);
+    }
+    let faulty = under_operators(numbers, faulty);
+    let sort = numbers.between(3, 4);
+    [&[sort][..], &behind_parts(numbers, &faulty)].concat()
 }

@@ -2,7 +2,7 @@
 
 use super::compose::{Composer, Place};
 use super::draft::Draft;
-use super::inside::{behind_parts, meeting, under_operators};
+use super::inside::{behind_parts, evaluating, joined, meeting};
 use super::numbers::Numbers;
 use super::search::Mistake;
 use super::start;
@@ -109,18 +109,11 @@ fn missing_cell(draft: &mut Draft) {
         _ => vec![absent, 0],
     };
     let numbers = composer.numbers;
-    let read = under_operators(numbers, &[&[24][..], &missing].concat());
     let statement = match numbers.below(7) {
         0 => [&[1][..], &missing, &[20]].concat(),
-        1 => [&[1, 0, 0][..], &read].concat(),
-        2 => [&[2, 1, 2, 3, 20, 4][..], &read].concat(),
-        3 => [&[3][..], &behind_parts(numbers, &read)].concat(),
-        4 => [&[5, absent, 0][..], &missing].concat(),
-        5 => {
-            let sides = [&[26][..], &missing, &[0, 0]].concat();
-            [&[7][..], &under_operators(numbers, &sides), &[0, 0]].concat()
-        }
-        _ => [&[8][..], &read, &[0]].concat(),
+        1 => [&[5, absent, 0][..], &missing].concat(),
+        2 => evaluating(numbers, &[&[26][..], &missing, &[0, 0]].concat()),
+        _ => meeting(numbers, &[&[24][..], &missing].concat()),
     };
     last(draft, statement);
 }
@@ -223,15 +216,8 @@ fn out_of_range(draft: &mut Draft) {
     };
     let mut other = Vec::new();
     draft.composer().integer(&mut other, 2);
-    let large = under_operators(&mut draft.numbers, &large);
-    let statement = match draft.numbers.below(6) {
-        0 => [&[1, 0, 0][..], &large].concat(),
-        1 => [&[1, 0, 0, 25, 1][..], &other, &large].concat(),
-        2 => [&[2, 3, 2, 1, 22, 0][..], &large].concat(),
-        3 => [&[1, 60, 1, 0][..], &large].concat(),
-        4 => [&[8][..], &large, &[0]].concat(),
-        _ => [&[7, 25, 4][..], &large, &other, &[0, 0]].concat(),
-    };
+    let large = joined(&mut draft.numbers, 1, &other, &large);
+    let statement = evaluating(&mut draft.numbers, &large);
     last(draft, statement);
 }
 
