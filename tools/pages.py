@@ -1,8 +1,9 @@
 #!/usr/bin/env python3
 """Tests README.md, docs/OUTCOMES.md and docs/NOTATION.md: the inputs and outputs that they show are those of sheets/, the second page has a section with a sheet for every outcome
-from 0 to 19, for 23 and for `input=`, and each sheet of sheets/outcomes is named after what it answers. Every text of the first two is a file, and its refusal the `.shown` beside it; 7, 8,
-9, 15, 17 and 19 have such texts. Every text of the third is a file, every refusal is its `.read` as hosts/rust prints it, and 20, 21 and 22 have a section each. `...` on a page
-stands for what is left out. That the sheets give their outputs is tested elsewhere."""
+from 0 to 19, for 23 to 25 and for `input=`, and each sheet of sheets/outcomes is named after what it answers, as those of sheets/printing that are refused are. Every text of the first two
+is a file, and its refusal the `.shown` beside it; 7, 8, 9, 15, 17 and 19 have such texts. Every text of the third is a file, every refusal is its `.read` as hosts/rust prints it, and 20, 21
+and 22 have a section each. What is printed of a program is the `.printed` beside its sheet; the third shows that of every sheet of sheets/k. `...` on a page stands for what is left out. That
+the sheets give their outputs is tested elsewhere."""
 import pathlib
 import re
 import sys
@@ -13,6 +14,9 @@ SHOWN = re.compile(r"`sheets/([a-z0-9/-]+)` reads\n\n```\n(.*?)```\n\nand prints
 ANSWERED = re.compile(r"`sheets/([a-z0-9/-]+)\.txt` answers\n\n```\n(.*?)```", re.S)
 TYPED = re.compile(r"`sheets/([a-z0-9/-]+)` types\n\n```\n(.*?)\n```(?:\n\nand is refused:\n\n```\n(.*?)\n```)?", re.S)
 TYPED_ROW = re.compile(r"^\| `([^`]+)` \| (?:(\d\d, column \d+) \| )?.* \| `([a-z0-9-]+)` \|$", re.M)
+HELD = re.compile(r"`sheets/([a-z0-9/-]+)` holds\n\n```\n(.*?)```", re.S)
+PRINTED = re.compile(r"`sheets/([a-z0-9/-]+)` is printed as\n\n```\n(.*?)```", re.S)
+PRINTED_ALIKE = re.compile(r"`sheets/([a-z]+)/([a-z0-9-]+)` to\s`sheets/\1/([a-z0-9-]+)` are printed as\s`sheets/([a-z0-9/-]+)`")
 SHOWN_IN_TEXT = ["7", "8", "9", "15", "17", "19"]
 faults = []
 
@@ -49,6 +53,27 @@ def test_shown(text):
     return answers
 
 
+def test_printed(text):
+    """Every sheet that a text tells to be printed is told as it is. Which ones these are, and what they answer, is given back."""
+    printed = PRINTED.findall(text)
+    for form, suffix in ((HELD, ".in"), (PRINTED, ".printed")):
+        for name, shown in form.findall(text):
+            file = SHEETS / (name + suffix)
+            if not file.is_file() or not is_cut(shown, file.read_text()):
+                faults.append(f"{name}{suffix} is not as shown")
+    names = {name for name, _ in printed}
+    for folder, first, last, like in PRINTED_ALIKE.findall(text):
+        for file in sorted((SHEETS / folder).glob("*.printed")):
+            if first <= file.stem <= last:
+                names.add(f"{folder}/{file.stem}")
+                if like not in names or file.read_text() != (SHEETS / f"{like}.printed").read_text():
+                    faults.append(f"{folder}/{file.stem} is not printed as {like}")
+    counts = len(HELD.findall(text)), len(printed), len(PRINTED_ALIKE.findall(text))
+    if counts != (text.count("` holds\n"), text.count("` is printed as\n"), text.count("` are printed as")):
+        faults.append("a sheet is held or printed in another form")
+    return names, {said(shown) for _, shown in printed}
+
+
 def test_refused(text):
     """Every text that a page types is its file, and is refused as its `.shown` says. How many refusals there are is given back."""
     typed = TYPED.findall(text)
@@ -67,10 +92,11 @@ def test_refused(text):
 def test_outcomes(page):
     sections = re.split(r"^## ", page, flags=re.M)[1:]
     headings = [section.split(":")[0] for section in sections]
-    if headings != [str(number) for number in [*range(20), 23]] + ["`input=`"]:
+    if headings != [str(number) for number in [*range(20), 23, 24, 25]] + ["`input=`"]:
         faults.append(f"the sections are {headings}")
+    test_headings(page, ["24", "25"])
     for section, heading in zip(sections, headings):
-        answers = test_shown(section)
+        answers = test_shown(section) | test_printed(section)[1]
         wanted = {"input-1", "input-2", "input-3"} if "input" in heading else {heading.zfill(2)}
         if answers != wanted:
             faults.append(f"the section on {heading} shows {sorted(answers)}")
@@ -82,8 +108,13 @@ def test_outcomes(page):
 def test_names(page):
     """The sheets that a page names are there, and each answers what its name says."""
     sheets = {file.stem for file in (SHEETS / "outcomes").iterdir()}
-    for name in sorted(set(re.findall(r"`((?:\d\d|input)-[a-z0-9-]+)`", page)) - sheets):
+    printed = {file.stem: said(file.read_text()) for file in (SHEETS / "printing").glob("*.printed")}
+    for name in sorted(set(re.findall(r"`((?:\d\d|input)-[a-z0-9-]+)`", page)) - sheets - set(printed)):
         faults.append(f"there is no sheet {name}")
+    for name, answer in sorted(printed.items()):
+        named = re.match(r"\d\d-|input-\d-|", name)[0].removesuffix("-")
+        if named != answer:
+            faults.append(f"printing/{name} answers {answer}")
     for file in sorted((SHEETS / "outcomes").glob("*.out")):
         if not file.name.startswith(said(file.read_text()) + "-"):
             faults.append(f"{file.name} answers {said(file.read_text())}")
@@ -107,12 +138,20 @@ def tellings(name, says):
     return int(outcome), [printed, f"{outcome}, column {column}"][: 2 if line == 1 else 1]
 
 
-def test_notation(page):
-    """Each refusal stands in the section of its number. The heading has the words that hosts/rust prints."""
-    says = dict(re.findall(r"^## (\d\d): (.*)$", page, re.M))
+def test_headings(page, numbers):
+    """From the first of these outcomes on a page has headings for these alone, in the words that hosts/rust prints. They are given back."""
+    says = {number: words for number, words in re.findall(r"^## (\d\d): (.*)$", page, re.M) if number >= numbers[0]}
     printed = (ROOT / "hosts" / "rust" / "src" / "answer.rs").read_text()
-    if list(says) != ["20", "21", "22"] or not all(f'"{words}"' in printed for words in says.values()):
-        faults.append(f"the refusals of docs/NOTATION.md are {says}")
+    if list(says) != numbers or not all(f'"{words}"' in printed for words in says.values()):
+        faults.append(f"the headings of {numbers} are {says}")
+        return {}
+    return says
+
+
+def test_notation(page):
+    """Each refusal stands in the section of its number."""
+    says = test_headings(page, ["20", "21", "22"])
+    if not says:
         return 0
     texts = 0
     for section in re.split(r"^## ", page, flags=re.M):
@@ -130,17 +169,23 @@ def test_notation(page):
             texts += 1
         if outcomes != ({int(section[:2])} if section[:2] in says else outcomes & {0}):
             faults.append(f"the section {section.splitlines()[0]!r} shows {sorted(outcomes)}")
-    if page.count("```") != sum(4 if told else 2 for _, _, told in TYPED.findall(page)):
+    blocks = sum(4 if told else 2 for _, _, told in TYPED.findall(page)) + 2 * len(HELD.findall(page) + PRINTED.findall(page))
+    if page.count("```") != blocks:
         faults.append("docs/NOTATION.md shows a text in another form")
+    missing = {f"k/{file.stem}" for file in (SHEETS / "k").glob("*.in")} - test_printed(page)[0]
+    if missing:
+        faults.append(f"docs/NOTATION.md does not print {sorted(missing)}")
     return texts
 
 
-def test_typed():
-    """The texts that pages name are there: on the page of the notation without their folder."""
-    texts = {file.stem for file in (SHEETS / "notation").iterdir()}
-    for page, named in (("docs/NOTATION.md", r"`([a-z0-9]+(?:-[a-z0-9]+)+)`"), ("docs/DECISIONS.md", r"`notation/([a-z0-9-]+)`"), ("sheets/README.md", r"`notation/([a-z0-9-]+)`")):
-        for name in sorted(set(re.findall(named, (ROOT / page).read_text())) - texts):
-            faults.append(f"{page}: there is no text {name}")
+def test_named():
+    """The texts and the printed sheets that pages name are there: texts on the page of the notation without their folder."""
+    pages = [("docs/NOTATION.md", "notation", r"`([a-z0-9]+(?:-[a-z0-9]+)+)`")]
+    pages += [(page, folder, rf"`{folder}/([a-z0-9-]+)`") for page in ("docs/DECISIONS.md", "docs/NOTATION.md", "docs/OUTCOMES.md", "sheets/README.md") for folder in ("notation", "printing")]
+    for page, folder, named in pages:
+        files = {file.stem for file in (SHEETS / folder).iterdir()}
+        for name in sorted(set(re.findall(named, (ROOT / page).read_text())) - files):
+            faults.append(f"{page}: there is no {folder}/{name}")
 
 
 def main():
@@ -150,8 +195,9 @@ def main():
     if not test_shown(readme):
         faults.append("README.md shows no sheet")
     test_refused(readme)
+    test_printed(readme)
     texts = test_notation((ROOT / "docs" / "NOTATION.md").read_text())
-    test_typed()
+    test_named()
     print("\n".join(faults) or f"{sections} outcomes explained, {sheets} sheets of them; {texts} texts of the notation")
     sys.exit(1 if faults else 0)
 

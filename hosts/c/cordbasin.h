@@ -23,6 +23,9 @@ enum {
     CORDBASIN_FIRST_LABEL = 128     /* the word at which the labels' begin */
 };
 
+/* The most bytes that a text may have: with so many lent, every text that can be written has room. */
+enum { CORDBASIN_TEXT_BYTES = 65536 };
+
 /* The kinds of a cell, the first of its two words. */
 enum {
     CORDBASIN_ABSENT = 0,   /* payload 0 */
@@ -105,14 +108,24 @@ enum {
     CORDBASIN_UNFIT_ASSIGNMENT = 23
 };
 
+/* Outcomes of writing a program, beside 0 to 2. They are tried in their order, 24 before 25. */
+enum {
+    /* a name that is given is no part of the source, no name of the notation or longer than 65,536 bytes; two variables or two labels
+       have one name; or a number is used, and the one before it is not used earlier. place: the first number at fault, variables 0 to
+       63, then labels as 64 to 95 */
+    CORDBASIN_UNFIT_NAMES = 24,
+    /* the whole text is longer than the lent bytes or than 65,536; place: the length that it has */
+    CORDBASIN_TEXT_TOO_LONG = 25
+};
+
 /* Where each number stands in the answer. */
 enum {
     CORDBASIN_OUTCOME = 0,
     CORDBASIN_PLACE = 1,
     CORDBASIN_STEPS = 2,     /* statements or entries begun, refused ones too, and later tests of whiles */
     CORDBASIN_ACCEPTED = 3,  /* proposals accepted */
-    CORDBASIN_VARIABLES = 2, /* of a text: how many variables have names */
-    CORDBASIN_LABELS = 3     /* of a text: how many labels have names */
+    CORDBASIN_VARIABLES = 2, /* of a text: how many variables it has */
+    CORDBASIN_LABELS = 3     /* of a text: how many labels it has */
 };
 
 /* Runs a program on lent tables.
@@ -167,6 +180,23 @@ size_t cordbasin_assign(const int32_t *program, size_t program_words, int32_t *e
    program, origins or names of another length, with place 0. */
 size_t cordbasin_read(const uint8_t *text, size_t text_bytes, int32_t *program, size_t program_words, int32_t *origins,
                       size_t origins_words, int32_t *names, size_t names_words, int32_t answer[4]);
+
+/* Writes the text of a program in the papers' notation: a statement to a line, every priority, and brackets only where they are needed.
+
+   What is said of pointers, of overlap and of threads above holds here too, and the text overlaps nothing else that is handed over.
+
+   program   the words of a program, at most 4,096; only read
+   source    the bytes in which the names stand, any number of them; only read
+   names     192 words, as cordbasin_read gives them for a text, which is then the source; only read. Where a length is 0 no name is
+             given: variable 3 is then v3 in the text, and label 3 f3
+   text      holds the program's text, and behind it what it held before. There is no 0 at its end
+   answer    where outcome, place, and how many variables and labels are used are stored
+
+   Returns how many bytes the text has. Outcome 0 comes with the program's length as place; cordbasin_read reads the text to the same
+   words. On any other outcome the call returns 0 and writes to the answer alone, whose last two numbers are 0. They are tried in this
+   order: 1 is for names of another length, with place 0; 2 has the place of a run; then 24 and 25. */
+size_t cordbasin_write(const int32_t *program, size_t program_words, const uint8_t *source, size_t source_bytes,
+                       const int32_t *names, size_t names_words, uint8_t *text, size_t text_bytes, int32_t answer[4]);
 
 #ifdef __cplusplus
 }

@@ -1,5 +1,6 @@
 /* Reads three sheets from their texts, runs each from fresh tables and prints what comes back: document 01's sheet K1, on whose tables
-   two lists then set fields; one that is refused when it runs; and one that is no program. Also builds as C++. */
+   two lists then set fields, and whose text is then written again; one that is refused when it runs; and one that is no program. Also
+   builds as C++. */
 #include "cordbasin.h"
 
 #include <stdio.h>
@@ -153,6 +154,28 @@ static void set_fields(void)
     assign(lengths, 10, silent, 4);
 }
 
+/* Writes a program and prints its text, with the names that stand in a source. */
+static void write_text(const int32_t *words, size_t count, const char *source, const int32_t *table)
+{
+    static uint8_t written[CORDBASIN_TEXT_BYTES];
+    int32_t answer[4];
+    size_t bytes = cordbasin_write(words, count, (const uint8_t *)source, strlen(source), table, CORDBASIN_NAMES_WORDS, written,
+                                   sizeof written, answer);
+    printf("write: outcome %d at place %d, %d bytes, %d variables, %d labels\n", (int)answer[CORDBASIN_OUTCOME],
+           (int)answer[CORDBASIN_PLACE], (int)bytes, (int)answer[CORDBASIN_VARIABLES], (int)answer[CORDBASIN_LABELS]);
+    printf("%.*s\n\n", (int)bytes, (const char *)written);
+}
+
+/* K1's program as it comes to support, words without a text, and as it was read, with its own names. */
+static void write_texts(void)
+{
+    static const int32_t words[] = {3, 2, 0, 2, 0, 23, 64, 1, 23, 16, 3, 1, 3, 25, 6, 24, 0,
+                                    1, 0, 25, 3, 23, 4, 24, 0, 1, 1, 1, 0, 1, 1, 23, 32};
+    static const int32_t no_names[CORDBASIN_NAMES_WORDS] = {0};
+    write_text(words, 33, "", no_names);
+    write_text(program, program_words, text, names);
+}
+
 int main(void)
 {
     /* One for each statement: no change, no change, and 128 for location 64, field place 0 of record 0. */
@@ -162,6 +185,7 @@ int main(void)
                  "x.samples := 32",
                  proposals, 5);
     set_fields();
+    write_texts();
     /* The new record has no samples, so that the kept constraint no longer reads. */
     read_and_run("x := new {bytes: 64, samples: 16};\n"
                  "always required x.bytes = 4 * x.samples;\n"

@@ -1,5 +1,5 @@
 /* How much stack the calls take, on a stack that was painted before: a run of a sheet with blocks nested 8 deep and an expression nested
-   16 deep; a list over such a sheet; reading such a text; and reading one bracket and 30,000 around a number. */
+   16 deep; a list over such a sheet; reading such a text and writing its program; and reading one bracket and 30,000 around a number. */
 #define _POSIX_C_SOURCE 200809L
 #include <pthread.h>
 #include <stdint.h>
@@ -14,8 +14,11 @@ enum { CONSTRAINT = 6 + 3 * IFS, ALWAYS = 3 };
 
 static _Alignas(65536) unsigned char stack[STACK];
 static int32_t answer[4], program[CORDBASIN_PROGRAM_WORDS];
-static char text[65536];
+static char text[CORDBASIN_TEXT_BYTES];
 static size_t bytes;
+/* The program of the text that was read last. */
+static int32_t typed[CORDBASIN_PROGRAM_WORDS];
+static size_t words;
 
 /* The words of v0 := 1, and in IFS ifs: once required v0 = 2, weak true and true and .. and true. */
 static size_t written(void) {
@@ -49,16 +52,22 @@ static void *run(void *unused) {
 static void *assign(void *unused) {
     static int32_t environment[128] = {CORDBASIN_INTEGER, 2}, heap[1601], constraints[98] = {1, 0, CONSTRAINT};
     const int32_t entries[] = {0, 0, CORDBASIN_LITERAL_INTEGER, 2}, proposals[] = {0};
-    size_t words = written();
+    size_t count = written();
     program[CONSTRAINT] = ALWAYS;
-    cordbasin_assign(program, words, environment, 128, heap, 1601, constraints, 98, entries, 4, proposals, 1, 100, answer);
+    cordbasin_assign(program, count, environment, 128, heap, 1601, constraints, 98, entries, 4, proposals, 1, 100, answer);
     return unused;
 }
 
 static void *read_text(void *unused) {
     static int32_t origins[CORDBASIN_PROGRAM_WORDS], names[CORDBASIN_NAMES_WORDS];
-    cordbasin_read((const uint8_t *)text, bytes, program, CORDBASIN_PROGRAM_WORDS, origins, CORDBASIN_PROGRAM_WORDS, names,
-                   CORDBASIN_NAMES_WORDS, answer);
+    words = cordbasin_read((const uint8_t *)text, bytes, typed, CORDBASIN_PROGRAM_WORDS, origins, CORDBASIN_PROGRAM_WORDS, names,
+                           CORDBASIN_NAMES_WORDS, answer);
+    return unused;
+}
+
+static void *write_text(void *unused) {
+    static const int32_t names[CORDBASIN_NAMES_WORDS];
+    cordbasin_write(typed, words, NULL, 0, names, CORDBASIN_NAMES_WORDS, (uint8_t *)text, sizeof text, answer);
     return unused;
 }
 
@@ -124,5 +133,6 @@ int main(void) {
     size_t one = bracketed("reading one bracket", 1);
     size_t many = bracketed("reading 30,000 brackets", BRACKETS);
     size_t read = nested();
-    return deepest < RUNNING && list < RUNNING && read < READING && many == one ? 0 : 1;
+    size_t write = taken("writing blocks and an expression nested deep", write_text);
+    return deepest < RUNNING && list < RUNNING && read < READING && write < RUNNING && many == one ? 0 : 1;
 }

@@ -3,7 +3,8 @@
 //! Program words become trees and tables become maps; the answers are the
 //! outcome, place, steps, proposals accepted, unread words and final tables.
 //! Texts in the papers' notation (document 02, W1) become program words, and
-//! lists of entries (W3) assignments.
+//! lists of entries (W3) assignments; program words are written as such texts
+//! (W5).
 #![forbid(unsafe_code)]
 
 pub mod batch;
@@ -24,3 +25,4 @@ pub mod statements;
 pub mod tables;
 pub mod text;
 pub mod unlike;
+pub mod writer;

@@ -4,6 +4,7 @@ use reference::batch::{answer_all, answer_line, List, Sheet};
 use reference::entries::assign;
 use reference::lister::list;
 use reference::run::run;
+use reference::writer::write_into;
 
 /// A small generator of numbers for these tests alone.
 struct Numbers(u64);
@@ -130,6 +131,34 @@ fn random_entries() {
         assert!(answer.unread <= proposals.len());
     }
     assert!(outcomes[23] > 1000 && outcomes[20..23] == [0; 3]);
+}
+
+#[test]
+fn random_names() {
+    let mut numbers = Numbers(103);
+    let all: Vec<u8> = (0..=255).collect();
+    let mut outcomes = [0; 26];
+    for round in 0..20_000 {
+        let program = match round % 2 {
+            0 => vec![1, 1, 0, 1, 0, 24, 1, 0],
+            _ => numbers.words(12),
+        };
+        let source = numbers.bytes(40, if round % 3 == 0 { &all } else { b"abz" });
+        let mut names = numbers.words(200);
+        if numbers.below(20) > 0 {
+            names.truncate(numbers.below(6));
+            names.resize(192, 0);
+        }
+        let mut text = vec![0; numbers.below(30)];
+        let answer = write_into(&program, &source, &names, &mut text);
+        outcomes[answer.outcome as usize] += 1;
+        assert!(answer.bytes <= text.len());
+        assert!(answer.outcome == 0 || text.iter().all(|byte| *byte == 0));
+    }
+    assert!(
+        [0, 1, 2, 24, 25].iter().all(|n| outcomes[*n] > 50),
+        "{outcomes:?}"
+    );
 }
 
 #[test]

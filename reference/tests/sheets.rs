@@ -60,7 +60,7 @@ fn every_expected_output_has_its_input() {
 #[test]
 fn every_directory_of_lister_sheets_has_some() {
     let inputs = with_extension("in");
-    for directory in ["000", "k", "outcomes", "readings"] {
+    for directory in ["000", "k", "outcomes", "printing", "readings"] {
         let directory = sheets().join(directory);
         let some = inputs.iter().any(|file| file.starts_with(&directory));
         assert!(some, "no lister sheets in {}", directory.display());

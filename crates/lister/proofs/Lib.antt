@@ -8,3 +8,4 @@ pub mod LineGrammar
 pub mod InputGrammar
 pub mod SizeLaws
 pub mod Sheets
+pub mod StoredLaws

@@ -261,3 +261,7 @@ module _ (z : ℤ) (f : SFits w32 z) where
 
     pub put-number-positive : ltZ (toZ w32 (ofZ w32 z)) (pos 0) ≡ false → Puts s a (digits m) u c → Puts s a (numeral z) u c
     put-number-positive h p = puts-as (rw (e, back32 z f) (numeral-positive-is h)) p
+
+pub numeral-natural : (n : ℕ) → numeral (pos n) ≡ digits n
+unfolding numeral
+numeral-natural n = refl

@@ -61,7 +61,7 @@ pub digits-two : (n : ℕ) → n < 100 → length (digits n) ≤ 2
 unfolding digits
 digits-two n h = two-places 18 n h
 
-numeral-length : (w : ℤ) → length (numeral w) ≤ 21
+pub numeral-length : (w : ℤ) → length (numeral w) ≤ 21
 unfolding numeral
 numeral-length (pos n) = omega (arith, digits-twenty n)
 numeral-length (negsuc n) = omega (arith, digits-twenty (suc n))
@@ -79,7 +79,7 @@ given-length : (v : Value) → length (givenText v) ≤ 27
 unfolding givenText
 given-length v = both ((61 ∷ []) ++ valueText v) (10 ∷ []) {n = 26} {m = 1} (omega (arith, value-length v)) (omega arith)
 
-named-length : (name : List ℕ) (n : ℕ) {k l : ℕ} → length name ≤ k → length (digits n) ≤ l → length (namedLine name n) ≤ k + l + 1
+pub named-length : (name : List ℕ) (n : ℕ) {k l : ℕ} → length name ≤ k → length (digits n) ≤ l → length (namedLine name n) ≤ k + l + 1
 unfolding namedLine
 named-length name n h d = both (name ++ digits n) (10 ∷ []) (both name (digits n) h d) (omega arith)
 

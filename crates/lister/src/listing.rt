@@ -44,7 +44,7 @@ fn put_given(out: &mut [u8], at: usize, v: Value) -> usize
 }
 
 // A name with its `=`, and a number.
-fn put_named(out: &mut [u8], at: usize, name: &[u8], n: usize) -> usize
+pub fn put_named(out: &mut [u8], at: usize, name: &[u8], n: usize) -> usize
     ensures { λ r. ⌜ Puts (now (out .entry)) at (namedLine (now (name .entry)) n) (now (out .exit)) r ⌝ }
 {
     let number = put_all(out, at, name);

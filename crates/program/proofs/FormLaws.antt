@@ -73,6 +73,31 @@ pub verb-number : (n : ℕ) → numberOfVerb (verbOf n) < 9 → n ≡ numberOfVe
 unfolding verbOf
 verb-number n h = verb-at n h
 
+-- and each number stands for its form, and its verb
+pub form-is : (f : Form) → numberOfForm f < 27 → formOf (numberOfForm f) ≡ f
+unfolding formOf
+form-is aNil h = refl
+form-is aFalse h = refl
+form-is aTrue h = refl
+form-is anInteger h = refl
+form-is aPath h = refl
+form-is anOperation h = refl
+form-is anIdentity h = refl
+form-is noForm h = absurd (omega arith)
+
+pub verb-is : (v : Verb) → numberOfVerb v < 9 → verbOf (numberOfVerb v) ≡ v
+unfolding verbOf
+verb-is skip h = refl
+verb-is assign h = refl
+verb-is new h = refl
+verb-is always h = refl
+verb-is once h = refl
+verb-is alwaysSame h = refl
+verb-is onceSame h = refl
+verb-is branch h = refl
+verb-is loop h = refl
+verb-is noVerb h = absurd (omega arith)
+
 module _ {p : List ℤ} where
   -- the words of a piece whose first word stands for a form, and for a verb
   pub form-word : {f : Form} → formOf (numberAt p 0) ≡ f → numberOfForm f < 27 → p ≡ pos (numberOfForm f) ∷ drop 1 p

@@ -1,10 +1,10 @@
 -- A run from fresh tables is listed as it ended, and a text's numbers are the words that are run. Assumes nothing.
-use mathlib.Core.Path.{_≡_, refl, sym, ap, subst, _∙_}
-use mathlib.Core.List.{List, [], _∷_, _++_}
-use Prim.Native.Nat.{ℕ, _≤_}
+use mathlib.Core.Path.{_≡_, sym, ap, _∙_}
+use mathlib.Core.List.{List}
+use Prim.Native.Nat.{ℕ}
 use native.Mathlib.Omega.{arith}
 use lib.IntN.{ℤ, pos}
-use lib.ListN.{length, take, drop}
+use lib.ListN.{length, take}
 use Rattle.words.specs.Words.{numberAt}
 use Rattle.words.proofs.Laws.{number-in}
 use Rattle.tables.specs.Cells.{cells}
@@ -13,12 +13,9 @@ use Rattle.rules.specs.Start.{Ended, run}
 use Rattle.phases.specs.Told.{tables}
 use Rattle.run.specs.Told.{answerOf, Meets}
 use Rattle.lister.specs.declared.Input.the-variants.{Reads, Unfit}
-use Rattle.lister.specs.Bytes.{laid}
-use Rattle.lister.specs.Grammar.{ListLine}
 use Rattle.lister.specs.Reading.{InputRead, inputIn}
 use Rattle.lister.specs.Listing.{Listed, listing, unfitText}
-use Rattle.lister.proofs.BufferLaws.{laid-fits}
-use Rattle.lister.proofs.InputGrammar.{Takes, Says, input-says}
+use Rattle.lister.proofs.StoredLaws.{program-stored, proposals-stored}
 use Rattle.sheet.specs.Answering.{freshTables, endedText, answerTo}
 
 -- ---- the four words of an answer, as numbers
@@ -54,29 +51,12 @@ ended-listed {e = e} {before = before} {after = after} {n = n} m ha hb hc hd l =
 
 -- ---- the numbers of a text
 
-line-short : {name s : List ℕ} {ws : List ℤ} → ListLine name s ws → length ws ≤ 4096
-line-short (ListLine.line f h) = h
-
-pub front : {A : Type 0} (xs ys : List A) → take (length xs) (xs ++ ys) ≡ xs
-front [] ys = refl
-front {A = A} (x ∷ xs) ys = ap (λ (r : List A). x ∷ r) (front xs ys)
-
--- the words that are stored are the numbers of the line
-stored-is : (ws s : List ℤ) (n : ℕ) → length ws ≡ n → length ws ≤ 4096 → length s ≡ 4096 → take n (laid ws s) ≡ ws
-stored-is ws s n e h l = rw (laid-fits ws s (omega arith), ← e) (front ws (drop (length ws) s))
-
 -- an input that reads: its numbers are run
 pub answer-reads : (t : List ℕ) {p p′ q q′ u v : List ℤ} {n m k : ℕ} {b : ℤ} {before after : List ℕ} → length p ≡ 4096 → length q ≡ 4096
     → InputRead (inputIn t) p p′ q q′ (Reads n m b) → u ≡ take n p′ → v ≡ take m q′
     → Listed (endedText (run u v b freshTables)) before after k → Listed (answerTo t) before after k
 unfolding answerTo
-answer-reads t {p = p} {q = q} {n = n} {m = m} {b = b} lp lq r eu ev l =
-    let said : Takes t (inputIn t) n m b = subst (Says t (inputIn t)) (sym (r .told)) (input-says t) in
-    let first : length (inputIn t .program) ≤ 4096 = line-short (said .fit .before .before .line) in
-    let second : length (inputIn t .proposals) ≤ 4096 = line-short (said .fit .before .line) in
-    let pu = eu ∙ ap (take n) (r .program) ∙ stored-is (inputIn t .program) p n (said .program) first lp in
-    let pv = ev ∙ ap (take m) (r .proposals) ∙ stored-is (inputIn t .proposals) q m (said .proposals) second lq in
-    rw (← (r .told), ← pu, ← pv) l
+answer-reads t lp lq r eu ev l = rw (← (r .told), ← (eu ∙ program-stored t r lp), ← (ev ∙ proposals-stored t r lq)) l
 
 -- an unfit input: its line is told
 pub answer-unfit : (t : List ℕ) {p p′ q q′ : List ℤ} {line k : ℕ} {before after : List ℕ} → InputRead (inputIn t) p p′ q q′ (Unfit line)

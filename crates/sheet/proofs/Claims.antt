@@ -1,9 +1,9 @@
 -- The output is written whole where there is room for a listing. Assumes nothing.
-use mathlib.Core.Path.{_≡_}
 use mathlib.Core.List.{List}
 use Prim.Native.Nat.{ℕ, _≤_}
 use native.Mathlib.Omega.{arith}
 use lib.ListN.{length, drop}
+use lib.Seq.{take-append-seam}
 use Rattle.lister.specs.declared.Input.{Input}
 use Rattle.lister.specs.declared.Input.the-variants.{Reads, Unfit}
 use Rattle.lister.specs.Reading.{Given, inputIn}
@@ -12,7 +12,6 @@ use Rattle.lister.proofs.SizeLaws.{listing-length, unfit-length, listed-whole}
 use Rattle.rules.specs.Start.{Ended, run}
 use Rattle.sheet.specs.Answering.{freshTables, answerBy, answerTo}
 use Rattle.sheet.specs.Claims.{Whole}
-use Rattle.sheet.proofs.AnswerLaws.{front}
 
 answer-length : (g : Given) (a : Input) → length (answerBy g a) ≤ listingBytes
 answer-length g (Reads n m b) =
@@ -28,4 +27,4 @@ pub whole : Whole
 whole t before after n h l =
     let short : length (answerTo t) ≤ listingBytes = text-length t in
     let stands = listed-whole l (omega arith) in
-    rw (stands .1, stands .0) (front (answerTo t) (drop (length (answerTo t)) before))
+    rw (stands .1, stands .0) (take-append-seam (answerTo t) (drop (length (answerTo t)) before))

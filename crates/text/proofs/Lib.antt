@@ -59,3 +59,5 @@ pub mod StatedCode
 pub mod OneExpression
 pub mod OnePart
 pub mod OneStatement
+pub mod LevelLaws
+pub mod TableLaws

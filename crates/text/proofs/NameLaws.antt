@@ -4,7 +4,7 @@ use mathlib.Core.Bool.{true, false, _&&_}
 use mathlib.Core.List.{List, [], _∷_, _++_, append-assoc, append-nil}
 use Prim.Native.Nat.{ℕ, suc, _-_, _≤_, _<_}
 use native.Mathlib.Omega.{arith}
-use borrow.Author.Tests.{ltb-true, ltb-false, eq-eqb, eqb-true}
+use borrow.Author.Tests.{ltb-true, ltb-false, lt-ltb, le-ltb, eq-eqb, eqb-true}
 use lib.Dec.{eqb, ltb}
 use lib.ListN.{length, length-append}
 use Rattle.tables.proofs.SearchLaws.{cases}
@@ -50,6 +50,14 @@ module _ (text : List ℕ) where
   pub with-extends : (ns : List Named) (t : Token) → Extends ns (withName text ns t)
   unfolding withName
   with-extends ns t = cases (known text ns t) (λ y. rw y (extends-same ns)) (λ y. rw y (record { behind = record { place = t .place; length = t .end - t .place } ∷ []; split = refl }))
+
+  pub with-known : (ns : List Named) (t : Token) → numberIn text ns t < length ns → withName text ns t ≡ ns
+  unfolding withName known
+  with-known ns t h = rw (lt-ltb (numberIn text ns t) (length ns) h)
+
+  pub with-new : (ns : List Named) (t : Token) → length ns ≤ numberIn text ns t → withName text ns t ≡ ns ++ record { place = t .place; length = t .end - t .place } ∷ []
+  unfolding withName known
+  with-new ns t h = rw (le-ltb (numberIn text ns t) (length ns) h)
 
   pub names-extend : {ns ms : List Named} {ts : List Token} → NamesAre text ns ts ms → Extends ns ms
   names-extend (NamesAre.none {ns = ns}) = extends-same ns

@@ -46,28 +46,28 @@ reaches text a b n s = go (sym (ap length (s .same)) ∙ length-take-le n (drop 
     go e (no f) = omega arith
 
 module _ (text : List ℕ) where
-  alike-back : (a b : Named) → Alike text a b → Alike text b a
+  pub alike-back : (a b : Named) → Alike text a b → Alike text b a
   alike-back a b s = (sym (s .0), rw (← s .0) (record { there = reaches text (a .place) (b .place) (a .length) (s .1); same = sym (s .1 .same) }))
 
-  alike-on : (a b c : Named) → Alike text a b → Alike text b c → Alike text a c
+  pub alike-on : (a b c : Named) → Alike text a b → Alike text b c → Alike text a c
   alike-on a b c s u =
       let v : Shared text (b .place) (c .place) (a .length) = rw (s .0) (u .1) in
       (s .0 ∙ u .0, record { there = s .1 .there; same = s .1 .same ∙ v .same })
 
-  abbrev test : Named → Token → Bool
+  abbrev pub test : Named → Token → Bool
   test n t = eqb (n .length) (t .end - t .place) && sameIn text (n .place) (t .place) (n .length)
 
-  test-alike : (n : Named) (t : Token) → test n t ≡ true → Alike text n (nameOf t)
+  pub test-alike : (n : Named) (t : Token) → test n t ≡ true → Alike text n (nameOf t)
   test-alike n t e = (
     eqb-true (n .length) (t .end - t .place) (and-left (eqb (n .length) (t .end - t .place)) (sameIn text (n .place) (t .place) (n .length)) e),
     shares text (n .place) (t .place) (n .length) .0 (and-right (eqb (n .length) (t .end - t .place)) (sameIn text (n .place) (t .place) (n .length)) e),
   )
 
-  alike-test : (n : Named) (t : Token) → Alike text n (nameOf t) → test n t ≡ true
+  pub alike-test : (n : Named) (t : Token) → Alike text n (nameOf t) → test n t ≡ true
   alike-test n t s = rw (eq-eqb (n .length) (t .end - t .place) (s .0), shares text (n .place) (t .place) (n .length) .1 (s .1))
 
   -- a number below is that of a name that is spelt so, and else there is none
-  number-alike : (ns : List Named) (t : Token) → numberIn text ns t < length ns → Alike text (named ns (numberIn text ns t)) (nameOf t)
+  pub number-alike : (ns : List Named) (t : Token) → numberIn text ns t < length ns → Alike text (named ns (numberIn text ns t)) (nameOf t)
   unfolding numberIn
   number-alike [] t h = let z : ⊥ = omega arith in absurd z
   number-alike (n ∷ ns) t h =
@@ -75,7 +75,7 @@ module _ (text : List ℕ) where
       (λ y. rw y (test-alike n t y))
       (λ y. rw y (number-alike ns t (let z : suc (numberIn text ns t) < suc (length ns) = rw y at h in omega arith)))
 
-  number-unlike : (ns : List Named) (t : Token) (i : ℕ) → length ns ≤ numberIn text ns t → i < length ns → Alike text (named ns i) (nameOf t) → ⊥
+  pub number-unlike : (ns : List Named) (t : Token) (i : ℕ) → length ns ≤ numberIn text ns t → i < length ns → Alike text (named ns i) (nameOf t) → ⊥
   unfolding numberIn
   number-unlike [] t i h l s = omega arith
   number-unlike (n ∷ ns) t zero h l s =

@@ -1,4 +1,5 @@
 // Operands, brackets and operators.
+use super::levels::level_of;
 use super::paths::path;
 use super::reading::refused;
 use super::reading::take;
@@ -173,25 +174,6 @@ fn opened(text: &[u8], s: &mut [usize; 15])
         b += 1;
     }
     count(s, b);
-}
-
-// How tightly an operator binds, by its number in document 01.
-fn level_of(k: usize) -> usize
-    ensures { λ r. ⌜ r ≡ levelOf k ⌝ }
-{
-    if k == 3 {
-        return 5;
-    }
-    if k <= 2 {
-        return 4;
-    }
-    if k <= 9 {
-        return 3;
-    }
-    if k <= 10 {
-        return 2;
-    }
-    1
 }
 
 // The token is an operator that binds as tightly as low or more; inside brackets every one does.

@@ -3,6 +3,7 @@ mod naming; // naming.rt: the table of names, and the number of a name
 mod reading; // reading.rt: the token to be judged, taking it, names
 mod writing; // writing.rt: words and the places that they come from
 mod paths; // paths.rt: an L
+pub mod levels; // levels.rt: how tightly an operator binds
 mod expressions; // expressions.rt: operands, brackets and operators
 mod constraints; // constraints.rt: parts, and what follows always and once
 mod assignments; // assignments.rt: assignments, new and its fields

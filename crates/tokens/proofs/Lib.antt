@@ -7,3 +7,5 @@ pub mod TokenLaws
 pub mod TokenRules
 pub mod TextRules
 pub mod SameLaws
+pub mod ThereLaws
+pub mod ApartLaws

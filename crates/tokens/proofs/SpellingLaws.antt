@@ -63,11 +63,11 @@ in-none none rs s bar = by-code none rs s (λ n i k. absurd (bar n i)) (λ _ k. 
 
 -- ---- tests of every row
 
-abbrev every : (Row → Bool) → List Row → Bool
+abbrev pub every : (Row → Bool) → List Row → Bool
 every t [] = true
 every t (r ∷ rs) = t r && every t rs
 
-in-every : (t : Row → Bool) (r : Row) (rs : List Row) → every t rs ≡ true → In r rs → t r ≡ true
+pub in-every : (t : Row → Bool) (r : Row) (rs : List Row) → every t rs ≡ true → In r rs → t r ≡ true
 in-every t r (q ∷ rs) e In.here = and-first (t r) (every t rs) e
 in-every t r (q ∷ rs) e (In.later i) = in-every t r rs (and-second (t q) (every t rs) e) i
 

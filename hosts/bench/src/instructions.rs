@@ -2,6 +2,7 @@
 
 use crate::cases::{self, Case};
 use crate::measured::{self, Answer, Side};
+use crate::printed::{self, Printed};
 use crate::times;
 use crate::typed::{self, Lent, Typed};
 use cordbasin::Tables;
@@ -23,6 +24,9 @@ pub fn print() -> Result<(), String> {
     for text in typed::all() {
         row(text.name, text.title, "byte", text.text.len() as f64)?;
     }
+    for program in printed::all() {
+        row(program.name, program.title, "byte", program.bytes as f64)?;
+    }
     println!("\nLoops end after {MOST_STEPS} steps.");
     Ok(())
 }
@@ -35,12 +39,17 @@ fn row(name: &str, title: &str, unit: &str, units: f64) -> Result<(), String> {
     Ok(())
 }
 
-/// Runs a case or reads a text once or twice, for valgrind.
+/// Runs a case, reads a text or writes a program once or twice, for valgrind.
 pub fn some(name: &str, side: &str, runs: usize) -> Result<(), String> {
     let side = Side::BOTH.into_iter().find(|own| own.name() == side);
     let side = side.ok_or("there is no such program")?;
     if let Some(text) = typed::all().iter().find(|text| text.name == name) {
         some_read(text, side, runs);
+        return Ok(());
+    }
+    let programs = printed::all();
+    if let Some(program) = programs.iter().find(|program| program.name == name) {
+        some_written(program, side, runs);
         return Ok(());
     }
     let mut cases = cases::all().into_iter();
@@ -57,6 +66,13 @@ fn some_read(text: &Typed, side: Side, runs: usize) {
     let mut lent = vec![Lent::fresh(); 2];
     for lent in lent.iter_mut().take(runs) {
         std::hint::black_box(typed::read(side, text, lent));
+    }
+}
+
+fn some_written(program: &Printed, side: Side, runs: usize) {
+    let mut pages = vec![printed::page(); 2];
+    for page in pages.iter_mut().take(runs) {
+        std::hint::black_box(printed::write(side, program, page));
     }
 }
 

@@ -5,6 +5,7 @@ mod clock;
 mod instructions;
 mod lists;
 mod measured;
+mod printed;
 mod times;
 mod typed;
 mod written;

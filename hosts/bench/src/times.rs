@@ -2,16 +2,18 @@
 
 use crate::cases::{self, Case};
 use crate::measured::{self, Side};
-use crate::typed;
+use crate::{printed, typed};
 
 /// Times each case on both programs in turn, as often as said, and prints the
 /// medians.
 pub fn print(repetitions: usize) -> Result<(), String> {
-    let (cases, texts) = (cases::all(), typed::all());
+    let (cases, texts, programs) = (cases::all(), typed::all(), printed::all());
     cases.iter().try_for_each(measured::agree)?;
     texts.iter().try_for_each(typed::agree)?;
+    programs.iter().try_for_each(printed::agree)?;
     let seen = timed(&cases, repetitions, measured::time);
     let read = timed(&texts, repetitions, typed::time);
+    let written = timed(&programs, repetitions, printed::time);
     println!("| Case | Unit | Here, ns | reference/, ns | Ratio |");
     println!("|---|---|---:|---:|---:|");
     for (case, seen) in cases.iter().zip(seen) {
@@ -20,6 +22,9 @@ pub fn print(repetitions: usize) -> Result<(), String> {
     }
     for (text, seen) in texts.iter().zip(read) {
         row(text.title, "byte", text.text.len() as f64, seen);
+    }
+    for (program, seen) in programs.iter().zip(written) {
+        row(program.title, "byte", program.bytes as f64, seen);
     }
     println!("\nMedians of {repetitions} repetitions.");
     Ok(())

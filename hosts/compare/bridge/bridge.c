@@ -1,4 +1,4 @@
-/* Answers from the proved archives, for a machine that cannot link them. A question on standard input begins with a number, 0 to 4.
+/* Answers from the proved archives, for a machine that cannot link them. A question on standard input begins with a number, 0 to 5.
    0, of the reader: three counts, of the program's words, places and tables; the places; the program; the tables. The
    answer is the program's number, then one for each place and each table.
    1, of pieces: five counts, of the words of the program, the environment, the heap and the constraints, and of pieces;
@@ -8,7 +8,9 @@
    3, of a run: five counts, of the words of program, environment, heap, constraints and proposals; the budget; these words.
    The answer is the four words of the run's answer, how many words of the proposals are unread, and the three tables.
    4, of a list: six counts, of the words of program, environment, heap, constraints, entries and proposals; the rest and the
-   answer are as for a run. */
+   answer are as for a run.
+   5, of a program to be written: four counts, of its words, of the source's bytes, of the words of names and of the bytes lent
+   for the text; all these. The answer is the four words of the writing's answer, how many bytes the text has, and the lent bytes. */
 typedef __INT32_TYPE__ word;
 typedef __SIZE_TYPE__ number;
 
@@ -29,10 +31,12 @@ number cordbasin_run(const word *program, number p, word *environment, number e,
                      const word *proposals, number r, word budget, word *answer);
 number cordbasin_assign(const word *program, number p, word *environment, number e, word *heap, number h, word *constraints, number c,
                         const word *entries, number n, const word *proposals, number r, word budget, word *answer);
+number cordbasin_write(const word *program, number p, const unsigned char *source, number s, const word *names, number n,
+                       unsigned char *text, number t, word *answer);
 
 static number what, counts[LIST_ROWS], places[PLACES], answers[1 + PLACES + TABLES], pieces[PIECES][2];
 static word program[WORDS], tables[TABLES][TABLE_WORDS], environment[WORDS], heap[WORDS], constraints[WORDS], fours[PIECES][4], lent[LENT][WORDS], rows[LIST_ROWS][WORDS], budget;
-static unsigned char text[BYTES];
+static unsigned char text[BYTES], page[BYTES];
 
 static long call(long what, long first, const void *second, number third)
 {
@@ -158,6 +162,21 @@ static void answer_call(int count)
         pass(1, rows[i], counts[i] * sizeof **rows, 0);
 }
 
+static void answer_program(void)
+{
+    pass(0, counts, 4 * sizeof *counts, 0);
+    if (counts[0] > WORDS || counts[1] > BYTES || counts[2] > WORDS || counts[3] > BYTES)
+        leave(2);
+    pass(0, program, counts[0] * sizeof *program, 0);
+    pass(0, text, counts[1], 0);
+    pass(0, lent[0], counts[2] * sizeof **lent, 0);
+    pass(0, page, counts[3], 0);
+    answers[0] = cordbasin_write(program, counts[0], text, counts[1], lent[0], counts[2], page, counts[3], fours[0]);
+    pass(1, fours[0], sizeof fours[0], 0);
+    pass(1, answers, sizeof *answers, 0);
+    pass(1, page, counts[3], 0);
+}
+
 __attribute__((noreturn, used)) static void serve(void)
 {
     for (;;) {
@@ -168,6 +187,7 @@ __attribute__((noreturn, used)) static void serve(void)
         case 2: answer_text(); break;
         case 3: answer_call(RUN_ROWS); break;
         case 4: answer_call(LIST_ROWS); break;
+        case 5: answer_program(); break;
         default: leave(2);
         }
     }

@@ -73,6 +73,22 @@ impl Proved {
         self.call(4, program, tables, &[entries, proposals], budget)
     }
 
+    /// What `cordbasin_write` answers and returns; the text's bytes are lent.
+    pub fn write(
+        &mut self,
+        program: &[i32],
+        source: &[u8],
+        names: &[i32],
+        text: &mut [u8],
+    ) -> io::Result<Option<Told>> {
+        let counts = [5, program.len(), source.len(), names.len(), text.len()];
+        let rows = [&words([program]), source, &words([names]), &*text];
+        self.send(&[numbers(counts), rows.concat()].concat())?;
+        let (four, number) = (self.four()?, self.number()?);
+        self.answers.read_exact(text)?;
+        Ok(Some((four, number)))
+    }
+
     fn call(
         &mut self,
         question: usize,

@@ -17,3 +17,4 @@ pub mod proved;
 pub mod sheets;
 pub mod tables;
 pub mod texts;
+pub mod writings;

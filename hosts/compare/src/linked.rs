@@ -116,6 +116,17 @@ impl Proved {
     ) -> io::Result<Option<Told>> {
         Ok(None)
     }
+
+    /// As `read`.
+    pub fn write(
+        &mut self,
+        _program: &[i32],
+        _source: &[u8],
+        _names: &[i32],
+        _text: &mut [u8],
+    ) -> io::Result<Option<Told>> {
+        Ok(None)
+    }
 }
 
 // In each call below the pointer and the count are those of one slice, which

@@ -55,7 +55,8 @@ pub fn compare_text(text: &[u8]) -> Result<String, String> {
     Ok(independent.lines().next().unwrap_or_default().to_string())
 }
 
-fn shown(bytes: &[u8]) -> String {
+/// The first bytes of a text, as a difference shows them.
+pub fn shown(bytes: &[u8]) -> String {
     bytes.escape_ascii().take(2000).map(char::from).collect()
 }
 

@@ -1,12 +1,13 @@
 //! The command line of the comparison.
 
 use compare::comparison::{self, Stop};
-use compare::{entries, expressions, lister, notation, sheets};
+use compare::{entries, expressions, lister, notation, sheets, writings};
 use std::fmt::Display;
 use std::process::ExitCode;
 use std::time::Instant;
 
-const USAGE: &str = "usage: compare reader|expressions|sheets|entries|lister|notation SEED COUNT";
+const USAGE: &str =
+    "usage: compare reader|expressions|sheets|entries|lister|notation|writings SEED COUNT";
 
 fn main() -> ExitCode {
     let arguments: Vec<String> = std::env::args_os()
@@ -22,6 +23,7 @@ fn main() -> ExitCode {
             ("entries", Ok(seed), Ok(count)) => report(|| entries::compare(seed, count)),
             ("lister", Ok(seed), Ok(count)) => report(|| lister::compare(seed, count)),
             ("notation", Ok(seed), Ok(count)) => report(|| notation::compare(seed, count)),
+            ("writings", Ok(seed), Ok(count)) => report(|| writings::compare(seed, count)),
             _ => usage(),
         },
         _ => usage(),

@@ -2,6 +2,7 @@
 //! the same text. Where the call is not x86-64 code, that code reads it too.
 
 use crate::comparison::Stop;
+use crate::lister::shown;
 use crate::proved::Proved;
 use reference::generator::texts;
 use reference::text::{self, NAME_WORDS, PROGRAM_WORDS};
@@ -88,13 +89,14 @@ pub fn answer(text: &[u8]) -> String {
     lines.join("\n") + "\n"
 }
 
-fn list(words: &[i32]) -> String {
+/// Words as the sheets list them.
+pub fn list(words: &[i32]) -> String {
     let words: Vec<String> = words.iter().map(i32::to_string).collect();
     words.join(" ")
 }
 
 /// `v` and `l` with their numbers, and the place and length of the name.
-fn named((number, name): (usize, &[i32])) -> String {
+pub fn named((number, name): (usize, &[i32])) -> String {
     match number.checked_sub(VARIABLES) {
         None => format!("v{number}={}", list(name)),
         Some(label) => format!("l{label}={}", list(name)),
@@ -111,10 +113,7 @@ fn same(text: &[u8], proved: Left, independent: Left) -> Result<(i32, usize), St
     }
     Err(format!(
         "{}\nproved: {proved:?}\nindependent: {independent:?}",
-        text.escape_ascii()
-            .take(2000)
-            .map(char::from)
-            .collect::<String>()
+        shown(text)
     ))
 }
 

@@ -51,8 +51,8 @@ pub struct ListAnswer<'p> {
 }
 
 /// How a run ended, under document 01's numbers; how a text was read, which is
-/// 0, 1 or 20 to 22; or how a list ended, which is a run's or 23. Prints as
-/// what it says.
+/// 0, 1 or 20 to 22; how a list ended, which is a run's or 23; or how a program
+/// was written, which is 0 to 2, 24 or 25. Prints as what it says.
 ///
 /// 1 to 4 are tried in their order; they cost no steps, accept no proposal and
 /// change no table. From 5 on the tables hold what the last accepted statement
@@ -122,11 +122,19 @@ pub enum Outcome {
     /// An entry of a list is no target and literal: a word is out of its range,
     /// or the words run out. Found at its turn, before 5.
     UnfitAssignment = 23,
+    /// A name for a program's text is no name of the notation, no part of the
+    /// source or an earlier number's too; or a number is used, and the one
+    /// before it is not used earlier. The place is the first such number,
+    /// labels from 64 on.
+    UnfitNames = 24,
+    /// A program's text is longer than the bytes lent for it or than 65,536.
+    /// The place is the length that it has.
+    TextTooLong = 25,
 }
 
 impl Outcome {
     /// Every outcome, each at its number.
-    pub const ALL: [Outcome; 24] = [
+    pub const ALL: [Outcome; 26] = [
         Outcome::Finished,
         Outcome::WrongSize,
         Outcome::UnfitProgram,
@@ -151,14 +159,16 @@ impl Outcome {
         Outcome::TooManyNames,
         Outcome::OverLimit,
         Outcome::UnfitAssignment,
+        Outcome::UnfitNames,
+        Outcome::TextTooLong,
     ];
 
-    /// Its number, 0 to 23.
+    /// Its number, 0 to 25.
     pub fn number(self) -> i32 {
         self as i32
     }
 
-    /// The outcome of a number from 0 to 23.
+    /// The outcome of a number from 0 to 25.
     pub fn of_number(number: i32) -> Option<Outcome> {
         let place = usize::try_from(number).ok()?;
         Outcome::ALL.get(place).copied()
@@ -195,6 +205,8 @@ impl Outcome {
             Outcome::TooManyNames => "too many names",
             Outcome::OverLimit => "over 64 KiB or a limit",
             Outcome::UnfitAssignment => "an entry is no target and literal",
+            Outcome::UnfitNames => "unfit names",
+            Outcome::TextTooLong => "the text is too long",
         }
     }
 }

@@ -9,6 +9,9 @@ pub const LARGEST_BUDGET: i32 = 1_000_000;
 /// The most words that a program may have.
 pub const LONGEST_PROGRAM: usize = 4096;
 
+/// The most bytes that a text may have.
+pub const LONGEST_TEXT: usize = 65_536;
+
 /// Words of a table of names: place and length of 64 variables and 32 labels.
 pub const NAMES_WORDS: usize = 192;
 
@@ -54,6 +57,18 @@ extern "C" {
         origins_words: usize,
         names: *mut i32,
         names_words: usize,
+        answer: *mut [i32; 4],
+    ) -> usize;
+
+    fn cordbasin_write(
+        program: *const i32,
+        program_words: usize,
+        source: *const u8,
+        source_bytes: usize,
+        names: *const i32,
+        names_words: usize,
+        text: *mut u8,
+        text_bytes: usize,
         answer: *mut [i32; 4],
     ) -> usize;
 }
@@ -247,6 +262,67 @@ fn told([outcome, place, variables, labels]: [i32; 4], words: usize) -> Option<R
         outcome: Outcome::of_number(outcome)?,
         place: usize::try_from(place).ok()?,
         words: Some(words).filter(|words| *words <= LONGEST_PROGRAM)?,
+        variables: usize::try_from(variables).ok()?,
+        labels: usize::try_from(labels).ok()?,
+    })
+}
+
+/// What writing a program gives beside the text.
+#[derive(Clone, Copy, Debug, PartialEq, Eq)]
+pub struct Writing {
+    /// How the program was written.
+    pub outcome: Outcome,
+    /// The program's length, or where it was refused: see [`Outcome`].
+    /// [`Unwritten::of`](crate::Unwritten::of) tells what it is.
+    pub place: usize,
+    /// How many bytes the text has.
+    pub bytes: usize,
+    /// How many variables are used.
+    pub variables: usize,
+    /// How many labels are used.
+    pub labels: usize,
+}
+
+/// Writes the text of a program into bytes that the host keeps; those behind
+/// the text stay as they were, and no refusal writes to any.
+///
+/// The names are parts of the source, by a table as [`read_words`] gives it: a
+/// number whose name has length 0 is called `v3` or `f3`. A table of another
+/// length than 192 words is refused with [`Outcome::WrongSize`].
+///
+/// [`write`](crate::write()) and [`Program::write`](crate::Program::write) give
+/// the text itself, and a refusal that is typed.
+pub fn write_words(program: &[i32], source: &[u8], names: &[i32], text: &mut [u8]) -> Writing {
+    let mut answer = [-1; 4];
+    // SAFETY: as in `run_words`.
+    let bytes = unsafe {
+        cordbasin_write(
+            program.as_ptr(),
+            program.len(),
+            source.as_ptr(),
+            source.len(),
+            names.as_ptr(),
+            names.len(),
+            text.as_mut_ptr(),
+            text.len(),
+            &mut answer,
+        )
+    };
+    match written(answer, bytes, text.len()) {
+        Some(writing) => writing,
+        None => panic!("libcordbasin.a gave {answer:?} and {bytes} bytes"),
+    }
+}
+
+fn written(
+    [outcome, place, variables, labels]: [i32; 4],
+    bytes: usize,
+    lent: usize,
+) -> Option<Writing> {
+    Some(Writing {
+        outcome: Outcome::of_number(outcome)?,
+        place: usize::try_from(place).ok()?,
+        bytes: Some(bytes).filter(|bytes| *bytes <= lent)?,
         variables: usize::try_from(variables).ok()?,
         labels: usize::try_from(labels).ok()?,
     })

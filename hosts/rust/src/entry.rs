@@ -1,7 +1,9 @@
 //! Entries of a list: targets, and the literals that they are given.
 
-const VARIABLES: usize = 64;
-const LABELS: usize = 32;
+/// How many variables there are.
+pub(crate) const VARIABLES: usize = 64;
+/// How many labels there are.
+pub(crate) const LABELS: usize = 32;
 
 /// The most labels that a path may have.
 pub(crate) const LONGEST_PATH: usize = 7;

@@ -6,11 +6,13 @@
 //! [`Program::read`] reads a sheet as it is typed. [`run`] takes a program's
 //! words, [`Tables`], proposals and a budget, and gives an [`Answer`].
 //! [`assign`] sets fields by a list of [`Entries`], each [`Entry`] a target and
-//! a literal, and gives a [`ListAnswer`]. The work is done by `libcordbasin.a`, each function
-//! of which is proved to meet its contract; this crate is not proved. It links
-//! that archive, which `tools/native cordbasin` writes, and has no
-//! dependencies. A call allocates nothing and keeps nothing, so that two
-//! threads may run on tables of their own.
+//! a literal, and gives a [`ListAnswer`]. A [`Program`] prints as its text,
+//! and [`write()`] gives that of words alone. The work is done by
+//! `libcordbasin.a`, each function of which is proved to meet its contract;
+//! this crate is not proved. It links that archive, which
+//! `tools/native cordbasin` writes, and has no dependencies. A call allocates
+//! nothing and keeps nothing, so that two threads may run on tables of their
+//! own.
 //!
 //! # Example
 //!
@@ -98,6 +100,29 @@
 //! assert_eq!(answer.unread, [0]);
 //! # Ok::<(), cordbasin::Refusal>(())
 //! ```
+//!
+//! A program is written back in one form, whoever typed it. Words alone have no
+//! names: they get `v0` and `f0`, or those that are given. The text stands in
+//! bytes that the host lends:
+//!
+//! ```
+//! use cordbasin::{write, write_named, Program, LONGEST_TEXT};
+//!
+//! let program = Program::read("x:=new{size:(2)}; always((x.size*2)>3)")?;
+//! assert_eq!(program.to_string(), "x := new {size: 2};\nalways required x.size * 2 > 3");
+//!
+//! let words = [2, 2, 0, 1, 0, 23, 2, 3, 1, 3, 25, 9, 25, 3, 24, 0, 1, 0, 23, 2, 23, 3];
+//! assert_eq!(program.words(), words);
+//! let mut room = [0; LONGEST_TEXT];
+//! let text = write(&words, &mut room).expect("a text");
+//! assert_eq!(text, "v0 := new {f0: 2};\nalways required v0.f0 * 2 > 3");
+//! let text = write_named(&words, &["box"], &["width"], &mut room).expect("a text");
+//! assert_eq!(text, "box := new {width: 2};\nalways required box.width * 2 > 3");
+//!
+//! let refusal = write_named(&words, &["box"], &["new"], &mut room).unwrap_err();
+//! assert_eq!(refusal.to_string(), "24 at label 0: unfit names");
+//! # Ok::<(), cordbasin::Refusal>(())
+//! ```
 
 #![no_std]
 #![warn(missing_docs)]
@@ -107,10 +132,12 @@ mod call;
 mod entry;
 mod program;
 mod tables;
+mod text;
 
 pub use answer::{Answer, ListAnswer, Outcome};
-pub use call::{assign, assign_words, read_words, run, run_words, Reading};
-pub use call::{LARGEST_BUDGET, LONGEST_PROGRAM, NAMES_WORDS};
+pub use call::{assign, assign_words, read_words, run, run_words, write_words, Reading, Writing};
+pub use call::{LARGEST_BUDGET, LONGEST_PROGRAM, LONGEST_TEXT, NAMES_WORDS};
 pub use entry::{Entries, Entry, Literal, LONGEST_ENTRY};
 pub use program::{Program, Refusal, Spot};
 pub use tables::{Tables, Value, CONSTRAINTS_WORDS, ENVIRONMENT_WORDS, HEAP_WORDS};
+pub use text::{write, write_named, Numbered, Unwritten};

@@ -2,13 +2,17 @@
 //! in the text.
 
 use crate::answer::{Answer, Outcome};
-use crate::call::{read_words, LONGEST_PROGRAM, NAMES_WORDS};
+use crate::call::{read_words, LONGEST_PROGRAM, LONGEST_TEXT, NAMES_WORDS};
 use crate::entry::{Entry, Literal, LONGEST_PATH};
+use crate::text::{written, Unwritten};
 use core::fmt;
 
 const FIRST_LABEL: usize = 128;
 
 /// A program that was read from a text in the papers' notation.
+///
+/// Prints as [`Program::write`] writes it; where that would be too long, as it
+/// was typed, which reads to the same words.
 #[derive(Clone, Debug)]
 pub struct Program<'t> {
     text: &'t str,
@@ -82,6 +86,14 @@ impl<'t> Program<'t> {
     /// The words that [`run`](crate::run) takes.
     pub fn words(&self) -> &[i32] {
         self.words.get(..self.count).unwrap_or_default()
+    }
+
+    /// Writes the program with its own names into a room that the host lends: a
+    /// statement to a line, one space around operators, every priority, and
+    /// brackets only where they are needed. The text can be longer than the one
+    /// that was typed, and [`Unwritten::TooLong`] is all that refuses it.
+    pub fn write<'r>(&self, room: &'r mut [u8]) -> Result<&'r str, Unwritten> {
+        written(self.words(), self.text.as_bytes(), &self.names, room)
     }
 
     /// The names of the variables, each at its number.
@@ -178,6 +190,13 @@ impl<'t> Spot<'t> {
                 + 1,
             shown: shown.strip_suffix('\r').unwrap_or(shown),
         }
+    }
+}
+
+impl fmt::Display for Program<'_> {
+    fn fmt(&self, out: &mut fmt::Formatter<'_>) -> fmt::Result {
+        let mut room = [0; LONGEST_TEXT];
+        out.pad(self.write(&mut room).unwrap_or(self.text))
     }
 }
 

@@ -152,7 +152,7 @@ fn outcomes_have_their_numbers() {
         assert!(!outcome.says().is_empty());
     }
     assert_eq!(Outcome::of_number(-1), None);
-    assert_eq!(Outcome::of_number(24), None);
+    assert_eq!(Outcome::of_number(26), None);
 }
 
 /// Two threads that start together, each on tables of its own: x counts to

@@ -1,5 +1,5 @@
-//! Sheets, lists and texts for comparing two programs: a seed and a number
-//! give one.
+//! Sheets, lists, texts and writings for comparing two programs: a seed and a
+//! number give one.
 
 mod again;
 mod blocks;
@@ -16,6 +16,7 @@ mod start;
 mod states;
 pub mod texts;
 mod wishes;
+pub mod writings;
 
 use crate::batch::Sheet;
 use crate::counts::Counts;

@@ -10,7 +10,9 @@ mod tokens;
 mod trees;
 mod words;
 
+pub use names::{LABELS, VARIABLES};
 use reader::{Reader, Refusal};
+pub use tokens::{is_name, KEYWORDS};
 
 pub const LARGEST_TEXT: usize = 65_536;
 pub const PROGRAM_WORDS: usize = 4096;

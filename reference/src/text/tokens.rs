@@ -2,7 +2,8 @@
 
 use super::LARGEST_TEXT;
 
-const KEYWORDS: [&str; 17] = [
+/// Barred as names.
+pub const KEYWORDS: [&str; 17] = [
     "new", "skip", "always", "once", "weak", "medium", "required", "if", "then", "else", "while",
     "do", "true", "false", "nil", "and", "or",
 ];
@@ -110,6 +111,12 @@ fn name(bytes: &[u8]) -> (Kind<'_>, usize) {
         Some(keyword) => (Kind::Mark(keyword), length),
         None => (Kind::Name(name), length),
     }
+}
+
+/// Whether all the bytes together are a name.
+pub fn is_name(bytes: &[u8]) -> bool {
+    let is_whole = |(kind, length)| matches!(kind, Kind::Name(_)) && length == bytes.len();
+    bytes.first().is_some_and(u8::is_ascii_lowercase) && is_whole(name(bytes))
 }
 
 /// A number behind a sign of so many bytes, none or one.

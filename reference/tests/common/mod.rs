@@ -4,6 +4,8 @@
 pub mod cores;
 pub mod judge;
 pub mod texts;
+pub mod write_cases;
+pub mod writer;
 
 use reference::batch::{Finish, List, Sheet};
 use reference::tables::{CONSTRAINT_WORDS, ENVIRONMENT_WORDS, HEAP_WORDS};

@@ -1,13 +1,13 @@
 //! Texts for comparing two readers: a seed and a number give a text.
 
-mod edges;
-mod grow;
+pub(super) mod edges;
+pub(super) mod grow;
 mod page;
-mod print;
-mod sizes;
-mod spelling;
+pub(super) mod print;
+pub(super) mod sizes;
+pub(super) mod spelling;
 mod spoil;
-mod tree;
+pub(super) mod tree;
 
 use super::numbers::Numbers;
 use grow::Grower;
@@ -70,7 +70,7 @@ fn written(page: &Page, printed: &Printed, fits: bool) -> Sample {
     }
 }
 
-fn program(numbers: &mut Numbers) -> Block {
+pub(super) fn program(numbers: &mut Numbers) -> Block {
     let count = match numbers.below(10) {
         0 => 20,
         1..=3 => 6,

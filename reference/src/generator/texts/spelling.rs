@@ -54,6 +54,14 @@ impl Spelling {
         }
     }
 
+    /// One spelling for all, where only the words are of interest.
+    pub fn none() -> Spelling {
+        Spelling {
+            variables: Vec::new(),
+            labels: Vec::new(),
+        }
+    }
+
     pub fn variable(&self, number: usize) -> &[u8] {
         self.variables.get(number).map_or(b"v", Vec::as_slice)
     }

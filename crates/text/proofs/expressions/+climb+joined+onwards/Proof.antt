@@ -30,7 +30,7 @@ use Rattle.text.proofs.expressions.onwards.Kinds as onwards-kinds
 use Rattle.text.proofs.expressions.+climb+joined+onwards.Lts-onwards as onwards-lts
 use Rattle.text.proofs.expressions.above.Reads as above-reads
 use Rattle.text.proofs.expressions.joins.Reads as joins-reads
-use Rattle.text.proofs.expressions.level_of.Reads as level-of-reads
+use Rattle.text.proofs.levels.level_of.Reads as level-of-reads
 use Rattle.text.proofs.expressions.opened.Reads as opened-reads
 use Rattle.text.proofs.expressions.operand.Reads as operand-reads
 use Rattle.text.proofs.reading.refused.Reads as refused-reads

@@ -7,7 +7,7 @@ use Rattle.text.proofs.expressions.joins.Statement.{statement}
 use Rattle.text.proofs.expressions.joins.Tie as tie
 use Rattle.text.proofs.expressions.joins.Reads as reads
 use Rattle.text.proofs.expressions.joins.Lts as lts
-use Rattle.text.proofs.expressions.level_of.Reads as level-of-reads
+use Rattle.text.proofs.levels.level_of.Reads as level-of-reads
 
 -- src/expressions.rt:174:9
 returns : tie.Need-returns

@@ -1,0 +1,9 @@
+pub mod Signs
+pub mod Printing
+pub mod Naming
+pub mod Faults
+pub mod Page
+pub mod Whole
+pub mod Rules
+pub mod Spaced
+pub mod Claims
