@@ -81,7 +81,8 @@ enum {
     CORDBASIN_NO_ROOM = 14,
     /* a kept value constraint no longer reads; place: the word that 7 or 8 would have in the first such constraint, in kept order */
     CORDBASIN_LOST_CONSTRAINT = 15,
-    /* the proposal is cut short, its n is out of range, or its locations do not rise or are outside 0 to 575 */
+    /* the proposal is cut short, its n is out of range, or its locations do not rise or are outside 0 to 575; of an asking also: words
+       are left over behind it */
     CORDBASIN_UNFIT_PROPOSAL = 16,
     /* an entry of the proposal names a cell or a payload that it may not */
     CORDBASIN_UNFIT_ENTRY = 17,
@@ -125,7 +126,8 @@ enum {
     CORDBASIN_STEPS = 2,     /* statements or entries begun, refused ones too, and later tests of whiles */
     CORDBASIN_ACCEPTED = 3,  /* proposals accepted */
     CORDBASIN_VARIABLES = 2, /* of a text: how many variables it has */
-    CORDBASIN_LABELS = 3     /* of a text: how many labels it has */
+    CORDBASIN_LABELS = 3,    /* of a text: how many labels it has */
+    CORDBASIN_SOLVER = 2     /* of an asking: whose proposal was accepted, 1 the first's, 2 the second's, 0 neither's */
 };
 
 /* Runs a program on lent tables.
@@ -163,6 +165,24 @@ size_t cordbasin_assign(const int32_t *program, size_t program_words, int32_t *e
                         int32_t *heap, size_t heap_words, int32_t *constraints, size_t constraints_words,
                         const int32_t *entries, size_t entries_words, const int32_t *proposals, size_t proposals_words,
                         int32_t budget, int32_t answer[4]);
+
+/* Asks two solvers about one statement, on lent tables. The statement is done by itself: blocks around it and their tests do not count.
+
+   What is said of pointers, of overlap and of threads above holds here too. Program and tables are as for a run. No steps are counted.
+
+   word     the first word of the statement, on any depth of the program: an assignment, a new, or an always or once of a constraint
+   first    the first solver's proposal, one and no word more; only read
+   second   the second solver's, in the same form; only read. It is tried where the first is turned down, by 6 or by 16 to 19
+   answer   where outcome, place and solver are stored
+
+   Returns how many words were accepted: the first so many of the slice of the solver that is told. Outcome 0 comes with the word as
+   place. On any other outcome the call returns 0, the solver is 0, and the tables are as they were. The outcomes are a run's, but for
+   5, with its places, and are tried in its order. 2 is also for a word at which no such statement begins, after 2 for the program and
+   before 3; place: the word as it was given, negative ones too. A slice without words is 6. Where both are turned down, the outcome is
+   the second's, or the first's where the second has no words. */
+size_t cordbasin_ask(const int32_t *program, size_t program_words, int32_t *environment, size_t environment_words,
+                     int32_t *heap, size_t heap_words, int32_t *constraints, size_t constraints_words, int32_t word,
+                     const int32_t *first, size_t first_words, const int32_t *second, size_t second_words, int32_t answer[3]);
 
 /* Reads a text in the papers' notation to the words of a program.
 

@@ -1,5 +1,6 @@
 /* How much stack the calls take, on a stack that was painted before: a run of a sheet with blocks nested 8 deep and an expression nested
-   16 deep; a list over such a sheet; reading such a text and writing its program; and reading one bracket and 30,000 around a number. */
+   16 deep; a list over such a sheet; two solvers on its innermost statement and on an assignment, over 64 kept constraints; reading such
+   a text and writing its program; and reading one bracket and 30,000 around a number. */
 #define _POSIX_C_SOURCE 200809L
 #include <pthread.h>
 #include <stdint.h>
@@ -9,8 +10,9 @@
 #include "cordbasin.h"
 
 enum { STACK = 1 << 20, PAINT = 0x5A, IFS = 7, DEEP = 15, BRACKETS = 30000, RUNNING = 65536, READING = 131072 };
-/* The word at which the program below has its constraint, and an always. */
-enum { CONSTRAINT = 6 + 3 * IFS, ALWAYS = 3 };
+/* The words at which the program below has its assignment and its constraint, where no always stands before them; an always, its words,
+   and how many are kept. */
+enum { ASSIGNMENT = 1, CONSTRAINT = 6 + 3 * IFS, ALWAYS = 3, ALWAYS_WORDS = 4 + 3 * DEEP, KEPT = 64 };
 
 static _Alignas(65536) unsigned char stack[STACK];
 static int32_t answer[4], program[CORDBASIN_PROGRAM_WORDS];
@@ -20,23 +22,34 @@ static size_t bytes;
 static int32_t typed[CORDBASIN_PROGRAM_WORDS];
 static size_t words;
 
-/* The words of v0 := 1, and in IFS ifs: once required v0 = 2, weak true and true and .. and true. */
-static size_t written(void) {
+/* A weak part at a place of the program: true and true and .. and true. What follows it is given back. */
+static int32_t *part(int32_t *at) {
+    *at++ = 1;
+    for (int nested = 0; nested < DEEP; nested++) {
+        *at++ = 25;
+        *at++ = 10;
+    }
+    for (int nested = 0; nested <= DEEP; nested++) *at++ = 22;
+    return at;
+}
+
+/* The words of so many always, each with that part; v0 := 1; and in IFS ifs: once required v0 = 2, and that part. */
+static size_t written(int kept) {
     int32_t *at = program;
-    *at++ = 2;
+    *at++ = kept + 2;
+    for (int turn = 0; turn < kept; turn++) {
+        *at++ = ALWAYS;
+        *at++ = 1;
+        at = part(at);
+    }
     memcpy(at, (int32_t[]){1, 0, 0, 23, 1}, 20);
     at += 5;
     for (int nested = 0; nested < IFS; nested++) {
         memcpy(at, (int32_t[]){7, 22, 1}, 12);
         at += 3;
     }
-    memcpy(at, (int32_t[]){4, 2, 3, 25, 6, 24, 0, 0, 23, 2, 1}, 44);
-    at += 11;
-    for (int nested = 0; nested < DEEP; nested++) {
-        *at++ = 25;
-        *at++ = 10;
-    }
-    for (int nested = 0; nested <= DEEP; nested++) *at++ = 22;
+    memcpy(at, (int32_t[]){4, 2, 3, 25, 6, 24, 0, 0, 23, 2}, 40);
+    at = part(at + 10);
     for (int nested = 0; nested < IFS; nested++) *at++ = 0;
     return (size_t)(at - program);
 }
@@ -44,7 +57,7 @@ static size_t written(void) {
 static void *run(void *unused) {
     static int32_t environment[128], heap[1601], constraints[98];
     const int32_t proposals[] = {0, 1, 0, 2};
-    cordbasin_run(program, written(), environment, 128, heap, 1601, constraints, 98, proposals, 4, 100, answer);
+    cordbasin_run(program, written(0), environment, 128, heap, 1601, constraints, 98, proposals, 4, 100, answer);
     return unused;
 }
 
@@ -52,9 +65,32 @@ static void *run(void *unused) {
 static void *assign(void *unused) {
     static int32_t environment[128] = {CORDBASIN_INTEGER, 2}, heap[1601], constraints[98] = {1, 0, CONSTRAINT};
     const int32_t entries[] = {0, 0, CORDBASIN_LITERAL_INTEGER, 2}, proposals[] = {0};
-    size_t count = written();
+    size_t count = written(0);
     program[CONSTRAINT] = ALWAYS;
     cordbasin_assign(program, count, environment, 128, heap, 1601, constraints, 98, entries, 4, proposals, 1, 100, answer);
+    return unused;
+}
+
+/* Every always is kept, and v0 is 1. */
+static void ask(int32_t word, const int32_t *first, size_t first_words, const int32_t *second, size_t second_words) {
+    static int32_t environment[128] = {CORDBASIN_INTEGER, 1}, heap[1601], constraints[98] = {KEPT};
+    size_t count = written(KEPT);
+    for (int turn = 0; turn < KEPT; turn++) constraints[2 + turn] = 1 + turn * ALWAYS_WORDS;
+    cordbasin_ask(program, count, environment, 128, heap, 1601, constraints, 98, KEPT * ALWAYS_WORDS + word, first, first_words, second,
+                  second_words, answer);
+}
+
+/* No change is turned down, and 2 for v0 is accepted. */
+static void *ask_once(void *unused) {
+    const int32_t first[] = {0}, second[] = {1, 0, 2};
+    ask(CONSTRAINT, first, 1, second, 3);
+    return unused;
+}
+
+/* A change of v0 itself is turned down, and none is accepted. */
+static void *ask_assignment(void *unused) {
+    const int32_t first[] = {1, 0, 2}, second[] = {0};
+    ask(ASSIGNMENT, first, 3, second, 1);
     return unused;
 }
 
@@ -73,7 +109,7 @@ static void *write_text(void *unused) {
 
 /* The same thread without a call, for what a thread itself takes. */
 static void *rest(void *unused) {
-    written();
+    written(0);
     return unused;
 }
 
@@ -130,9 +166,12 @@ static size_t nested(void) {
 int main(void) {
     size_t deepest = taken("a run of blocks and an expression nested deep", run);
     size_t list = taken("a list over blocks and an expression nested deep", assign);
+    size_t once = taken("two solvers on a constraint nested deep", ask_once);
+    size_t set = taken("two solvers on an assignment, over constraints nested deep", ask_assignment);
     size_t one = bracketed("reading one bracket", 1);
     size_t many = bracketed("reading 30,000 brackets", BRACKETS);
     size_t read = nested();
     size_t write = taken("writing blocks and an expression nested deep", write_text);
-    return deepest < RUNNING && list < RUNNING && read < READING && write < RUNNING && many == one ? 0 : 1;
+    int asking = once < RUNNING && set < RUNNING;
+    return deepest < RUNNING && list < RUNNING && asking && read < READING && write < RUNNING && many == one ? 0 : 1;
 }

@@ -1,9 +1,10 @@
-//! Sheets, lists and their answers, one to a line.
+//! Sheets, lists, askings and their answers, one to a line.
 
+use crate::asking::{self, ask};
 use crate::entries::assign;
 use crate::lister::number;
 use crate::run::{run, Answer, Lent};
-use crate::tables::{CONSTRAINT_WORDS, ENVIRONMENT_WORDS, HEAP_WORDS};
+use crate::tables::{Tables, CONSTRAINT_WORDS, ENVIRONMENT_WORDS, HEAP_WORDS};
 use std::io::{BufRead, Write};
 
 /// All that a run takes.
@@ -24,10 +25,23 @@ pub struct List {
     pub entries: Vec<i32>,
 }
 
-/// All that a run or a list gives back.
+/// All that an asking takes: what a run starts from, the statement's word and
+/// both solvers' slices.
 #[derive(Clone, Debug, PartialEq, Eq)]
-pub struct Finish {
-    pub answer: Answer,
+pub struct Asking {
+    pub program: Vec<i32>,
+    pub environment: Vec<i32>,
+    pub heap: Vec<i32>,
+    pub constraints: Vec<i32>,
+    pub word: i32,
+    pub first: Vec<i32>,
+    pub second: Vec<i32>,
+}
+
+/// All that a run or a list gives back, or an asking with its own answer.
+#[derive(Clone, Debug, PartialEq, Eq)]
+pub struct Finish<A = Answer> {
+    pub answer: A,
     pub environment: Vec<i32>,
     pub heap: Vec<i32>,
     pub constraints: Vec<i32>,
@@ -47,6 +61,11 @@ impl Sheet {
             proposals,
             budget,
         }
+    }
+
+    /// Gives the sheet other tables to start from.
+    pub fn fill(&mut self, tables: &Tables) {
+        tables.encode(&mut self.environment, &mut self.heap, &mut self.constraints);
     }
 
     /// Reads a line `program|environment|heap|constraints|proposals|budget`.
@@ -99,16 +118,22 @@ impl Sheet {
     }
 
     pub fn on_copies(&self, call: impl FnOnce(Lent) -> Answer) -> Finish {
-        let mut environment = self.environment.clone();
-        let mut heap = self.heap.clone();
-        let mut constraints = self.constraints.clone();
-        let answer = call((&mut environment, &mut heap, &mut constraints));
-        Finish {
-            answer,
-            environment,
-            heap,
-            constraints,
-        }
+        on_copies(self.tables(), call)
+    }
+
+    fn tables(&self) -> [&Vec<i32>; 3] {
+        [&self.environment, &self.heap, &self.constraints]
+    }
+}
+
+fn on_copies<A>(tables: [&Vec<i32>; 3], call: impl FnOnce(Lent) -> A) -> Finish<A> {
+    let [mut environment, mut heap, mut constraints] = tables.map(Vec::clone);
+    let answer = call((&mut environment, &mut heap, &mut constraints));
+    Finish {
+        answer,
+        environment,
+        heap,
+        constraints,
     }
 }
 
@@ -149,20 +174,92 @@ impl List {
     }
 }
 
+impl Asking {
+    /// Reads a line
+    /// `ask|program|environment|heap|constraints|word|first|second`.
+    pub fn parse(line: &[u8]) -> Option<Asking> {
+        let fields = split(line);
+        let &[b"ask", program, environment, heap, constraints, word, first, second] =
+            fields.as_slice()
+        else {
+            return None;
+        };
+        Some(Asking {
+            program: numbers(program)?,
+            environment: table(environment, ENVIRONMENT_WORDS)?,
+            heap: table(heap, HEAP_WORDS)?,
+            constraints: table(constraints, CONSTRAINT_WORDS)?,
+            word: number(word)?,
+            first: numbers(first)?,
+            second: numbers(second)?,
+        })
+    }
+
+    /// The line that parses to this asking.
+    pub fn line(&self) -> String {
+        let fields = [
+            "ask".to_string(),
+            joined(&self.program),
+            shown(&self.environment, ENVIRONMENT_WORDS),
+            shown(&self.heap, HEAP_WORDS),
+            shown(&self.constraints, CONSTRAINT_WORDS),
+            self.word.to_string(),
+            joined(&self.first),
+            joined(&self.second),
+        ];
+        fields.join("|")
+    }
+
+    /// Asks on copies of the tables.
+    pub fn answer(&self) -> Finish<asking::Answer> {
+        on_copies(self.tables(), |(environment, heap, constraints)| {
+            ask(
+                &self.program,
+                environment,
+                heap,
+                constraints,
+                self.word,
+                &self.first,
+                &self.second,
+            )
+        })
+    }
+
+    fn tables(&self) -> [&Vec<i32>; 3] {
+        [&self.environment, &self.heap, &self.constraints]
+    }
+}
+
 impl Finish {
     /// The answer line; a table that did not change is written `=`. That of a
     /// list is told against the list's sheet.
     pub fn line(&self, sheet: &Sheet) -> String {
         let answer = &self.answer;
-        let mut line = format!(
+        let told = format!(
             "{} {} {} {} {}",
             answer.outcome, answer.place, answer.steps, answer.accepted, answer.unread
         );
-        for (old, new) in [
-            (&sheet.environment, &self.environment),
-            (&sheet.heap, &self.heap),
-            (&sheet.constraints, &self.constraints),
-        ] {
+        self.behind(told, sheet.tables())
+    }
+}
+
+impl Finish<asking::Answer> {
+    /// The answer line, told against the asking.
+    pub fn line(&self, asking: &Asking) -> String {
+        let answer = &self.answer;
+        let told = format!(
+            "{} {} {} {}",
+            answer.outcome, answer.place, answer.solver, answer.words
+        );
+        self.behind(told, asking.tables())
+    }
+}
+
+impl<A> Finish<A> {
+    /// The tables behind what is told, against those from before.
+    fn behind(&self, mut line: String, before: [&Vec<i32>; 3]) -> String {
+        let after = [&self.environment, &self.heap, &self.constraints];
+        for (old, new) in before.into_iter().zip(after) {
             line.push('|');
             match old == new {
                 true => line.push('='),
@@ -202,10 +299,14 @@ fn table(field: &[u8], words: usize) -> Option<Vec<i32>> {
     }
 }
 
-/// The answer line for one line of batch input, a sheet or a list, or `unfit`.
+/// The answer line for one line of batch input, a sheet, a list or an asking,
+/// or `unfit`.
 pub fn answer_line(line: &[u8]) -> String {
     if let Some(sheet) = Sheet::parse(line) {
         return sheet.answer().line(&sheet);
+    }
+    if let Some(asking) = Asking::parse(line) {
+        return asking.answer().line(&asking);
     }
     match List::parse(line) {
         Some(list) => list.answer().line(&list.sheet),

@@ -4,9 +4,10 @@
 //! outcome, place, steps, proposals accepted, unread words and final tables.
 //! Texts in the papers' notation (document 02, W1) become program words, and
 //! lists of entries (W3) assignments; program words are written as such texts
-//! (W5).
+//! (W5), and two solvers are asked about one statement (W6).
 #![forbid(unsafe_code)]
 
+pub mod asking;
 pub mod batch;
 pub mod causes;
 pub mod constraints;

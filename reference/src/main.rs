@@ -1,12 +1,15 @@
 //! The command line of the independent program.
 
-use reference::{batch, generator, lister, outcome::Outcome};
+use reference::generator::{self, askings::classes::Class};
+use reference::{batch, lister, outcome::Outcome};
+use std::collections::BTreeMap;
 use std::fmt::Display;
 use std::io::{self, BufReader, BufWriter, Read, Write};
 use std::process::ExitCode;
 
 const USAGE: &str = "usage: reference list | batch | generate SEED COUNT | histogram SEED COUNT \
-    | generate-lists SEED COUNT | histogram-lists SEED COUNT";
+    | generate-lists SEED COUNT | histogram-lists SEED COUNT \
+    | generate-askings SEED COUNT | histogram-askings SEED COUNT";
 
 fn main() -> ExitCode {
     let arguments: Vec<String> = std::env::args_os()
@@ -30,6 +33,7 @@ fn generated(command: &str, seed: u64, count: u64) -> io::Result<ExitCode> {
     match command {
         "generate" => generate(count, |index| generator::sheet(seed, index).line()),
         "generate-lists" => generate(count, |index| generator::list(seed, index).line()),
+        "generate-askings" => generate(count, |index| generator::asking(seed, index).line()),
         "histogram" => {
             let (outcomes, counts) = generator::histogram(seed, count);
             histogram(count, &Outcome::ALL, &outcomes, counts)
@@ -38,6 +42,7 @@ fn generated(command: &str, seed: u64, count: u64) -> io::Result<ExitCode> {
             let (counts, causes) = generator::lists::histogram(seed, count);
             histogram(count, &Outcome::OF_LISTS, &counts, causes)
         }
+        "histogram-askings" => classes(count, generator::askings::histogram(seed, count)),
         _ => usage(),
     }
 }
@@ -85,9 +90,27 @@ fn histogram(
         writeln!(output, "{} {times}", outcome.number())?;
     }
     writeln!(output, "{told}")?;
+    Ok(unless_rare(count, counts))
+}
+
+fn unless_rare<'a>(count: u64, counts: impl IntoIterator<Item = &'a u64>) -> ExitCode {
     let rare = |times: &u64| u128::from(*times) * 10_000 < u128::from(count) * 50;
-    Ok(match counts.iter().any(rare) {
+    match counts.into_iter().any(rare) {
         true => ExitCode::FAILURE,
         false => ExitCode::SUCCESS,
-    })
+    }
+}
+
+/// Fails if a class of those that there must be comes up fewer than 50 times in
+/// 10,000.
+fn classes(count: u64, counts: BTreeMap<Class, u64>) -> io::Result<ExitCode> {
+    let mut output = io::stdout();
+    for (class, times) in &counts {
+        writeln!(output, "{class:?} {times}")?;
+    }
+    let all = Class::all();
+    Ok(unless_rare(
+        count,
+        all.iter().filter_map(|class| counts.get(class)),
+    ))
 }

@@ -1,4 +1,5 @@
-//! The outcomes of runs and lists under their numbers, and the word at fault.
+//! The outcomes of runs, lists and askings under their numbers, and the word at
+//! fault.
 
 use crate::program::Operator;
 use crate::tables::Kind;
@@ -72,6 +73,29 @@ impl Outcome {
         Outcome::NeedlessChange,
         Outcome::RequiredUnmet,
         Outcome::UnfitAssignment,
+    ];
+
+    /// Those of an asking: no steps are counted, and identities are not asked
+    /// about.
+    pub const OF_ASKINGS: [Outcome; 18] = [
+        Outcome::Finished,
+        Outcome::WrongSize,
+        Outcome::UnfitProgram,
+        Outcome::UnfitTable,
+        Outcome::UnfitStart,
+        Outcome::NoProposal,
+        Outcome::NoCell,
+        Outcome::WrongKind,
+        Outcome::OutOfRange,
+        Outcome::HeapFull,
+        Outcome::IdentityClash,
+        Outcome::PlainIdentity,
+        Outcome::NoRoom,
+        Outcome::LostConstraint,
+        Outcome::UnfitProposal,
+        Outcome::UnfitEntry,
+        Outcome::NeedlessChange,
+        Outcome::RequiredUnmet,
     ];
 
     pub fn number(self) -> i32 {

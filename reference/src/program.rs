@@ -129,12 +129,47 @@ impl Program {
 
     pub fn always(&self) -> Always {
         let mut always = Always::default();
-        always.gather_block(&self.block);
+        for statement in &self.block.statements {
+            always.gather(statement);
+        }
         always
+    }
+
+    /// All statements in the order of their words, each with its block's depth.
+    pub fn statements(&self) -> Vec<(usize, &Statement)> {
+        let mut all = Vec::new();
+        self.block.list(1, &mut all);
+        all
+    }
+}
+
+impl Block {
+    fn list<'a>(&'a self, depth: usize, all: &mut Vec<(usize, &'a Statement)>) {
+        for statement in &self.statements {
+            statement.list(depth, all);
+        }
     }
 }
 
 impl Statement {
+    fn list<'a>(&'a self, depth: usize, all: &mut Vec<(usize, &'a Statement)>) {
+        all.push((depth, self));
+        match &self.action {
+            Action::If(_, yes, no) => {
+                yes.list(depth + 1, all);
+                no.list(depth + 1, all);
+            }
+            Action::While(_, body) => body.list(depth + 1, all),
+            _ => {}
+        }
+    }
+
+    /// Statements 1 to 4 read a proposal.
+    pub fn reads_proposal(&self) -> bool {
+        use Action::{Always, Assign, New, Once};
+        matches!(self.action, Assign(..) | New(..) | Always(_) | Once(_))
+    }
+
     /// Reads one statement of the outermost block from the middle of a
     /// program, with the word after it.
     pub fn decode(words: &[i32], start: usize) -> Result<(Statement, usize), usize> {
@@ -173,13 +208,16 @@ impl Expression {
 }
 
 impl Always {
-    fn gather_block(&mut self, block: &Block) {
-        for statement in &block.statements {
-            self.gather(statement);
+    /// Those that a statement is or holds.
+    pub fn gather(&mut self, statement: &Statement) {
+        let mut all = Vec::new();
+        statement.list(1, &mut all);
+        for (_, statement) in all {
+            self.add(statement);
         }
     }
 
-    pub fn gather(&mut self, statement: &Statement) {
+    fn add(&mut self, statement: &Statement) {
         let position = statement.position;
         match &statement.action {
             Action::Always(constraint) => {
@@ -188,11 +226,6 @@ impl Always {
             Action::AlwaysIdentity(identity) => {
                 self.identities.insert(position, Rc::clone(identity));
             }
-            Action::If(_, yes, no) => {
-                self.gather_block(yes);
-                self.gather_block(no);
-            }
-            Action::While(_, body) => self.gather_block(body),
             _ => {}
         }
     }

@@ -14,9 +14,9 @@ pub struct Wanted<'a> {
     pub target: Option<Location>,
 }
 
-/// Gives the words from which the next proposal is read.
+/// Gives the next proposal, or 6 or 16.
 pub trait Source {
-    fn unread(&mut self, wanted: &Wanted) -> &[i32];
+    fn proposal(&mut self, wanted: &Wanted) -> Result<Proposal, Outcome>;
     fn accept(&mut self, words: usize);
 }
 
@@ -26,13 +26,30 @@ pub struct Written<'a> {
 }
 
 impl Source for Written<'_> {
-    fn unread(&mut self, _: &Wanted) -> &[i32] {
-        self.words
+    fn proposal(&mut self, _: &Wanted) -> Result<Proposal, Outcome> {
+        Proposal::read(self.words)
     }
 
     fn accept(&mut self, words: usize) {
         self.words = self.words.get(words..).unwrap_or(&[]);
     }
+}
+
+/// A slice that is one whole proposal: words left over make it 16.
+pub struct Whole<'a> {
+    pub words: &'a [i32],
+}
+
+impl Source for Whole<'_> {
+    fn proposal(&mut self, _: &Wanted) -> Result<Proposal, Outcome> {
+        let proposal = Proposal::read(self.words)?;
+        match proposal.length() == self.words.len() {
+            true => Ok(proposal),
+            false => Err(Outcome::UnfitProposal),
+        }
+    }
+
+    fn accept(&mut self, _: usize) {}
 }
 
 #[derive(Clone, Debug, Default, PartialEq, Eq)]

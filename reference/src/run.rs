@@ -43,16 +43,19 @@ fn run_block(machine: &mut Machine<Written>, program: &Program) -> (Outcome, usi
 /// The environment, the heap and the constraints, as lent.
 pub type Lent<'a> = (&'a mut [i32], &'a mut [i32], &'a mut [i32]);
 
+/// What is tried before the first statement was refused: 1 to 4 with a place.
+pub type Early = (Outcome, usize);
+
 /// Tries what comes before the first statement, then does the work, which
 /// gives its outcome and place.
 pub fn begin(
     program: &[i32],
-    (environment, heap, constraints): Lent,
+    lent: Lent,
     proposals: &[i32],
     budget: i32,
     work: impl FnOnce(&mut Machine<Written>, &Program) -> (Outcome, usize),
 ) -> Answer {
-    let ready = match prepare(program, environment, heap, constraints, budget) {
+    let ready = match prepare(program, &lent, budget) {
         Ok(ready) => ready,
         Err((outcome, place)) => return refused(outcome, place, proposals.len()),
     };
@@ -65,6 +68,7 @@ pub fn begin(
         accepted: 0,
     };
     let (outcome, place) = work(&mut machine, &ready.program);
+    let (environment, heap, constraints) = lent;
     machine.tables.encode(environment, heap, constraints);
     Answer {
         outcome: outcome.number(),
@@ -94,31 +98,40 @@ struct Ready {
     budget: u32,
 }
 
-/// Tries the outcomes 1 to 4 in their order; the error is one with its place.
-fn prepare(
-    program: &[i32],
-    environment: &[i32],
-    heap: &[i32],
-    constraints: &[i32],
-    budget: i32,
-) -> Result<Ready, (Outcome, usize)> {
-    let sizes = (environment.len(), heap.len(), constraints.len());
+/// Tries the outcomes 1 to 4 in their order.
+fn prepare(program: &[i32], lent: &Lent, budget: i32) -> Result<Ready, Early> {
     let budget = u32::try_from(budget).ok().filter(|b| *b <= LARGEST_BUDGET);
-    let (Some(budget), (ENVIRONMENT_WORDS, HEAP_WORDS, CONSTRAINT_WORDS)) = (budget, sizes) else {
-        return Err((Outcome::WrongSize, 0));
-    };
-    let program = Program::decode(program).map_err(|place| (Outcome::UnfitProgram, place))?;
+    let budget = budget.ok_or((Outcome::WrongSize, 0))?;
+    let program = read_program(program, lent)?;
     let always = program.always();
-    let tables = Tables::decode(environment, heap, constraints, &always)
+    let tables = read_tables(&always, lent)?;
+    Ok(Ready {
+        program,
+        always,
+        tables,
+        budget,
+    })
+}
+
+/// Tries 1 for the tables, then 2.
+pub fn read_program(program: &[i32], lent: &Lent) -> Result<Program, Early> {
+    let sizes = (lent.0.len(), lent.1.len(), lent.2.len());
+    if sizes != (ENVIRONMENT_WORDS, HEAP_WORDS, CONSTRAINT_WORDS) {
+        return Err((Outcome::WrongSize, 0));
+    }
+    Program::decode(program).map_err(|place| (Outcome::UnfitProgram, place))
+}
+
+/// Tries 3, then 4, over the always-statements of the program.
+pub fn read_tables(
+    always: &Always,
+    (environment, heap, constraints): &Lent,
+) -> Result<Tables, Early> {
+    let tables = Tables::decode(environment, heap, constraints, always)
         .map_err(|unfit| (Outcome::UnfitTable, unfit as usize))?;
-    match unfit_at_start(&tables, &always) {
+    match unfit_at_start(&tables, always) {
         Some(position) => Err((Outcome::UnfitStart, position)),
-        None => Ok(Ready {
-            program,
-            always,
-            tables,
-            budget,
-        }),
+        None => Ok(tables),
     }
 }
 

@@ -5,7 +5,7 @@ use crate::evaluate;
 use crate::identity;
 use crate::outcome::{Fault, Operands, Outcome};
 use crate::program::{Action, Always, Block, Constraint, Expression, Identity, Path, Statement};
-use crate::proposal::{Proposal, Source, Wanted};
+use crate::proposal::{Source, Wanted};
 use crate::tables::{Location, Tables, Value, IDENTITY_POSITIONS, RECORDS, VALUE_POSITIONS};
 use std::rc::Rc;
 
@@ -147,12 +147,11 @@ impl<'a, S: Source> Machine<'a, S> {
     ) -> Result<(), Fault> {
         let mut active = self.kept_constraints(&after);
         active.extend(own);
-        let words = self.source.unread(&Wanted {
+        let proposal = self.source.proposal(&Wanted {
             tables: &after,
             constraints: &active,
             target,
-        });
-        let proposal = Proposal::read(words)?;
+        })?;
         let satisfied = !proposal.entries.is_empty()
             && active
                 .iter()

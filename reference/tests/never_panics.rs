@@ -1,6 +1,7 @@
 //! Nothing that comes in, however unfit, stops the program.
 
-use reference::batch::{answer_all, answer_line, List, Sheet};
+use reference::asking::ask;
+use reference::batch::{answer_all, answer_line, Asking, List, Sheet};
 use reference::entries::assign;
 use reference::lister::list;
 use reference::run::run;
@@ -134,6 +135,49 @@ fn random_entries() {
 }
 
 #[test]
+fn random_askings() {
+    let mut numbers = Numbers(105);
+    let program = [
+        2, 7, 22, 1, 1, 0, 0, 23, 3, 0, 4, 1, 3, 25, 6, 24, 0, 0, 23, 3,
+    ];
+    let mut outcomes = [0; 20];
+    for round in 0..20_000 {
+        let [mut environment, mut heap, mut constraints] = tables(&mut numbers);
+        if numbers.below(4) > 0 {
+            (environment, heap, constraints) = (vec![0; 128], vec![0; 1601], vec![0; 98]);
+        }
+        let program = match round % 2 {
+            0 => program.to_vec(),
+            _ => numbers.words(12),
+        };
+        let word = match numbers.below(2) {
+            0 => numbers.word(),
+            _ => 4,
+        };
+        let (first, mut second) = (numbers.words(4), numbers.words(4));
+        if numbers.below(8) == 0 {
+            second = vec![0];
+        }
+        let answer = ask(
+            &program,
+            &mut environment,
+            &mut heap,
+            &mut constraints,
+            word,
+            &first,
+            &second,
+        );
+        outcomes[answer.outcome as usize] += 1;
+        let accepted = [&[], &first[..], &second][answer.solver as usize];
+        assert_eq!(answer.words, accepted.len());
+        assert_eq!(answer.solver == 0, answer.outcome > 0);
+    }
+    let common = [0, 1, 2, 3, 16].iter().all(|n| outcomes[*n] > 50);
+    let none = [5, 11].iter().all(|n| outcomes[*n] == 0);
+    assert!(common && none, "{outcomes:?}");
+}
+
+#[test]
 fn random_names() {
     let mut numbers = Numbers(103);
     let all: Vec<u8> = (0..=255).collect();
@@ -181,6 +225,17 @@ fn lines_that_are_no_sheets() {
         "0|F|F|F|F||1",
         "0|F|F|F|1 x||1",
         "0|F|F|F|||",
+        "ask|0|F|F|F|0|",
+        "ask|0|F|F|F|0|||",
+        "ask|0|F|F|F|||",
+        "ask|0|F|F|F|0 0||",
+        "ask|0|F|F|F|2147483648||",
+        "ask|0|F|F|F|0|F|",
+        "ask|F|F|F|F|0||",
+        "ask|0|F|F|=|0||",
+        "Ask|0|F|F|F|0||",
+        "|0|F|F|F|0||",
+        "0|0|F|F|F|0||",
     ] {
         assert_eq!(answer_line(line.as_bytes()), "unfit", "for {line:?}");
     }
@@ -189,6 +244,11 @@ fn lines_that_are_no_sheets() {
     assert_eq!(answer_line(b"0||F|1 2 3|7|1"), "1 0 0 0 1|=|=|=");
     assert_eq!(answer_line(b"0|F|F|F|||1"), "0 0 0 0 0|=|=|=");
     assert_eq!(answer_line(b"0|F|F|F|64|7|1"), "23 0 0 0 1|=|=|=");
+    assert_eq!(answer_line(b"ask|0|F|F|F|-3||"), "2 -3 0 0|=|=|=");
+    assert_eq!(answer_line(b"ask|||F|F|7|0|0"), "1 0 0 0|=|=|=");
+    let asked = answer_line(b"ask|1 2 0 0|F|F|F|1|0 0|0");
+    assert!(asked.starts_with("0 1 2 1|4 0 0 0"), "{asked}");
+    assert!(asked.ends_with("|="), "{asked}");
 }
 
 #[test]
@@ -212,4 +272,21 @@ fn lists_and_lines_correspond() {
     assert_eq!(list.line(), line);
     assert_eq!(Sheet::parse(line.as_bytes()), None);
     assert_eq!(List::parse(sheet.line().as_bytes()), None);
+}
+
+#[test]
+fn askings_and_lines_correspond() {
+    let line = "ask|3 -4|1 2|F||-7|5 6|9";
+    let asking = Asking::parse(line.as_bytes()).unwrap();
+    assert_eq!((&asking.program[..], asking.word), (&[3, -4][..], -7));
+    assert_eq!(asking.environment, [1, 2]);
+    assert_eq!(asking.heap, vec![0; 1601]);
+    assert!(asking.constraints.is_empty());
+    assert_eq!(
+        (&asking.first[..], &asking.second[..]),
+        (&[5, 6][..], &[9][..])
+    );
+    assert_eq!(asking.line(), line);
+    assert_eq!(Sheet::parse(line.as_bytes()), None);
+    assert_eq!(List::parse(line.as_bytes()), None);
 }

@@ -1,5 +1,6 @@
 // The calls for a host in C or Rust.
 pub mod lists; // lists.rt: the call for a list of entries
+pub mod asking; // asking.rt: the call for two solvers on one statement
 
 ghost use mathlib.Core.Path.{_≡_};
 ghost use Rattle.rules.specs.Start.{run as runBy};

@@ -3,7 +3,7 @@ use mathlib.Core.Path.{_≡_, refl, _∙_}
 use Prim.Native.Nat.{ℕ, _≤_, _<_}
 use native.Mathlib.Omega.{arith}
 use native.Mathlib.Decide.{ℕ-discrete}
-use mathlib.Core.Bool.{false}
+use mathlib.Core.Bool.{true, false}
 use mathlib.Core.List.{List, _∷_, _++_}
 use lib.IntN.{ℤ, pos}
 use Rattle.words.specs.Words.{numberAt}
@@ -13,15 +13,18 @@ use Rattle.program.specs.Forms.{expressionDepth, branch, loop, verbOf}
 use Rattle.program.specs.Grammar.{Expression, Takes}
 use Rattle.program.proofs.FormLaws.{numberOfVerb}
 use Rattle.rules.specs.State.{Fault}
+use Rattle.rules.specs.Identities.{member}
 use Rattle.rules.specs.Statements.{positionOf, placeOf}
 use Rattle.rules.specs.Running.{Tally, Out, on, end, test}
 use Rattle.rules.specs.Steps.Holds.{Holds, StatementThere}
+use Rattle.rules.specs.Steps.ByVerb.{refusals}
 use Rattle.rules.specs.Rules.Expressions.{Untested}
 use Rattle.rules.specs.Rules.Statements.{Refused}
 use Rattle.rules.specs.Rules.Runs.{Code, Runs}
 use Rattle.rules.specs.Rules.Runs.{r-block, r-none, r-some, r-unpaid, r-ended, r-simple, r-refused, r-then, r-else, r-no-if}
 use Rattle.rules.specs.Rules.Runs.{r-while, r-stop, r-go, r-no-turn, r-broken, r-no-while}
-use Rattle.rules.proofs.KeptReading.{Listed, five-listed, tests-read}
+use Rattle.rules.proofs.ClassLaws.{member-head, member-tail}
+use Rattle.rules.proofs.KeptReading.{Listed, tests-read}
 use Rattle.rules.proofs.StatementWords.{statement-verb}
 use Rattle.rules.proofs.RefusedPieces.{untested-complete}
 use Rattle.rules.proofs.RefusedRules.{stops-listed, refused-rule}
@@ -65,12 +68,14 @@ module _ (program : List ℤ) (budget : ℕ) where
   ends-there (refuses here low r) = here
   ends-there (untested here a b t x) = here
 
-  -- its number is one of its verb's
-  pub ends-listed : {u : Tally} {p : List ℤ} {n place : ℕ} → Holds program (u .state) → Ends u p n place → Listed (verbOf (numberAt p 0)) n
-  ends-listed hold (unpaid {p = p} here) = five-listed (verbOf (numberAt p 0))
+  -- its number is 5 or one of its verb's
+  pub ends-listed : {u : Tally} {p : List ℤ} {n place : ℕ} → Holds program (u .state) → Ends u p n place → member n (5 ∷ refusals (verbOf (numberAt p 0))) ≡ true
+  ends-listed hold (unpaid {p = p} here) = member-head 5 5 (refusals (verbOf (numberAt p 0))) refl
   ends-listed {u} hold (refuses {f = f} {p = p} here low r) =
-      stops-listed program (u .state) (u .unread) hold p (here .statement) low f (refused-rule program p (u .state) (u .unread) (here .statement) hold low f .1 r)
-  ends-listed {u} hold (untested {verb = verb} {f = f} {p = p} {q = q} here a b t x) = go (ℕ-discrete verb 7)
+      member-tail (f .number) 5 (refusals (verbOf (numberAt p 0)))
+      (stops-listed program (u .state) (u .unread) hold p (here .statement) low f (refused-rule program p (u .state) (u .unread) (here .statement) hold low f .1 r))
+  ends-listed {u} hold (untested {verb = verb} {f = f} {p = p} {q = q} here a b t x) =
+      member-tail (f .number) 5 (refusals (verbOf (numberAt (pos verb ∷ p) 0))) (go (ℕ-discrete verb 7))
     where
       e : test (u .state .cells) (t .words ++ q) ≡ stop f
       e = rw (t .split) at (untested-complete (u .state .cells) p x)

@@ -36,11 +36,7 @@ use Rattle.rules.proofs.ReadingLaws.{path-at, TieAt, tie-at, same-was, 
 -- ---- the outcomes of a verb
 
 abbrev pub Listed : Verb → ℕ → Type 0
-Listed v n = member n (5 ∷ refusals v) ≡ true
-
-pub five-listed : (v : Verb) → Listed v 5
-unfolding member
-five-listed v = refl
+Listed v n = member n (refusals v) ≡ true
 
 judged-assign : Judged (Listed assign)
 unfolding member

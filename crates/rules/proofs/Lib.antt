@@ -12,6 +12,11 @@ pub mod EntryFacts
 pub mod EntryStructure
 pub mod EntryRoom
 pub mod EntryProgram
+pub mod SolverClauses
+pub mod SolverSteps
+pub mod SolverRules
+pub mod SolverJudged
+pub mod SolverFacts
 pub mod StopLaws
 pub mod LostLaws
 pub mod TypingLaws

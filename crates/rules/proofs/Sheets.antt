@@ -1,4 +1,4 @@
--- K1 to K12, a while and lists of entries: the definitions give, word for word, what document 01 says. The one place where every definition is opened.
+-- K1 to K12, a while, lists of entries and askings of two solvers: the definitions give, word for word, what document 01 says. The one place where every definition is opened.
 -- Assumes nothing.
 use mathlib.Core.Path.{_≡_, refl}
 use Rattle.words.specs.Words.{numberAt, wordOf, copied}
@@ -19,7 +19,8 @@ use Rattle.rules.specs.Paths.{follow, wayAt, valueAt}
 use Rattle.rules.specs.Proposals.{entries, proposal, mayTake, entryFits, entriesFit, putEntry, applied, settle}
 use Rattle.rules.specs.Running.{paid, taken, test, tested, turns, doVerb, doStatement, doStatements, doBlock}
 use Rattle.rules.specs.Entries.{readEntry, doEntry, onwards, judged, nextEntry, doEntries, assigns}
-use Rattle.rules.specs.Sheets.{given, wanted, sheets, givenLists, wantedLists, listings}
+use Rattle.rules.specs.Sheets.{given, wanted, sheets, givenLists, wantedLists, listings, givenAskings, wantedAskings, askings}
+use Rattle.rules.specs.Solvers.{isNamed, hasMore, whole, alone, turnsDown, thenSecond, tries, ask}
 use Rattle.rules.specs.Start.{budgetFits, valuesHold, identitiesHold, early, starts, ended, run}
 use Rattle.rules.specs.State.{freshState, slotAt, listed, positions}
 use Rattle.rules.specs.Statements.{hasRoom, keep, valuePhase, doAssign, fieldWords, doNew, doConstraint, doIdentity, doSimple}
@@ -31,3 +32,7 @@ sheets-hold = refl
 pub lists-hold : givenLists listings ≡ wantedLists listings
 unfolding numberAt wordOf copied countWord labelWord fieldWord fieldLocation locationWord cellAt putCell sized cellFits environmentFits labelFits fieldFits zeros placeFits recordFits numberFits heapFits positionFits roomFits sortFits constraintsFit cellsFit keptWord firstKept keptNumber keptCount positionAt blankPosition isKept withPosition withoutPosition recordCount countAt fieldCount labelAt fieldAt blankPlace blankRecord placeWith fieldWith withRecord withoutRecord every first cellOf slotOf formOf verbOf number anyWord readLabels readPath readPaths readForm readExpression readPart readParts readConstraint among readFields readNew readAssign readVerb readWith readStatements readBlock readStatement ends placeIn readProgram after spotInside spotStatement spotStatements spotBlock statementAt isAlways positionsStand constraintsStand satisfies partAt partsAt constraintAt keptAt keptParts ownParts counted allHold requiredHold opOf comparable takes gives same ranged made apply evaluateForm evaluate kindForm kind isNode sameNow tieAt tiesOf ties member frozenBy grown grownBy classOf names clashFree putAll identityPhase follow wayAt valueAt entries proposal mayTake entryFits entriesFit putEntry applied settle paid taken test tested turns doVerb doStatement doStatements doBlock givenLists wantedLists readEntry doEntry onwards judged nextEntry doEntries assigns budgetFits valuesHold identitiesHold early starts ended run freshState slotAt listed positions hasRoom keep valuePhase doAssign fieldWords doNew doConstraint doIdentity doSimple
 lists-hold = refl
+
+pub askings-hold : givenAskings askings ≡ wantedAskings askings
+unfolding numberAt wordOf copied countWord labelWord fieldWord fieldLocation locationWord cellAt putCell sized cellFits environmentFits labelFits fieldFits zeros placeFits recordFits numberFits heapFits positionFits roomFits sortFits constraintsFit cellsFit keptWord firstKept keptNumber keptCount positionAt blankPosition isKept withPosition withoutPosition recordCount countAt fieldCount labelAt fieldAt blankPlace blankRecord placeWith fieldWith withRecord withoutRecord every first cellOf slotOf formOf verbOf number anyWord readLabels readPath readPaths readForm readExpression readPart readParts readConstraint among readFields readNew readAssign readVerb readWith readStatements readBlock readStatement ends placeIn readProgram after spotInside spotStatement spotStatements spotBlock statementAt isAlways positionsStand constraintsStand satisfies partAt partsAt constraintAt keptAt keptParts ownParts counted allHold requiredHold opOf comparable takes gives same ranged made apply evaluateForm evaluate kindForm kind isNode sameNow tieAt tiesOf ties member frozenBy grown grownBy classOf names clashFree putAll identityPhase follow wayAt valueAt entries proposal mayTake entryFits entriesFit putEntry applied settle givenAskings wantedAskings isNamed hasMore whole alone turnsDown thenSecond tries ask valuesHold identitiesHold early slotAt listed positions hasRoom keep valuePhase doAssign fieldWords doNew doConstraint doIdentity doSimple
+askings-hold = refl

@@ -128,10 +128,10 @@ module _ (program : List ℤ) (S : Cells) where
 -- ---- the whole start
 
 module _ (program : List ℤ) (budget : ℤ) (S : State) where
-  abbrev measures : Bool
+  abbrev pub measures : Bool
   measures = sized (S .cells .environment) (S .cells .heap) (S .kept) && budgetFits budget
 
-  measured-iff : (measures ≡ true) ↔ Measured budget S
+  pub measured-iff : (measures ≡ true) ↔ Measured budget S
   unfolding budgetFits
   measured-iff = (
     λ e.

@@ -26,7 +26,7 @@ use Rattle.rules.proofs.VerbLaws.{verb-back, verb-none, told-apart}
 
 module _ (p : List ℤ) (here : StatementReads p) where
   -- it reads, so its word stands for a verb
-  known : numberOfVerb (verbOf (numberAt p 0)) < 9
+  pub known : numberOfVerb (verbOf (numberAt p 0)) < 9
   known = go (decLt (numberOfVerb (verbOf (numberAt p 0))) 9)
     where
       go : Dec (numberOfVerb (verbOf (numberAt p 0)) < 9) → numberOfVerb (verbOf (numberAt p 0)) < 9

@@ -7,3 +7,4 @@ pub mod Holding
 pub mod OneStructure
 pub mod Room
 pub mod Entries
+pub mod Solvers

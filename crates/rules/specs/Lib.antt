@@ -8,6 +8,7 @@ pub mod Statements
 pub mod Running
 pub mod Start
 pub mod Entries
+pub mod Solvers
 pub mod Sheets
 pub mod Rules
 pub mod Effects

@@ -9,3 +9,4 @@ pub mod Runs
 pub mod Kept
 pub mod Answers
 pub mod Entries
+pub mod Solvers

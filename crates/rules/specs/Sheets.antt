@@ -1,4 +1,4 @@
--- The sheets K1 to K12 of document 01, "Sheets to try", a while, two of `and`, one of 15, one of unlike kinds, and five lists of entries: what is run, and the whole of what must come out.
+-- The sheets K1 to K12 of document 01, "Sheets to try", a while, two of `and`, one of 15, one of unlike kinds, five lists of entries, and five askings of two solvers: what is run, and the whole of what must come out.
 -- Assumes nothing: these are definitions.
 use Prim.Native.Nat.{ℕ, zero, suc, _+_, _-_}
 use mathlib.Core.List.{List, [], _∷_, _++_}
@@ -9,6 +9,7 @@ use Rattle.tables.specs.Cells.{cells}
 use Rattle.rules.specs.State.{State, freshState}
 use Rattle.rules.specs.Start.{Ended, run}
 use Rattle.rules.specs.Entries.{assigns}
+use Rattle.rules.specs.Solvers.{Given, ask}
 
 -- naturals as words, and a table of n words that begins with these
 abbrev pub words : List ℕ → List ℤ
@@ -302,3 +303,67 @@ givenLists (x ∷ xs) = assigns P (x .entries) (x .proposals) (x .budget) (two 6
 unfoldable pub wantedLists : List Listing → List Ended
 wantedLists [] = []
 wantedLists (x ∷ xs) = x .answer ∷ wantedLists xs
+
+-- ---- one statement with two proposals (02, W6), over P and what its first two statements left
+
+pub record Asking : Type 0 where
+  pub word : ℤ
+  pub first : List ℤ
+  pub second : List ℤ
+  pub answer : Given
+
+-- x.1 := 32: the first would move the target (17), the second has the length
+abbrev pub Q1 : Asking
+Q1 = record {
+  word = pos 27;
+  first = words (1 ∷ 65 ∷ 8 ∷ []);
+  second = words (1 ∷ 64 ∷ 128 ∷ []);
+  answer = record { outcome = 0; place = pos 27; solver = 2; words = words (1 ∷ 64 ∷ 128 ∷ []); state = two 128 32 (1 ∷ 0 ∷ 10 ∷ []) };
+}
+
+-- the first has it, and the second is not looked at
+abbrev pub Q2 : Asking
+Q2 = record {
+  word = pos 27;
+  first = words (1 ∷ 64 ∷ 128 ∷ []);
+  second = words (0 ∷ 0 ∷ []);
+  answer = record { outcome = 0; place = pos 27; solver = 1; words = words (1 ∷ 64 ∷ 128 ∷ []); state = two 128 32 (1 ∷ 0 ∷ 10 ∷ []) };
+}
+
+-- a word is left after the first (16), and the second moves nothing (19)
+abbrev pub Q3 : Asking
+Q3 = record {
+  word = pos 27;
+  first = words (1 ∷ 64 ∷ 128 ∷ 0 ∷ []);
+  second = words (0 ∷ []);
+  answer = record { outcome = 19; place = pos 27; solver = 0; words = []; state = two 64 16 (1 ∷ 0 ∷ 10 ∷ []) };
+}
+
+-- it would move the target, a word is left (16), and the second is empty
+abbrev pub Q4 : Asking
+Q4 = record {
+  word = pos 27;
+  first = words (1 ∷ 65 ∷ 8 ∷ 0 ∷ []);
+  second = [];
+  answer = record { outcome = 16; place = pos 27; solver = 0; words = []; state = two 64 16 (1 ∷ 0 ∷ 10 ∷ []) };
+}
+
+-- no statement begins there
+abbrev pub Q5 : Asking
+Q5 = record {
+  word = negsuc 0;
+  first = words (0 ∷ []);
+  second = [];
+  answer = record { outcome = 2; place = negsuc 0; solver = 0; words = []; state = two 64 16 (1 ∷ 0 ∷ 10 ∷ []) };
+}
+
+abbrev pub askings : List Asking
+askings = Q1 ∷ Q2 ∷ Q3 ∷ Q4 ∷ Q5 ∷ []
+
+unfoldable pub givenAskings : List Asking → List Given
+givenAskings [] = []
+givenAskings (x ∷ xs) = ask P (x .word) (x .first) (x .second) (two 64 16 (1 ∷ 0 ∷ 10 ∷ [])) ∷ givenAskings xs
+
+unfoldable pub wantedAskings : List Asking → List Given
+wantedAskings [] = []
+wantedAskings (x ∷ xs) = x .answer ∷ wantedAskings xs

@@ -49,16 +49,25 @@ unfoldable pub early : ℕ → Answer ℕ (Unit {0}) → Answer Early (Unit {0})
 early n (got u) = got tt
 early n (stop place) = stop (record { number = n; place = place })
 
--- "Outcomes 1 to 4 are tried in that order (in 4, values before identities, in kept order)"
+-- outcome 4, "values before identities, in kept order", and outcomes 3 and 4
+abbrev pub keptAtStart : List ℤ → State → Answer Early (Unit {0})
+keptAtStart program S = do
+  early 4 (valuesHold program (S .cells) (positions (S .kept) Values))
+  early 4 (identitiesHold program (S .cells) (positions (S .kept) Identities))
+
+abbrev pub tablesAtStart : List ℤ → State → Answer Early (Unit {0})
+tablesAtStart program S = do
+  early 3 (want 0 (environmentFits (wordAt (S .cells .heap) 0) (S .cells .environment)))
+  early 3 (want 1 (heapFits (S .cells .heap)))
+  early 3 (want 2 (constraintsStand program (S .kept)))
+  keptAtStart program S
+
+-- "Outcomes 1 to 4 are tried in that order"
 unfoldable pub starts : List ℤ → ℤ → State → Answer Early (Unit {0})
 starts program budget S = do
   early 1 (want 0 (sized (S .cells .environment) (S .cells .heap) (S .kept) && budgetFits budget))
   early 2 (readProgram program)
-  early 3 (want 0 (environmentFits (wordAt (S .cells .heap) 0) (S .cells .environment)))
-  early 3 (want 1 (heapFits (S .cells .heap)))
-  early 3 (want 2 (constraintsStand program (S .kept)))
-  early 4 (valuesHold program (S .cells) (positions (S .kept) Values))
-  early 4 (identitiesHold program (S .cells) (positions (S .kept) Identities))
+  tablesAtStart program S
 
 -- "It gives outcome, place, steps, proposals accepted, and hands back the unread words of the proposals"; the tests are told besides
 pub record Ended : Type 0 where

@@ -3,14 +3,9 @@ use Prim.Native.Nat.{ℕ}
 use mathlib.Core.Path.{_≡_}
 use mathlib.Core.List.{List, [], _∷_}
 use lib.IntN.{ℤ, pos}
-use Rattle.words.specs.Words.{wordAt}
-use Rattle.words.specs.Answer.{Answer, got, stop, _>>_, want}
-use Rattle.tables.specs.declared.Sort.the-variants.{Values, Identities}
-use Rattle.tables.specs.Cells.{Cells}
-use Rattle.fit.specs.Fit.{environmentFits, heapFits}
-use Rattle.program.specs.Where.{constraintsStand}
-use Rattle.rules.specs.State.{State, positions}
-use Rattle.rules.specs.Start.{Early, Ended, valuesHold, identitiesHold, early}
+use Rattle.words.specs.Answer.{Answer, got, stop}
+use Rattle.rules.specs.State.{State}
+use Rattle.rules.specs.Start.{Early, Ended}
 use Rattle.run.specs.declared.Held.{Held}
 use Rattle.run.specs.declared.Held.the-variants.{All, Not}
 use Rattle.run.specs.declared.Started.{Started}
@@ -26,17 +21,6 @@ heldOf (stop position) = Not position
 abbrev pub startedOf : Answer Early (Unit {0}) → Started
 startedOf (got u) = Begins
 startedOf (stop e) = Refused (e .number) (e .place)
-
--- the last parts of the rules' start: outcome 4, and outcomes 3 and 4
-abbrev pub keptAtStart : List ℤ → State → Answer Early (Unit {0})
-keptAtStart program S = early 4 (valuesHold program (S .cells) (positions (S .kept) Values)) >> early 4 (identitiesHold program (S .cells) (positions (S .kept) Identities))
-
-abbrev pub tablesAtStart : List ℤ → State → Answer Early (Unit {0})
-tablesAtStart program S = do
-  early 3 (want 0 (environmentFits (wordAt (S .cells .heap) 0) (S .cells .environment)))
-  early 3 (want 1 (heapFits (S .cells .heap)))
-  early 3 (want 2 (constraintsStand program (S .kept)))
-  keptAtStart program S
 
 -- "It gives outcome, place, steps, proposals accepted"
 abbrev pub answerOf : Ended → List ℤ

@@ -9,10 +9,10 @@ ghost use mathlib.Core.Path.{_≡_};
 ghost use Rattle.tables.specs.declared.Sort.the-variants.{Values, Identities};
 ghost use Rattle.tables.specs.Cells.{cells};
 ghost use Rattle.rules.specs.State.{positions};
-ghost use Rattle.rules.specs.Start.{budgetFits, valuesHold, identitiesHold};
+ghost use Rattle.rules.specs.Start.{budgetFits, valuesHold, identitiesHold, keptAtStart, tablesAtStart};
 ghost use Rattle.rules.specs.Start.{starts as startsBy};
 ghost use Rattle.phases.specs.Told.{tables};
-ghost use Rattle.run.specs.Told.{heldOf, startedOf, keptAtStart, tablesAtStart};
+ghost use Rattle.run.specs.Told.{heldOf, startedOf};
 
 // Every kept value constraint reads and its required parts hold; or the position of the first that does not.
 fn values_hold(program: &[i32], environment: &[i32], heap: &[i32], constraints: &[i32]) -> Held
@@ -88,7 +88,12 @@ fn holds_at_start(
 }
 
 // Outcome 3, and then 4.
-fn fits_at_start(program: &[i32], environment: &[i32], heap: &[i32], constraints: &[i32]) -> Started
+pub fn fits_at_start(
+    program: &[i32],
+    environment: &[i32],
+    heap: &[i32],
+    constraints: &[i32],
+) -> Started
     ensures { λ r. ⌜ r ≡ startedOf (tablesAtStart (now (program .entry)) (tables (now (environment .entry)) (now (heap .entry)) (now (constraints .entry)))) ⌝ }
 {
     if !fit::environment_fits(environment, heap) {

@@ -1,5 +1,6 @@
 //! The table of instructions, which valgrind counts.
 
+use crate::askings;
 use crate::cases::{self, Case};
 use crate::measured::{self, Answer, Side};
 use crate::printed::{self, Printed};
@@ -21,6 +22,10 @@ pub fn print() -> Result<(), String> {
         let (unit, units) = times::unit(&case, steps);
         row(case.name, case.title, unit, units)?;
     }
+    for sheet in askings::all() {
+        let askings = sheet.askings.len() as f64;
+        row(sheet.name, sheet.title, "asking", askings)?;
+    }
     for text in typed::all() {
         row(text.name, text.title, "byte", text.text.len() as f64)?;
     }
@@ -39,10 +44,15 @@ fn row(name: &str, title: &str, unit: &str, units: f64) -> Result<(), String> {
     Ok(())
 }
 
-/// Runs a case, reads a text or writes a program once or twice, for valgrind.
+/// Runs a case, asks about a sheet, reads a text or writes a program once or
+/// twice, for valgrind.
 pub fn some(name: &str, side: &str, runs: usize) -> Result<(), String> {
     let side = Side::BOTH.into_iter().find(|own| own.name() == side);
     let side = side.ok_or("there is no such program")?;
+    if let Some(sheet) = askings::all().iter().find(|sheet| sheet.name == name) {
+        askings::ask_all(side, sheet, &mut askings::before(sheet, 2), runs);
+        return Ok(());
+    }
     if let Some(text) = typed::all().iter().find(|text| text.name == name) {
         some_read(text, side, runs);
         return Ok(());

@@ -1,5 +1,6 @@
 //! Times the proved code and the independent program on the same sheets.
 
+mod askings;
 mod cases;
 mod clock;
 mod instructions;

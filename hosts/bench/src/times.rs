@@ -2,16 +2,19 @@
 
 use crate::cases::{self, Case};
 use crate::measured::{self, Side};
-use crate::{printed, typed};
+use crate::{askings, printed, typed};
 
 /// Times each case on both programs in turn, as often as said, and prints the
 /// medians.
 pub fn print(repetitions: usize) -> Result<(), String> {
-    let (cases, texts, programs) = (cases::all(), typed::all(), printed::all());
+    let (cases, sheets) = (cases::all(), askings::all());
+    let (texts, programs) = (typed::all(), printed::all());
     cases.iter().try_for_each(measured::agree)?;
+    sheets.iter().try_for_each(askings::agree)?;
     texts.iter().try_for_each(typed::agree)?;
     programs.iter().try_for_each(printed::agree)?;
     let seen = timed(&cases, repetitions, measured::time);
+    let asked = timed(&sheets, repetitions, askings::time);
     let read = timed(&texts, repetitions, typed::time);
     let written = timed(&programs, repetitions, printed::time);
     println!("| Case | Unit | Here, ns | reference/, ns | Ratio |");
@@ -19,6 +22,9 @@ pub fn print(repetitions: usize) -> Result<(), String> {
     for (case, seen) in cases.iter().zip(seen) {
         let (unit, units) = unit(case, case.steps);
         row(case.title, unit, units, seen);
+    }
+    for (sheet, seen) in sheets.iter().zip(asked) {
+        row(sheet.title, "asking", sheet.askings.len() as f64, seen);
     }
     for (text, seen) in texts.iter().zip(read) {
         row(text.title, "byte", text.text.len() as f64, seen);

@@ -53,7 +53,7 @@ fn k1() -> Typed {
 
 /// Ten cores in one file: for each its record, its length in bytes, bounds
 /// that are wished for, and a test.
-fn desk() -> Typed {
+pub fn desk() -> Typed {
     let cores: Vec<String> = (1..=10).map(core).collect();
     let text = format!(
         "file := new {{record_length: 512, header: 128, trailer: 8, cores: 0}};\n{}",

@@ -1,4 +1,4 @@
-/* Answers from the proved archives, for a machine that cannot link them. A question on standard input begins with a number, 0 to 5.
+/* Answers from the proved archives, for a machine that cannot link them. A question on standard input begins with a number, 0 to 6.
    0, of the reader: three counts, of the program's words, places and tables; the places; the program; the tables. The
    answer is the program's number, then one for each place and each table.
    1, of pieces: five counts, of the words of the program, the environment, the heap and the constraints, and of pieces;
@@ -10,11 +10,14 @@
    4, of a list: six counts, of the words of program, environment, heap, constraints, entries and proposals; the rest and the
    answer are as for a run.
    5, of a program to be written: four counts, of its words, of the source's bytes, of the words of names and of the bytes lent
-   for the text; all these. The answer is the four words of the writing's answer, how many bytes the text has, and the lent bytes. */
+   for the text; all these. The answer is the four words of the writing's answer, how many bytes the text has, and the lent bytes.
+   6, of an asking: six counts, of the words of program, environment, heap, constraints and both slices; the statement's word; the
+   words of them all. The answer is the three words of the asking's answer, how many words are accepted, and the three tables. */
 typedef __INT32_TYPE__ word;
 typedef __SIZE_TYPE__ number;
 
-enum { WORDS = 8192, PLACES = 1024, TABLES = 64, TABLE_WORDS = 98, PIECES = 256, BYTES = 1 << 20, LENT = 3, RUN_ROWS = 5, LIST_ROWS = 6 };
+enum { WORDS = 8192, PLACES = 1024, TABLES = 64, TABLE_WORDS = 98, PIECES = 256, BYTES = 1 << 20, LENT = 3, MOST_ROWS = 6 };
+enum { RUN = 3, LIST = 4, ASKING = 6 };
 
 number compared_program(const word *program, number words);
 number compared_statement(const word *program, number words, number at);
@@ -31,11 +34,13 @@ number cordbasin_run(const word *program, number p, word *environment, number e,
                      const word *proposals, number r, word budget, word *answer);
 number cordbasin_assign(const word *program, number p, word *environment, number e, word *heap, number h, word *constraints, number c,
                         const word *entries, number n, const word *proposals, number r, word budget, word *answer);
+number cordbasin_ask(const word *program, number p, word *environment, number e, word *heap, number h, word *constraints, number c,
+                     word at, const word *first, number f, const word *second, number s, word *answer);
 number cordbasin_write(const word *program, number p, const unsigned char *source, number s, const word *names, number n,
                        unsigned char *text, number t, word *answer);
 
-static number what, counts[LIST_ROWS], places[PLACES], answers[1 + PLACES + TABLES], pieces[PIECES][2];
-static word program[WORDS], tables[TABLES][TABLE_WORDS], environment[WORDS], heap[WORDS], constraints[WORDS], fours[PIECES][4], lent[LENT][WORDS], rows[LIST_ROWS][WORDS], budget;
+static number what, counts[MOST_ROWS], places[PLACES], answers[1 + PLACES + TABLES], pieces[PIECES][2];
+static word program[WORDS], tables[TABLES][TABLE_WORDS], environment[WORDS], heap[WORDS], constraints[WORDS], fours[PIECES][4], lent[LENT][WORDS], rows[MOST_ROWS][WORDS], single;
 static unsigned char text[BYTES], page[BYTES];
 
 static long call(long what, long first, const void *second, number third)
@@ -142,21 +147,22 @@ static void answer_text(void)
 /* A row and its count, as the calls take them. */
 #define ROW(i) rows[i], counts[i]
 
-/* Of a run or of a list, by how many rows of words it has. */
+/* Of a run, a list or an asking, which have so many rows of words and a single word beside them. */
 static void answer_call(int count)
 {
     pass(0, counts, count * sizeof *counts, 0);
-    pass(0, &budget, sizeof budget, 0);
+    pass(0, &single, sizeof single, 0);
     for (int i = 0; i < count; i++) {
         if (counts[i] > WORDS)
             leave(2);
         pass(0, rows[i], counts[i] * sizeof **rows, 0);
     }
-    if (count == RUN_ROWS)
-        answers[0] = cordbasin_run(ROW(0), ROW(1), ROW(2), ROW(3), ROW(4), budget, fours[0]);
-    else
-        answers[0] = cordbasin_assign(ROW(0), ROW(1), ROW(2), ROW(3), ROW(4), ROW(5), budget, fours[0]);
-    pass(1, fours[0], sizeof fours[0], 0);
+    switch (what) {
+    case RUN: answers[0] = cordbasin_run(ROW(0), ROW(1), ROW(2), ROW(3), ROW(4), single, fours[0]); break;
+    case LIST: answers[0] = cordbasin_assign(ROW(0), ROW(1), ROW(2), ROW(3), ROW(4), ROW(5), single, fours[0]); break;
+    default: answers[0] = cordbasin_ask(ROW(0), ROW(1), ROW(2), ROW(3), single, ROW(4), ROW(5), fours[0]);
+    }
+    pass(1, fours[0], (what == ASKING ? 3 : 4) * sizeof **fours, 0);
     pass(1, answers, sizeof *answers, 0);
     for (int i = 1; i <= LENT; i++)
         pass(1, rows[i], counts[i] * sizeof **rows, 0);
@@ -185,9 +191,10 @@ __attribute__((noreturn, used)) static void serve(void)
         case 0: answer_reader(); break;
         case 1: answer_pieces(); break;
         case 2: answer_text(); break;
-        case 3: answer_call(RUN_ROWS); break;
-        case 4: answer_call(LIST_ROWS); break;
+        case RUN: answer_call(5); break;
+        case LIST: answer_call(6); break;
         case 5: answer_program(); break;
+        case ASKING: answer_call(6); break;
         default: leave(2);
         }
     }

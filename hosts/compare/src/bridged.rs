@@ -25,7 +25,7 @@ impl Proved {
         })
     }
 
-    pub fn ask(&mut self, question: &Question) -> io::Result<Answer> {
+    pub fn ask_reader(&mut self, question: &Question) -> io::Result<Answer> {
         self.send(&bytes(question))?;
         let program = self.number()?;
         let statements = self.numbers(question.places.len())?;
@@ -39,7 +39,7 @@ impl Proved {
 
     pub fn ask_pieces(&mut self, question: &Pieces) -> io::Result<Vec<Four>> {
         self.send(&piece_bytes(question))?;
-        (0..question.pieces.len()).map(|_| self.four()).collect()
+        (0..question.pieces.len()).map(|_| self.row()).collect()
     }
 
     /// What `cordbasin_read` answers and returns; program, origins and names
@@ -73,6 +73,18 @@ impl Proved {
         self.call(4, program, tables, &[entries, proposals], budget)
     }
 
+    /// What `cordbasin_ask` answers and returns, in the same way.
+    pub fn ask(
+        &mut self,
+        program: &[i32],
+        tables: &mut [Vec<i32>; 3],
+        word: i32,
+        first: &[i32],
+        second: &[i32],
+    ) -> io::Result<Option<Told<3>>> {
+        self.call(6, program, tables, &[first, second], word)
+    }
+
     /// What `cordbasin_write` answers and returns; the text's bytes are lent.
     pub fn write(
         &mut self,
@@ -84,32 +96,36 @@ impl Proved {
         let counts = [5, program.len(), source.len(), names.len(), text.len()];
         let rows = [&words([program]), source, &words([names]), &*text];
         self.send(&[numbers(counts), rows.concat()].concat())?;
-        let (four, number) = (self.four()?, self.number()?);
+        let (four, number) = (self.row()?, self.number()?);
         self.answers.read_exact(text)?;
         Ok(Some((four, number)))
     }
 
-    fn call(
+    /// The single word is a budget, or that of a statement.
+    fn call<const WORDS: usize>(
         &mut self,
         question: usize,
         program: &[i32],
         tables: &mut [Vec<i32>; 3],
         rest: &[&[i32]],
-        budget: i32,
-    ) -> io::Result<Option<Told>> {
+        single: i32,
+    ) -> io::Result<Option<Told<WORDS>>> {
         let [environment, heap, constraints] = &*tables;
         let rows = [&[program, environment, heap, constraints], rest].concat();
-        self.send(&call_bytes(question, &rows, budget))?;
+        self.send(&call_bytes(question, &rows, single))?;
         self.told(tables)
     }
 
-    fn told(&mut self, lent: &mut [Vec<i32>; 3]) -> io::Result<Option<Told>> {
-        let four = self.four()?;
+    fn told<const WORDS: usize>(
+        &mut self,
+        lent: &mut [Vec<i32>; 3],
+    ) -> io::Result<Option<Told<WORDS>>> {
+        let answer = self.row()?;
         let number = self.number()?;
         for word in lent.iter_mut().flatten() {
             *word = self.word()?;
         }
-        Ok(Some((four, number)))
+        Ok(Some((answer, number)))
     }
 
     fn send(&mut self, bytes: &[u8]) -> io::Result<()> {
@@ -119,12 +135,12 @@ impl Proved {
         questions.flush()
     }
 
-    fn four(&mut self) -> io::Result<Four> {
-        let mut four = [0; 4];
-        for word in &mut four {
+    fn row<const WORDS: usize>(&mut self) -> io::Result<[i32; WORDS]> {
+        let mut row = [0; WORDS];
+        for word in &mut row {
             *word = self.word()?;
         }
-        Ok(four)
+        Ok(row)
     }
 
     fn word(&mut self) -> io::Result<i32> {
@@ -180,10 +196,10 @@ fn text_bytes(text: &[u8], lent: &[Vec<i32>; 3]) -> Vec<u8> {
     [numbers(counts), text.to_vec(), words(lent)].concat()
 }
 
-fn call_bytes(question: usize, rows: &[&[i32]], budget: i32) -> Vec<u8> {
+fn call_bytes(question: usize, rows: &[&[i32]], single: i32) -> Vec<u8> {
     let counts = rows.iter().map(|row| row.len());
     let counts = [question].into_iter().chain(counts);
-    [numbers(counts), words([[budget]]), words(rows)].concat()
+    [numbers(counts), words([[single]]), words(rows)].concat()
 }
 
 fn numbers(numbers: impl IntoIterator<Item = usize>) -> Vec<u8> {

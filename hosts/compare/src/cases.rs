@@ -1,8 +1,9 @@
-//! One case, a sheet or a list: the C call and the independent program on the
-//! same words. Where the call is not x86-64 code, that code answers it too.
+//! One case, a sheet, a list or an asking: the C call and the independent
+//! program on the same words. Where the call is not x86-64 code, that code
+//! answers it too.
 
 use crate::proved::{Proved, Told};
-use reference::batch::{Finish, Sheet};
+use reference::batch::Finish;
 use reference::outcome::Outcome;
 use reference::run::Answer;
 use std::fmt::{Debug, Display};
@@ -16,50 +17,61 @@ pub trait Case: Debug + Sized {
     const NAME: &'static str;
     /// Those that it may end with.
     const OUTCOMES: &'static [Outcome];
+    /// What a call tells beside the tables.
+    type Answer: PartialEq;
     type Noted: Noted<Self>;
 
     fn generated(seed: u64, index: u64) -> Self;
 
-    /// The sheet with its tables; of a list all but the entries.
-    fn sheet(&self) -> &Sheet;
+    /// The tables that are lent.
+    fn lent(&self) -> [&Vec<i32>; 3];
 
     fn line(&self) -> String;
 
-    fn independent(&self) -> Finish;
+    /// The line of an answer to this case.
+    fn answer_line(&self, finish: &Finish<Self::Answer>) -> String;
+
+    fn outcome(answer: &Self::Answer) -> i32;
+
+    fn independent(&self) -> Finish<Self::Answer>;
 
     /// What the C call answers.
-    fn proved(&self, tables: &mut Tables) -> Answer;
+    fn proved(&self, tables: &mut Tables) -> Self::Answer;
 
     /// What x86-64 code answers, where the call is other code.
-    fn emulated(&self, tables: &mut Tables, proved: &mut Proved) -> io::Result<Option<Told>>;
+    fn emulated(
+        &self,
+        tables: &mut Tables,
+        proved: &mut Proved,
+    ) -> io::Result<Option<Self::Answer>>;
 }
 
 /// What is counted of many cases beside their outcomes.
-pub trait Noted<C>: Debug + Default + Display + Send {
+pub trait Noted<C: Case>: Debug + Default + Display + Send {
     /// Counts a case to which all gave this answer. The error is a difference
     /// that shows where the case is put in another way.
-    fn note(&mut self, case: &C, finish: &Finish) -> Result<(), String>;
+    fn note(&mut self, case: &C, finish: &Finish<C::Answer>) -> Result<(), String>;
 
     fn add(&mut self, other: &Self);
 }
 
 /// An answer that all gave.
-pub struct Agreed {
+pub struct Agreed<C: Case> {
     /// Which of the case's outcomes.
     pub outcome: usize,
-    pub finish: Finish,
+    pub finish: Finish<C::Answer>,
     /// Whether x86-64 code answered under the emulator too.
     pub emulated: bool,
 }
 
 /// What the C call gives, on copies of the case's tables.
-pub fn call<C: Case>(case: &C) -> Finish {
+pub fn call<C: Case>(case: &C) -> Finish<C::Answer> {
     let mut tables = copies(case);
     let answer = case.proved(&mut tables);
     finish(answer, tables)
 }
 
-/// A call's answer as the independent program has it.
+/// The answer of a run or a list as the independent program has it.
 pub fn answer(
     outcome: cordbasin::Outcome,
     place: usize,
@@ -77,7 +89,7 @@ pub fn answer(
 }
 
 /// Asks all about a case. The inner error is a difference.
-pub fn compare<C: Case>(case: &C, proved: &mut Proved) -> io::Result<Result<Agreed, String>> {
+pub fn compare<C: Case>(case: &C, proved: &mut Proved) -> io::Result<Result<Agreed<C>, String>> {
     let emulated = emulated(case, proved)?;
     let independent = case.independent();
     Ok(compare_finishes(case, emulated, independent))
@@ -85,15 +97,15 @@ pub fn compare<C: Case>(case: &C, proved: &mut Proved) -> io::Result<Result<Agre
 
 fn compare_finishes<C: Case>(
     case: &C,
-    emulated: Option<Finish>,
-    independent: Finish,
-) -> Result<Agreed, String> {
+    emulated: Option<Finish<C::Answer>>,
+    independent: Finish<C::Answer>,
+) -> Result<Agreed<C>, String> {
     if let Some(finish) = &emulated {
         same(case, finish, "independent", &independent)?;
     }
     same(case, &call(case), "independent", &independent)?;
     let mut outcomes = C::OUTCOMES.iter().map(|outcome| outcome.number());
-    match outcomes.position(|number| number == independent.answer.outcome) {
+    match outcomes.position(|number| number == C::outcome(&independent.answer)) {
         Some(outcome) => Ok(Agreed {
             outcome,
             finish: independent,
@@ -103,28 +115,34 @@ fn compare_finishes<C: Case>(
             "{}\nno outcome of a {}: {}",
             case.line(),
             C::NAME,
-            independent.line(case.sheet())
+            case.answer_line(&independent)
         )),
     }
 }
 
 /// The text of a difference tells the case and both answers.
-pub fn same<C: Case>(case: &C, proved: &Finish, who: &str, other: &Finish) -> Result<(), String> {
+pub fn same<C: Case>(
+    case: &C,
+    proved: &Finish<C::Answer>,
+    who: &str,
+    other: &Finish<C::Answer>,
+) -> Result<(), String> {
     if proved == other {
         return Ok(());
     }
-    let [proved, other] = [proved, other].map(|finish| finish.line(case.sheet()));
+    let [proved, other] = [proved, other].map(|finish| case.answer_line(finish));
     Err(format!("{}\nproved: {proved}\n{who}: {other}", case.line()))
 }
 
-fn emulated<C: Case>(case: &C, proved: &mut Proved) -> io::Result<Option<Finish>> {
+fn emulated<C: Case>(case: &C, proved: &mut Proved) -> io::Result<Option<Finish<C::Answer>>> {
     let mut tables = copies(case);
-    let told = case.emulated(&mut tables, proved)?;
-    Ok(told.map(|told| finish(answer_of(told), tables)))
+    let answer = case.emulated(&mut tables, proved)?;
+    Ok(answer.map(|answer| finish(answer, tables)))
 }
 
-/// A number that no call gives becomes one that differs from every answer.
-fn answer_of(([outcome, place, steps, accepted], unread): Told) -> Answer {
+/// The answer of a run or a list. A number that no call gives becomes one that
+/// differs from every answer.
+pub fn answer_of(([outcome, place, steps, accepted], unread): Told) -> Answer {
     Answer {
         outcome,
         place: usize::try_from(place).unwrap_or(usize::MAX),
@@ -135,11 +153,10 @@ fn answer_of(([outcome, place, steps, accepted], unread): Told) -> Answer {
 }
 
 fn copies<C: Case>(case: &C) -> Tables {
-    let sheet = case.sheet();
-    [&sheet.environment, &sheet.heap, &sheet.constraints].map(Vec::clone)
+    case.lent().map(Vec::clone)
 }
 
-fn finish(answer: Answer, [environment, heap, constraints]: Tables) -> Finish {
+fn finish<A>(answer: A, [environment, heap, constraints]: Tables) -> Finish<A> {
     Finish {
         answer,
         environment,

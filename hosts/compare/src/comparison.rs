@@ -59,7 +59,7 @@ fn compare_list(
     let read = independent::read(&list.words);
     let question = question(numbers, &read, list);
     let independent = independent::answer(&read, &question);
-    let answer = proved.ask(&question)?;
+    let answer = proved.ask_reader(&question)?;
     if answer != independent {
         return Err(Stop::Difference(format!(
             "{question:?}\nproved: {answer:?}\nindependent: {independent:?}"

@@ -81,7 +81,7 @@ impl<C: Case> Tally<C> {
         self.outcomes.iter().sum()
     }
 
-    fn count(&mut self, case: &C, agreed: &Agreed) -> Result<(), String> {
+    fn count(&mut self, case: &C, agreed: &Agreed<C>) -> Result<(), String> {
         self.noted.note(case, &agreed.finish)?;
         self.outcomes[agreed.outcome] += 1;
         self.emulated += u64::from(agreed.emulated);

@@ -4,7 +4,7 @@
 use crate::cases::{self, Case, Noted, Tables};
 use crate::comparison::Stop;
 use crate::dealt;
-use crate::proved::{Proved, Told};
+use crate::proved::Proved;
 use crate::sheets;
 use reference::batch::{Finish, List, Sheet};
 use reference::causes::Causes;
@@ -54,18 +54,27 @@ pub fn call(list: &List) -> Finish {
 impl Case for List {
     const NAME: &'static str = "list";
     const OUTCOMES: &'static [Outcome] = &Outcome::OF_LISTS;
+    type Answer = Answer;
     type Noted = Counts;
 
     fn generated(seed: u64, index: u64) -> List {
         generator::list(seed, index)
     }
 
-    fn sheet(&self) -> &Sheet {
-        &self.sheet
+    fn lent(&self) -> [&Vec<i32>; 3] {
+        self.sheet.lent()
     }
 
     fn line(&self) -> String {
         List::line(self)
+    }
+
+    fn answer_line(&self, finish: &Finish) -> String {
+        finish.line(&self.sheet)
+    }
+
+    fn outcome(answer: &Answer) -> i32 {
+        answer.outcome
     }
 
     fn independent(&self) -> Finish {
@@ -92,14 +101,15 @@ impl Case for List {
         )
     }
 
-    fn emulated(&self, tables: &mut Tables, proved: &mut Proved) -> io::Result<Option<Told>> {
+    fn emulated(&self, tables: &mut Tables, proved: &mut Proved) -> io::Result<Option<Answer>> {
         let Sheet {
             program,
             proposals,
             budget,
             ..
         } = &self.sheet;
-        proved.assign(program, tables, &self.entries, proposals, *budget)
+        let told = proved.assign(program, tables, &self.entries, proposals, *budget)?;
+        Ok(told.map(cases::answer_of))
     }
 }
 

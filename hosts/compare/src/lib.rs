@@ -1,6 +1,7 @@
 //! Compares the proved functions with the independent program.
 
 pub mod answering;
+pub mod askings;
 pub mod cases;
 pub mod comparison;
 pub mod damage;

@@ -73,7 +73,7 @@ impl Proved {
         Ok(Proved)
     }
 
-    pub fn ask(&mut self, question: &Question) -> io::Result<Answer> {
+    pub fn ask_reader(&mut self, question: &Question) -> io::Result<Answer> {
         let program = &question.program;
         let places = question.places.iter();
         let tables = question.tables.iter();
@@ -114,6 +114,18 @@ impl Proved {
         _proposals: &[i32],
         _budget: i32,
     ) -> io::Result<Option<Told>> {
+        Ok(None)
+    }
+
+    /// As `read`.
+    pub fn ask(
+        &mut self,
+        _program: &[i32],
+        _tables: &mut [Vec<i32>; 3],
+        _word: i32,
+        _first: &[i32],
+        _second: &[i32],
+    ) -> io::Result<Option<Told<3>>> {
         Ok(None)
     }
 

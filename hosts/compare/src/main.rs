@@ -1,13 +1,13 @@
 //! The command line of the comparison.
 
 use compare::comparison::{self, Stop};
-use compare::{entries, expressions, lister, notation, sheets, writings};
+use compare::{askings, entries, expressions, lister, notation, sheets, writings};
 use std::fmt::Display;
 use std::process::ExitCode;
 use std::time::Instant;
 
 const USAGE: &str =
-    "usage: compare reader|expressions|sheets|entries|lister|notation|writings SEED COUNT";
+    "usage: compare reader|expressions|sheets|entries|askings|lister|notation|writings SEED COUNT";
 
 fn main() -> ExitCode {
     let arguments: Vec<String> = std::env::args_os()
@@ -21,6 +21,7 @@ fn main() -> ExitCode {
             ("expressions", Ok(seed), Ok(count)) => report(|| expressions::compare(seed, count)),
             ("sheets", Ok(seed), Ok(count)) => report(|| sheets::compare(seed, count)),
             ("entries", Ok(seed), Ok(count)) => report(|| entries::compare(seed, count)),
+            ("askings", Ok(seed), Ok(count)) => report(|| askings::compare(seed, count)),
             ("lister", Ok(seed), Ok(count)) => report(|| lister::compare(seed, count)),
             ("notation", Ok(seed), Ok(count)) => report(|| notation::compare(seed, count)),
             ("writings", Ok(seed), Ok(count)) => report(|| writings::compare(seed, count)),

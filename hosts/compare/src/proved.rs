@@ -41,8 +41,8 @@ pub struct Pieces {
 /// all parts are satisfied, 1 where the required ones are.
 pub type Four = [i32; 4];
 
-/// The four words of a call's answer, and the number that it returns.
-pub type Told = (Four, usize);
+/// The words of a call's answer, four or three, and the number that it returns.
+pub type Told<const WORDS: usize = 4> = ([i32; WORDS], usize);
 
 /// All that is asked about one program; each table has 98 words.
 #[derive(Debug, Default)]

@@ -3,7 +3,7 @@
 use crate::cases::{self, Case, Noted, Tables};
 use crate::comparison::Stop;
 use crate::dealt;
-use crate::proved::{Proved, Told};
+use crate::proved::Proved;
 use reference::batch::{Finish, Sheet};
 use reference::counts::Counts;
 use reference::generator;
@@ -51,18 +51,27 @@ pub fn call(sheet: &Sheet) -> Finish {
 impl Case for Sheet {
     const NAME: &'static str = "sheet";
     const OUTCOMES: &'static [Outcome] = &Outcome::ALL;
+    type Answer = Answer;
     type Noted = Counts;
 
     fn generated(seed: u64, index: u64) -> Sheet {
         generator::sheet(seed, index)
     }
 
-    fn sheet(&self) -> &Sheet {
-        self
+    fn lent(&self) -> [&Vec<i32>; 3] {
+        [&self.environment, &self.heap, &self.constraints]
     }
 
     fn line(&self) -> String {
         Sheet::line(self)
+    }
+
+    fn answer_line(&self, finish: &Finish) -> String {
+        finish.line(self)
+    }
+
+    fn outcome(answer: &Answer) -> i32 {
+        answer.outcome
     }
 
     fn independent(&self) -> Finish {
@@ -87,8 +96,9 @@ impl Case for Sheet {
         )
     }
 
-    fn emulated(&self, tables: &mut Tables, proved: &mut Proved) -> io::Result<Option<Told>> {
-        proved.run(&self.program, tables, &self.proposals, self.budget)
+    fn emulated(&self, tables: &mut Tables, proved: &mut Proved) -> io::Result<Option<Answer>> {
+        let told = proved.run(&self.program, tables, &self.proposals, self.budget)?;
+        Ok(told.map(cases::answer_of))
     }
 }
 

@@ -1,26 +1,42 @@
 //! The C calls on every batch sheet, of the decisions and of the outcomes.
 
-use compare::{entries, sheets};
-use reference::batch::{List, Sheet};
+use compare::{askings, entries, sheets};
+use reference::batch::{Asking, List, Sheet};
 use std::fs;
 use std::path::Path;
 
-/// The answer line of a C call: `cordbasin_run` for a sheet, `cordbasin_assign`
-/// for a list.
-fn answer(line: &str) -> String {
-    if let Some(sheet) = Sheet::parse(line.as_bytes()) {
-        return sheets::call(&sheet).line(&sheet);
-    }
-    let list = List::parse(line.as_bytes()).expect("a sheet or a list");
-    entries::call(&list).line(&list.sheet)
+/// How many lines each call answered.
+#[derive(Debug, Default, PartialEq, Eq)]
+struct Answered {
+    sheets: usize,
+    lists: usize,
+    askings: usize,
 }
 
-/// Runs the batch sheets of a folder, and gives how many there are.
-fn test_folder(name: &str) -> usize {
+impl Answered {
+    /// The answer line of a C call: `cordbasin_run` for a sheet,
+    /// `cordbasin_assign` for a list, `cordbasin_ask` for an asking.
+    fn answer(&mut self, line: &str) -> String {
+        if let Some(sheet) = Sheet::parse(line.as_bytes()) {
+            self.sheets += 1;
+            return sheets::call(&sheet).line(&sheet);
+        }
+        if let Some(asking) = Asking::parse(line.as_bytes()) {
+            self.askings += 1;
+            return askings::call(&asking).line(&asking);
+        }
+        let list = List::parse(line.as_bytes()).expect("a sheet, a list or an asking");
+        self.lists += 1;
+        entries::call(&list).line(&list.sheet)
+    }
+}
+
+/// Runs the batch sheets of a folder.
+fn test_folder(name: &str) -> Answered {
     let folder = Path::new(env!("CARGO_MANIFEST_DIR"))
         .join("../../sheets")
         .join(name);
-    let mut sheets = 0;
+    let mut answered = Answered::default();
     for entry in fs::read_dir(folder).expect("a folder of sheets") {
         let path = entry.expect("an entry").path();
         if path.extension().is_none_or(|name| name != "txt") {
@@ -32,19 +48,26 @@ fn test_folder(name: &str) -> usize {
             let [shown, line, expected] = group else {
                 panic!("{}: three lines make a group", path.display());
             };
-            assert_eq!(answer(line), *expected, "{}: {shown}", path.display());
-            sheets += 1;
+            let answer = answered.answer(line);
+            assert_eq!(answer, *expected, "{}: {shown}", path.display());
         }
     }
-    sheets
+    answered
 }
 
 #[test]
 fn decisions_have_their_answers() {
-    assert!(test_folder("readings") > 60);
+    let answered = test_folder("readings");
+    assert!(answered.sheets > 60, "{answered:?}");
+    assert!(answered.askings > 100, "{answered:?}");
 }
 
 #[test]
 fn outcomes_have_their_answers() {
-    assert_eq!(test_folder("outcomes"), 21);
+    let expected = Answered {
+        sheets: 7,
+        lists: 14,
+        askings: 32,
+    };
+    assert_eq!(test_folder("outcomes"), expected);
 }

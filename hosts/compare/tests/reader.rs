@@ -16,7 +16,7 @@ fn each_limit_has_its_place() {
             program: limit.words,
             ..Question::default()
         };
-        let answer = proved.ask(&question).expect("an answer");
+        let answer = proved.ask_reader(&question).expect("an answer");
         let wanted = limit.place.map_or(0, |place| place + 1);
         assert_eq!(answer.program, wanted, "proved reader: {name}");
     }
@@ -41,7 +41,7 @@ fn the_worked_sheet_has_three_statements() {
         places: vec![0, 1, 2, 10, 11, 27, 33],
         tables: vec![kept(0, 0), kept(1, 10), kept(1, 1), kept(0, 10)],
     };
-    let answer = proved.ask(&question).expect("an answer");
+    let answer = proved.ask_reader(&question).expect("an answer");
     assert_eq!(answer.program, 0);
     let statement = |verb: usize| 1 + 16 * verb + 7;
     let (new, always, assign) = (statement(2), statement(3), statement(1));

@@ -39,12 +39,15 @@ fn program(numbers: &str) -> Option<Vec<i32>> {
     words.ok().filter(|words| Program::decode(words).is_ok())
 }
 
-/// The programs of a lister's sheet, or of batch sheets.
+/// The programs of a lister's sheet, or of batch sheets, lists and askings.
 fn programs(file: &Path) -> Vec<Vec<i32>> {
     let text = fs::read_to_string(file).expect("a sheet");
     let of_line = |line: &str| match line.strip_prefix("program=") {
         Some(words) => program(words),
-        None => program(line.split_once('|')?.0),
+        None => {
+            let fields = line.strip_prefix("ask|").unwrap_or(line);
+            program(fields.split_once('|')?.0)
+        }
     };
     text.lines().filter_map(of_line).collect()
 }

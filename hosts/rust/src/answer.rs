@@ -51,8 +51,9 @@ pub struct ListAnswer<'p> {
 }
 
 /// How a run ended, under document 01's numbers; how a text was read, which is
-/// 0, 1 or 20 to 22; how a list ended, which is a run's or 23; or how a program
-/// was written, which is 0 to 2, 24 or 25. Prints as what it says.
+/// 0, 1 or 20 to 22; how a list ended, which is a run's or 23; how a statement
+/// with two solvers ended, which is a run's but for 5; or how a program was
+/// written, which is 0 to 2, 24 or 25. Prints as what it says.
 ///
 /// 1 to 4 are tried in their order; they cost no steps, accept no proposal and
 /// change no table. From 5 on the tables hold what the last accepted statement
@@ -63,12 +64,15 @@ pub struct ListAnswer<'p> {
 /// list the place is, from 5 on, the refused entry's index.
 #[derive(Clone, Copy, Debug, PartialEq, Eq, PartialOrd, Ord, Hash)]
 pub enum Outcome {
-    /// The place is the program's length, or the number of a list's entries.
+    /// The place is the program's length, the number of a list's entries, or
+    /// the word of the statement that two solvers were asked about.
     Finished = 0,
     /// A table's length or the budget is wrong. The place is 0.
     WrongSize = 1,
     /// The program does not read. The place is its first unfit word, its
-    /// length if words run out, 4096 if it has over 4,096 words.
+    /// length if words run out, 4096 if it has over 4,096 words. For two
+    /// solvers also: no statement that reads a proposal begins at the word that
+    /// was asked about, which is the place.
     UnfitProgram = 2,
     /// A table's content is unfit. The place is the first such table: 0
     /// environment, 1 heap, 2 constraints.
@@ -104,7 +108,8 @@ pub enum Outcome {
     /// constraint, in kept order: the word that 7 or 8 would have there.
     LostConstraint = 15,
     /// The proposal is cut short, its n is out of range, or its locations do
-    /// not rise or are outside 0 to 575.
+    /// not rise or are outside 0 to 575. For two solvers also: words are left
+    /// over behind it.
     UnfitProposal = 16,
     /// An entry of the proposal names a cell or a payload that it may not.
     UnfitEntry = 17,

@@ -1,6 +1,10 @@
 //! The calls of libcordbasin.a, made safe.
 
 use crate::answer::{Answer, ListAnswer, Outcome};
+use crate::asking::Asked;
+use crate::linked::{
+    cordbasin_ask, cordbasin_assign, cordbasin_read, cordbasin_run, cordbasin_write,
+};
 use crate::tables::Tables;
 
 /// The largest budget that is not refused.
@@ -14,64 +18,6 @@ pub const LONGEST_TEXT: usize = 65_536;
 
 /// Words of a table of names: place and length of 64 variables and 32 labels.
 pub const NAMES_WORDS: usize = 192;
-
-extern "C" {
-    fn cordbasin_run(
-        program: *const i32,
-        program_words: usize,
-        environment: *mut i32,
-        environment_words: usize,
-        heap: *mut i32,
-        heap_words: usize,
-        constraints: *mut i32,
-        constraints_words: usize,
-        proposals: *const i32,
-        proposals_words: usize,
-        budget: i32,
-        answer: *mut [i32; 4],
-    ) -> usize;
-
-    fn cordbasin_assign(
-        program: *const i32,
-        program_words: usize,
-        environment: *mut i32,
-        environment_words: usize,
-        heap: *mut i32,
-        heap_words: usize,
-        constraints: *mut i32,
-        constraints_words: usize,
-        entries: *const i32,
-        entries_words: usize,
-        proposals: *const i32,
-        proposals_words: usize,
-        budget: i32,
-        answer: *mut [i32; 4],
-    ) -> usize;
-
-    fn cordbasin_read(
-        text: *const u8,
-        text_bytes: usize,
-        program: *mut i32,
-        program_words: usize,
-        origins: *mut i32,
-        origins_words: usize,
-        names: *mut i32,
-        names_words: usize,
-        answer: *mut [i32; 4],
-    ) -> usize;
-
-    fn cordbasin_write(
-        program: *const i32,
-        program_words: usize,
-        source: *const u8,
-        source_bytes: usize,
-        names: *const i32,
-        names_words: usize,
-        text: *mut u8,
-        text_bytes: usize,
-        answer: *mut [i32; 4],
-    ) -> usize;
-}
 
 /// Runs a program on tables, which then hold what the run left. Ends within
 /// the budget, 0 to 1,000,000 steps.
@@ -189,6 +135,75 @@ pub fn assign_words<'p>(
     match typed(answer, proposals, unread) {
         Some(answer) => ListAnswer::of(answer),
         None => panic!("libcordbasin.a gave {answer:?} and {unread} words unread"),
+    }
+}
+
+/// Asks two solvers about the statement that begins at a word of the program:
+/// an assignment, a new, or an always or once of a constraint, on any depth. It
+/// is done by itself, on tables which then hold what it left; the blocks around
+/// it and their tests do not count, and neither do steps.
+///
+/// Each slice is one proposal and no word more. The second is tried where the
+/// first is turned down: with 6, which is for a slice without words, or with 16
+/// to 19. If it is turned down too, the outcome is the second's, or the first's
+/// where the second slice has no words.
+///
+/// A word that begins no such statement is refused with
+/// [`Outcome::UnfitProgram`]. One that is no word of 32 bits is told as the
+/// largest of them, which no program has either.
+pub fn ask<'p>(
+    program: &[i32],
+    tables: &mut Tables,
+    word: usize,
+    first: &'p [i32],
+    second: &'p [i32],
+) -> Asked<'p> {
+    ask_words(
+        program,
+        &mut tables.environment,
+        &mut tables.heap,
+        &mut tables.constraints,
+        i32::try_from(word).unwrap_or(i32::MAX),
+        first,
+        second,
+    )
+}
+
+/// As [`ask`], on tables that the host keeps as slices of its own, and for any
+/// word. A slice of another length than its table's is refused with
+/// [`Outcome::WrongSize`].
+pub fn ask_words<'p>(
+    program: &[i32],
+    environment: &mut [i32],
+    heap: &mut [i32],
+    constraints: &mut [i32],
+    word: i32,
+    first: &'p [i32],
+    second: &'p [i32],
+) -> Asked<'p> {
+    let mut answer = [-1; 3];
+    // SAFETY: as in `run_words`.
+    let accepted = unsafe {
+        cordbasin_ask(
+            program.as_ptr(),
+            program.len(),
+            environment.as_mut_ptr(),
+            environment.len(),
+            heap.as_mut_ptr(),
+            heap.len(),
+            constraints.as_mut_ptr(),
+            constraints.len(),
+            word,
+            first.as_ptr(),
+            first.len(),
+            second.as_ptr(),
+            second.len(),
+            &mut answer,
+        )
+    };
+    match Asked::of(word, answer, accepted, [first, second]) {
+        Some(asked) => asked,
+        None => panic!("libcordbasin.a gave {answer:?} and {accepted} words accepted"),
     }
 }
 

@@ -6,10 +6,11 @@
 //! [`Program::read`] reads a sheet as it is typed. [`run`] takes a program's
 //! words, [`Tables`], proposals and a budget, and gives an [`Answer`].
 //! [`assign`] sets fields by a list of [`Entries`], each [`Entry`] a target and
-//! a literal, and gives a [`ListAnswer`]. A [`Program`] prints as its text,
-//! and [`write()`] gives that of words alone. The work is done by
-//! `libcordbasin.a`, each function of which is proved to meet its contract;
-//! this crate is not proved. It links that archive, which
+//! a literal, and gives a [`ListAnswer`]. [`ask`] takes the proposals of two
+//! solvers for one statement, and says in [`Asked`] whose was accepted. A
+//! [`Program`] prints as its text, and [`write()`] gives that of words alone.
+//! The work is done by `libcordbasin.a`, each function of which is proved to
+//! meet its contract; this crate is not proved. It links that archive, which
 //! `tools/native cordbasin` writes, and has no dependencies. A call allocates
 //! nothing and keeps nothing, so that two threads may run on tables of their
 //! own.
@@ -101,6 +102,37 @@
 //! # Ok::<(), cordbasin::Refusal>(())
 //! ```
 //!
+//! Two solvers may be asked about one statement, such as the one that a run
+//! has stopped at for want of a proposal. The second's is tried where the
+//! first's is turned down, and the accepted words come back as a part of the
+//! slice that they came from:
+//!
+//! ```
+//! use cordbasin::{ask, run, Outcome, Program, Solver, Tables, Value};
+//!
+//! let program = Program::read("x := new {bytes: 64, samples: 16};
+//! always required x.bytes = 4 * x.samples;
+//! x.samples := 32")?;
+//! let mut tables = Tables::fresh();
+//! let answer = run(program.words(), &mut tables, &[0, 0], 100);
+//! assert_eq!(answer.outcome, Outcome::NoProposal);
+//!
+//! // No change, says the first, and 128 for x.bytes, says the second.
+//! let (first, second) = ([0], [1, 64, 128]);
+//! let asked = ask(program.words(), &mut tables.clone(), answer.place, &first, &second);
+//! assert_eq!(asked.accepted, Some((Solver::Second, &second[..])));
+//! assert_eq!(asked.to_string(), "0 at word 27: finished, by the second solver");
+//!
+//! let asked = ask(program.words(), &mut tables, answer.place, &first, &[1, 65, 16]);
+//! let refusal = program.asked_refusal(&asked).expect("a refusal");
+//! assert_eq!(refusal.to_string(),
+//! "17 at line 3, column 1: an entry names a cell or payload it may not
+//! x.samples := 32
+//! ^");
+//! assert_eq!(tables.at(0, &[1]), Some(Value::Int(16)));
+//! # Ok::<(), cordbasin::Refusal>(())
+//! ```
+//!
 //! A program is written back in one form, whoever typed it. Words alone have no
 //! names: they get `v0` and `f0`, or those that are given. The text stands in
 //! bytes that the host lends:
@@ -128,14 +160,18 @@
 #![warn(missing_docs)]
 
 mod answer;
+mod asking;
 mod call;
 mod entry;
+mod linked;
 mod program;
 mod tables;
 mod text;
 
 pub use answer::{Answer, ListAnswer, Outcome};
-pub use call::{assign, assign_words, read_words, run, run_words, write_words, Reading, Writing};
+pub use asking::{Asked, Solver};
+pub use call::{ask, ask_words, assign, assign_words, run, run_words};
+pub use call::{read_words, write_words, Reading, Writing};
 pub use call::{LARGEST_BUDGET, LONGEST_PROGRAM, LONGEST_TEXT, NAMES_WORDS};
 pub use entry::{Entries, Entry, Literal, LONGEST_ENTRY};
 pub use program::{Program, Refusal, Spot};

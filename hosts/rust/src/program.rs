@@ -2,6 +2,7 @@
 //! in the text.
 
 use crate::answer::{Answer, Outcome};
+use crate::asking::{Asked, NO_STATEMENT};
 use crate::call::{read_words, LONGEST_PROGRAM, LONGEST_TEXT, NAMES_WORDS};
 use crate::entry::{Entry, Literal, LONGEST_PATH};
 use crate::text::{written, Unwritten};
@@ -24,17 +25,17 @@ pub struct Program<'t> {
     labels: usize,
 }
 
-/// A refusal and its place in the text: of a text that is no program, or of a
-/// run of its program.
+/// A refusal and its place in the text: of a text that is no program, of a run
+/// of its program, or of two solvers on a statement of it.
 ///
 /// Prints the number and what it says with line and column, then the text's
 /// line, and a mark under the place.
 #[derive(Clone, Copy, Debug, PartialEq, Eq)]
 pub struct Refusal<'t> {
-    /// 20 to 22 for a text, 4 to 19 for a run.
+    /// 20 to 22 for a text, 4 to 19 for a run, 2 or 4 to 19 for two solvers.
     pub outcome: Outcome,
-    /// The token at which the text is refused, or that the run's place comes
-    /// from.
+    /// The token at which the text is refused, or that the word at the place
+    /// comes from.
     pub spot: Spot<'t>,
 }
 
@@ -148,6 +149,24 @@ impl<'t> Program<'t> {
         })
     }
 
+    /// As [`Program::refusal`], of two solvers on one statement. For 2 the mark
+    /// is under the word that was asked about.
+    ///
+    /// There is none where a proposal was accepted, for 1 and 3, and for a word
+    /// that the program does not have; the answer prints these by itself.
+    pub fn asked_refusal(&self, asked: &Asked) -> Option<Refusal<'t>> {
+        let has_word = !matches!(
+            asked.outcome,
+            Outcome::Finished | Outcome::WrongSize | Outcome::UnfitTable
+        );
+        let word = usize::try_from(asked.place).ok()?;
+        let spot = self.spot(word).filter(|_| has_word && word < self.count);
+        Some(Refusal {
+            outcome: asked.outcome,
+            spot: spot?,
+        })
+    }
+
     /// Where the token stands that a word of the program comes from; for the
     /// program's length the text's end.
     pub fn spot(&self, word: usize) -> Option<Spot<'t>> {
@@ -216,11 +235,12 @@ impl fmt::Display for Refusal<'_> {
     fn fmt(&self, out: &mut fmt::Formatter<'_>) -> fmt::Result {
         let (line, column) = (self.spot.line, self.spot.column);
         let number = self.outcome.number();
-        writeln!(
-            out,
-            "{number} at line {line}, column {column}: {}",
-            self.outcome
-        )?;
+        // The program of a text reads: 2 is of a word that was asked about.
+        let says = match self.outcome {
+            Outcome::UnfitProgram => NO_STATEMENT,
+            outcome => outcome.says(),
+        };
+        writeln!(out, "{number} at line {line}, column {column}: {says}")?;
         write!(out, "{}", self.spot)
     }
 }

@@ -44,11 +44,7 @@ pub fn again(mut draft: Draft) -> Sheet {
         None => vec![0; 8],
     };
     let mut sheet = Sheet::fresh(program, proposals, 800);
-    left.encode(
-        &mut sheet.environment,
-        &mut sheet.heap,
-        &mut sheet.constraints,
-    );
+    sheet.fill(&left);
     sheet
 }
 
@@ -90,8 +86,20 @@ fn search(numbers: &mut Numbers, program: &Program, tables: &Tables) -> Vec<i32>
     machine.source.words
 }
 
+/// Start tables in which a kept constraint fails, if that can be had.
+pub fn spoil_start(numbers: &mut Numbers, sheet: &mut Sheet) {
+    let Ok(program) = Program::decode(&sheet.program) else {
+        return;
+    };
+    let always = program.always();
+    let tables = Tables::decode(&sheet.environment, &sheet.heap, &sheet.constraints, &always);
+    if let Ok(tables) = tables {
+        sheet.fill(&spoilt(numbers, tables, &always));
+    }
+}
+
 /// One cell changed, so that a kept constraint fails if that can be had.
-pub fn spoilt(numbers: &mut Numbers, tables: Tables, always: &Always) -> Tables {
+fn spoilt(numbers: &mut Numbers, tables: Tables, always: &Always) -> Tables {
     let cells: Vec<(usize, Value)> = tables.cells().collect();
     for _ in 0..12 {
         let Some((location, value)) = numbers.pick(&cells) else {

@@ -25,6 +25,16 @@ impl Composer<'_> {
         }
     }
 
+    /// One that reads a proposal, of a sort from 1 to 4.
+    pub fn asked(&mut self, sort: i32) -> Vec<i32> {
+        match sort {
+            1 if self.numbers.chance(50) => self.assign_variable(),
+            1 => self.assign_path(),
+            2 => self.new_record(),
+            _ => self.always_or_once(sort),
+        }
+    }
+
     fn any_kind(&mut self) -> Kind {
         let kinds = [
             Kind::Integer,

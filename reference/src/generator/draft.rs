@@ -54,7 +54,7 @@ impl Draft {
     }
 
     /// Appends a statement that is not run, and gives its tree.
-    fn append(&mut self, words: &[i32]) -> Option<Statement> {
+    pub fn append(&mut self, words: &[i32]) -> Option<Statement> {
         let start = self.words.len();
         self.words.extend(words);
         match Statement::decode(&self.words, start) {
@@ -196,11 +196,7 @@ impl Draft {
     /// The sheet as it stands, with a budget that lets the draft be run.
     pub fn sheet(&mut self) -> Sheet {
         let mut sheet = Sheet::fresh(self.program(), take(&mut self.search.words), 0);
-        self.start.encode(
-            &mut sheet.environment,
-            &mut sheet.heap,
-            &mut sheet.constraints,
-        );
+        sheet.fill(&self.start);
         let steps = i32::try_from(self.steps).unwrap_or(0);
         sheet.budget = match self.numbers.below(4) {
             0 => steps,

@@ -100,16 +100,8 @@ fn long_path(numbers: &mut Numbers, labels: usize) -> Sheet {
     let mut tables = Tables::default();
     tables.add_record(&[(5, Value::Reference(0))]);
     tables.set(0, Value::Reference(0));
-    fill(&mut sheet, &tables);
+    sheet.fill(&tables);
     sheet
-}
-
-fn fill(sheet: &mut Sheet, tables: &Tables) {
-    tables.encode(
-        &mut sheet.environment,
-        &mut sheet.heap,
-        &mut sheet.constraints,
-    );
 }
 
 fn record(numbers: &mut Numbers, fields: usize) -> Vec<i32> {
@@ -168,7 +160,7 @@ fn all_integers(proposals: Vec<i32>) -> Sheet {
         let fields: Vec<(usize, Value)> = (0..8).map(|l| (l, Value::Integer(0))).collect();
         tables.add_record(&fields);
     }
-    fill(&mut sheet, &tables);
+    sheet.fill(&tables);
     sheet
 }
 
@@ -196,7 +188,7 @@ fn kept_full(past: usize) -> Sheet {
     let mut sheet = zeros(counted(&[3, 1, 1, 22], 64 + past), 70);
     let mut tables = Tables::default();
     tables.values = (0..64).map(|number| 1 + 4 * number).rev().collect();
-    fill(&mut sheet, &tables);
+    sheet.fill(&tables);
     sheet
 }
 

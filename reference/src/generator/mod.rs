@@ -1,7 +1,8 @@
-//! Sheets, lists, texts and writings for comparing two programs: a seed and a
-//! number give one.
+//! Sheets, lists, texts, writings and askings for comparing two programs: a seed
+//! and a number give one.
 
 mod again;
+pub mod askings;
 mod blocks;
 mod compose;
 mod damage;
@@ -21,6 +22,7 @@ pub mod writings;
 use crate::batch::Sheet;
 use crate::counts::Counts;
 use crate::outcome::Outcome;
+pub use askings::asking;
 use draft::Draft;
 pub use lists::{as_program, list};
 use numbers::Numbers;

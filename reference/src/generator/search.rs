@@ -3,8 +3,9 @@
 use super::numbers::Numbers;
 use super::solve::Repair;
 use crate::constraints::{all_parts_hold, part_holds, required_parts_hold};
+use crate::outcome::Outcome;
 use crate::program::{Part, Priority};
-use crate::proposal::{Source, Wanted, LOCATIONS};
+use crate::proposal::{Proposal, Source, Wanted, LOCATIONS};
 use crate::tables::{Location, Tables, Value};
 
 /// A proposal that is to be turned down on purpose.
@@ -14,6 +15,19 @@ pub enum Mistake {
     Entry,
     Needless,
     Unmet,
+}
+
+impl Mistake {
+    /// By which a proposal is turned down with an outcome.
+    pub fn of(outcome: Outcome) -> Option<Mistake> {
+        match outcome {
+            Outcome::UnfitProposal => Some(Mistake::Unfit),
+            Outcome::UnfitEntry => Some(Mistake::Entry),
+            Outcome::NeedlessChange => Some(Mistake::Needless),
+            Outcome::RequiredUnmet => Some(Mistake::Unmet),
+            _ => None,
+        }
+    }
 }
 
 /// Writes each proposal at the moment a statement asks for it.
@@ -28,7 +42,7 @@ pub struct Searcher {
 }
 
 impl Source for Searcher {
-    fn unread(&mut self, wanted: &Wanted) -> &[i32] {
+    fn proposal(&mut self, wanted: &Wanted) -> Result<Proposal, Outcome> {
         if self.read >= self.words.len() {
             let proposal = match self.mistake {
                 Some(mistake) => self.mistaken(mistake, wanted),
@@ -37,7 +51,7 @@ impl Source for Searcher {
             let proposal = proposal.unwrap_or_else(|| self.search(wanted));
             self.words.extend(proposal);
         }
-        self.words.get(self.read..).unwrap_or(&[])
+        Proposal::read(self.words.get(self.read..).unwrap_or(&[]))
     }
 
     fn accept(&mut self, words: usize) {

@@ -16,9 +16,7 @@ pub fn wished(mut draft: Draft, outcome: Outcome) -> Sheet {
     match outcome {
         Outcome::BudgetSpent => return short_budget(draft),
         Outcome::NoProposal => return short_proposals(draft),
-        Outcome::HeapFull => draft = fill_heap(draft),
-        Outcome::NoRoom => fill_positions(&mut draft),
-        _ => {}
+        _ => draft = filled(draft, outcome),
     }
     let count = draft.numbers.below(12);
     draft.grow(count);
@@ -53,6 +51,16 @@ fn short_proposals(mut draft: Draft) -> Sheet {
     sheet
 }
 
+/// With little room left where the outcome needs that.
+pub fn filled(mut draft: Draft, outcome: Outcome) -> Draft {
+    match outcome {
+        Outcome::HeapFull => return fill_heap(draft),
+        Outcome::NoRoom => fill_positions(&mut draft),
+        _ => {}
+    }
+    draft
+}
+
 fn fill_heap(draft: Draft) -> Draft {
     let mut numbers = draft.numbers;
     let records = 58 + numbers.below(7);
@@ -72,6 +80,20 @@ fn fill_positions(draft: &mut Draft) {
 
 /// Adds what is likely to be refused with an outcome in this state.
 fn refuse(draft: &mut Draft, outcome: Outcome) {
+    if let Some(mistake) = Mistake::of(outcome) {
+        return grow_mistaken(draft, mistake);
+    }
+    if outcome == Outcome::HeapFull && draft.numbers.chance(70) {
+        draft.attempt_last(&[8, 22, 1, 2, 0, 0]);
+        return;
+    }
+    let statement = statement(draft, outcome);
+    let words = draft.composer().wrapped(statement);
+    draft.attempt_last(&words);
+}
+
+/// A statement that is likely to be refused by itself, in a state made for it.
+pub fn statement(draft: &mut Draft, outcome: Outcome) -> Vec<i32> {
     match outcome {
         Outcome::NoCell => missing_cell(draft),
         Outcome::WrongKind => wrong_kind(draft),
@@ -81,21 +103,11 @@ fn refuse(draft: &mut Draft, outcome: Outcome) {
         Outcome::IdentityClash => clash(draft),
         Outcome::PlainIdentity => plain_identity(draft),
         Outcome::NoRoom => no_room(draft),
-        Outcome::LostConstraint => lost_constraint(draft),
-        Outcome::UnfitProposal => mistake(draft, Mistake::Unfit),
-        Outcome::UnfitEntry => mistake(draft, Mistake::Entry),
-        Outcome::NeedlessChange => mistake(draft, Mistake::Needless),
-        Outcome::RequiredUnmet => mistake(draft, Mistake::Unmet),
-        _ => {}
+        _ => lost_constraint(draft),
     }
 }
 
-fn last(draft: &mut Draft, statement: Vec<i32>) {
-    let words = draft.composer().wrapped(statement);
-    draft.attempt_last(&words);
-}
-
-fn missing_cell(draft: &mut Draft) {
+fn missing_cell(draft: &mut Draft) -> Vec<i32> {
     let mut composer = draft.composer();
     let absent = composer.absent_variable().unwrap_or(63);
     let missing = match composer.known(|_| true) {
@@ -109,25 +121,23 @@ fn missing_cell(draft: &mut Draft) {
         _ => vec![absent, 0],
     };
     let numbers = composer.numbers;
-    let statement = match numbers.below(7) {
+    match numbers.below(7) {
         0 => [&[1][..], &missing, &[20]].concat(),
         1 => [&[5, absent, 0][..], &missing].concat(),
         2 => evaluating(numbers, &[&[26][..], &missing, &[0, 0]].concat()),
         _ => meeting(numbers, &[&[24][..], &missing].concat()),
-    };
-    last(draft, statement);
+    }
 }
 
-fn wrong_kind(draft: &mut Draft) {
-    let statement = match draft.numbers.below(10) {
+fn wrong_kind(draft: &mut Draft) -> Vec<i32> {
+    match draft.numbers.below(10) {
         0 => unlike_identity(&mut draft.composer()),
         1..=3 => no_boolean(draft),
         _ => {
             let wrong = wrong_operands(draft);
             meeting(&mut draft.numbers, &wrong)
         }
-    };
-    last(draft, statement);
+    }
 }
 
 /// An operator over kinds that it does not take.
@@ -207,7 +217,7 @@ fn unlike_identity(composer: &mut Composer) -> Vec<i32> {
     }
 }
 
-fn out_of_range(draft: &mut Draft) {
+fn out_of_range(draft: &mut Draft) -> Vec<i32> {
     let large = match draft.numbers.below(4) {
         0 => [25, 1, 23, i32::MAX, 23, 1],
         1 => [25, 2, 23, i32::MIN, 23, 1],
@@ -217,16 +227,11 @@ fn out_of_range(draft: &mut Draft) {
     let mut other = Vec::new();
     draft.composer().integer(&mut other, 2);
     let large = joined(&mut draft.numbers, 1, &other, &large);
-    let statement = evaluating(&mut draft.numbers, &large);
-    last(draft, statement);
+    evaluating(&mut draft.numbers, &large)
 }
 
 /// New records until there is no room, sometimes with an earlier refusal.
-fn full_heap(draft: &mut Draft) {
-    if draft.numbers.chance(70) {
-        draft.attempt_last(&[8, 22, 1, 2, 0, 0]);
-        return;
-    }
+fn full_heap(draft: &mut Draft) -> Vec<i32> {
     while draft.attempt(&[2, 34, 0]).is_ok() {}
     let statement: &[i32] = match draft.numbers.below(4) {
         0 => &[2, 0, 1, 0, 24, 60, 0],
@@ -234,25 +239,24 @@ fn full_heap(draft: &mut Draft) {
         2 => &[2, 0, 1, 0, 25, 1, 23, i32::MAX, 23, 1],
         _ => &[2, 0, 1, 0, 20],
     };
-    last(draft, statement.to_vec());
+    statement.to_vec()
 }
 
-fn not_identical(draft: &mut Draft) {
+fn not_identical(draft: &mut Draft) -> Vec<i32> {
     let mut composer = draft.composer();
     let left = composer.known(Value::is_reference_or_nil);
     let value = left.as_ref().map(|known| known.value);
     let right = composer.known(|own| own.is_reference_or_nil() && Some(own) != value);
     let sort = composer.numbers.between(5, 6);
     if let (Some(left), Some(right)) = (left, right) {
-        let statement = [&[sort][..], &left.words, &right.words].concat();
-        return last(draft, statement);
+        return [&[sort][..], &left.words, &right.words].concat();
     }
     let _ = draft.attempt(&[2, 3, 0]);
     let _ = draft.attempt(&[1, 4, 0, 20]);
-    last(draft, vec![sort, 3, 0, 4, 0]);
+    vec![sort, 3, 0, 4, 0]
 }
 
-fn clash(draft: &mut Draft) {
+fn clash(draft: &mut Draft) -> Vec<i32> {
     let value = draft
         .numbers
         .pick(&[&[20][..], &[23, 5], &[22]])
@@ -260,27 +264,26 @@ fn clash(draft: &mut Draft) {
     match draft.numbers.below(4) {
         0 => {
             states::self_reference(draft);
-            last(draft, [&[1, 20, 2, 0, 0][..], value].concat());
+            [&[1, 20, 2, 0, 0][..], value].concat()
         }
         1 => {
             states::tied_field(draft);
-            let statement = match draft.numbers.below(4) {
+            match draft.numbers.below(4) {
                 0 => vec![2, 21, 0],
                 1 => vec![2, 21, 1, 0, 20],
                 _ => [&[1, 21, 0][..], value].concat(),
-            };
-            last(draft, statement);
+            }
         }
         2 => inner_clash(draft, value),
         _ => {
             states::tied_family(draft);
-            last(draft, vec![2, 25, 1, 0, 20]);
+            vec![2, 25, 1, 0, 20]
         }
     }
 }
 
 /// A field on the way of a kept identity, reached by its own path or another.
-fn inner_clash(draft: &mut Draft, value: &[i32]) {
+fn inner_clash(draft: &mut Draft, value: &[i32]) -> Vec<i32> {
     states::tied_inner_field(draft);
     let name = draft.numbers.between(31, 32);
     let given = match draft.numbers.below(3) {
@@ -288,20 +291,20 @@ fn inner_clash(draft: &mut Draft, value: &[i32]) {
         1 => &[24, 31, 0],
         _ => value,
     };
-    last(draft, [&[1, name, 1, 0][..], given].concat());
+    [&[1, name, 1, 0][..], given].concat()
 }
 
-fn plain_identity(draft: &mut Draft) {
+fn plain_identity(draft: &mut Draft) -> Vec<i32> {
     let named = states::tied_pair(draft);
     let mut statement = [&[1][..], &named].concat();
     let kinds = [Kind::Integer, Kind::Boolean];
     let kind = draft.numbers.pick(&kinds).unwrap_or(Kind::Integer);
     draft.composer().expression(&mut statement, kind, 2);
-    last(draft, statement);
+    statement
 }
 
 /// With the room full, mostly one position more, else an earlier refusal.
-fn no_room(draft: &mut Draft) {
+fn no_room(draft: &mut Draft) -> Vec<i32> {
     let (values, identities) = (draft.tables.values.len(), draft.tables.identities.len());
     let early = draft.numbers.chance(25);
     let statement: &[i32] = match (values >= identities, draft.numbers.below(3)) {
@@ -313,24 +316,23 @@ fn no_room(draft: &mut Draft) {
         (false, 1) if early => &[6, 50, 0, 50, 0],
         (false, _) => &[5, 50, 0, 50, 0],
     };
-    last(draft, statement.to_vec());
+    statement.to_vec()
 }
 
-fn lost_constraint(draft: &mut Draft) {
+fn lost_constraint(draft: &mut Draft) -> Vec<i32> {
     let field = states::named_fields(draft);
-    let statement = match draft.numbers.below(8) {
+    match draft.numbers.below(8) {
         0 => vec![1, 27, 0, 20],
         1 => vec![2, 27, 1, 0, 23, 1],
         2 => vec![1, 27, 0, 23, 5],
         3 => [&[1][..], &states::path(27, field), &[24, 27, 0]].concat(),
         4 | 5 => states::other_record(&mut draft.numbers),
         _ => [&[1][..], &states::other_field(&mut draft.numbers, field)].concat(),
-    };
-    last(draft, statement);
+    }
 }
 
 /// Grows on with a mistake due at the next proposal it fits.
-fn mistake(draft: &mut Draft, mistake: Mistake) {
+fn grow_mistaken(draft: &mut Draft, mistake: Mistake) {
     if mistake == Mistake::Unmet {
         states::less_than_another(draft);
     }

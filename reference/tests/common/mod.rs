@@ -1,6 +1,7 @@
 //! Builders of words and tables for the tests.
 #![allow(dead_code)]
 
+pub mod askings;
 pub mod cores;
 pub mod judge;
 pub mod texts;
@@ -121,7 +122,7 @@ pub fn check_list(list: &List, expected: Told) -> Finish {
     finish
 }
 
-pub fn check_tables(finish: &Finish, environment: &[i32], heap: &[i32], constraints: &[i32]) {
+pub fn check_tables<A>(finish: &Finish<A>, environment: &[i32], heap: &[i32], constraints: &[i32]) {
     assert_eq!(finish.environment, environment);
     assert_eq!(finish.heap, heap);
     assert_eq!(finish.constraints, constraints);

@@ -1,22 +1,20 @@
 //! Lists for comparing two programs: a seed and a number give a list.
 
-mod asked;
+pub(super) mod asked;
 mod draft;
 mod files;
 mod program;
 mod unfit;
 mod wishes;
 
-use super::again::{rearrange, spoilt};
+use super::again::{rearrange, spoil_start};
 use super::damage::{spoil, spoil_lengths, spoil_list};
 use super::draft::Draft;
 use super::limits;
 use super::numbers::Numbers;
-use crate::batch::{List, Sheet};
+use crate::batch::List;
 use crate::causes::Causes;
 use crate::outcome::Outcome;
-use crate::program::Program;
-use crate::tables::Tables;
 use draft::ListDraft;
 pub use program::{as_program, moved, MOVED};
 
@@ -38,7 +36,7 @@ pub fn list(seed: u64, index: u64) -> List {
 }
 
 /// A draft whose program has been run, most often with constraints kept.
-fn ready(numbers: Numbers) -> Draft {
+pub(super) fn ready(numbers: Numbers) -> Draft {
     let mut draft = super::draft(numbers);
     match draft.numbers.below(10) {
         0 => {}
@@ -110,24 +108,8 @@ fn damaged(mut numbers: Numbers) -> List {
 /// Start tables in which a kept constraint fails, if that can be had.
 fn unfit_start(mut numbers: Numbers) -> List {
     let mut list = accepted(Numbers::new(numbers.next(), 3));
-    let sheet = &mut list.sheet;
-    let Ok(program) = Program::decode(&sheet.program) else {
-        return list;
-    };
-    let always = program.always();
-    let tables = Tables::decode(&sheet.environment, &sheet.heap, &sheet.constraints, &always);
-    if let Ok(tables) = tables {
-        fill(sheet, &spoilt(&mut numbers, tables, &always));
-    }
+    spoil_start(&mut numbers, &mut list.sheet);
     list
-}
-
-fn fill(sheet: &mut Sheet, tables: &Tables) {
-    tables.encode(
-        &mut sheet.environment,
-        &mut sheet.heap,
-        &mut sheet.constraints,
-    );
 }
 
 /// A program or tables at a limit of document 01, or past it.

@@ -14,7 +14,7 @@ pub fn wished(mut draft: Draft, outcome: Outcome) -> List {
     let mut list = ListDraft::new(draft);
     let count = list.numbers().below(8);
     list.grow(count);
-    list.draft.search.mistake = mistake(outcome);
+    list.draft.search.mistake = Mistake::of(outcome);
     for entry in refused {
         list.attempt_last(&entry);
     }
@@ -28,16 +28,6 @@ pub fn wished(mut draft: Draft, outcome: Outcome) -> List {
             list.trail();
             list.list()
         }
-    }
-}
-
-fn mistake(outcome: Outcome) -> Option<Mistake> {
-    match outcome {
-        Outcome::UnfitProposal => Some(Mistake::Unfit),
-        Outcome::UnfitEntry => Some(Mistake::Entry),
-        Outcome::NeedlessChange => Some(Mistake::Needless),
-        Outcome::RequiredUnmet => Some(Mistake::Unmet),
-        _ => None,
     }
 }
 

@@ -5,9 +5,8 @@ use Rattle.words.specs.Answer.{_>>_, want}
 use Rattle.tables.specs.Cells.{cells}
 use Rattle.fit.specs.Fit.{environmentFits, heapFits}
 use Rattle.program.specs.Where.{constraintsStand}
-use Rattle.rules.specs.Start.{early}
+use Rattle.rules.specs.Start.{early, keptAtStart}
 use Rattle.phases.specs.Told.{tables}
-use Rattle.run.specs.Told.{keptAtStart}
 use Rattle.run.proofs.BeginLaws.{test-stop, test-on}
 use borrow.Author.Needs.{needs}
 use Rattle.run.proofs.start.fits_at_start.Statement.{statement}

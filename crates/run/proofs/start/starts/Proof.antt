@@ -1,15 +1,13 @@
 use Rattle.fit.specs.Fit.{sized}
-use Rattle.rules.specs.Start.{early, budgetFits}
+use Rattle.rules.specs.Start.{early, budgetFits, tablesAtStart}
 use mathlib.Core.Path.{_≡_, sym, ap, _∙_}
 use mathlib.Core.Bool.{_&&_}
 use borrow.Author.Tests.{not-true, not-false}
 use Rattle.words.specs.Answer.{_>>_, want}
 use Rattle.words.proofs.Signed.{back32}
 use Rattle.program.specs.Reading.{readProgram}
-use Rattle.rules.specs.Start.{early}
 use Rattle.rules.proofs.StartClauses.{starts-is}
 use Rattle.phases.specs.Told.{tables}
-use Rattle.run.specs.Told.{tablesAtStart}
 use Rattle.run.proofs.BeginLaws.{test-stop, test-on, read-stop, read-on, and-false}
 use Rattle.tables.proofs.SearchLaws.{and-true, and-false as and-second}
 use borrow.Author.Needs.{needs}

@@ -1,0 +1,3 @@
+pub mod OpenLaws
+pub mod AskLaws
+pub mod CodeClaims
