@@ -52,7 +52,8 @@ enum {
     CORDBASIN_FINISHED = 0,
     /* a table's length or the budget is wrong; place: 0 */
     CORDBASIN_WRONG_SIZE = 1,
-    /* the program does not read; place: its first unfit word, its length if words run out, 4096 if it has over 4,096 words */
+    /* the program does not read; place: its first unfit word, its length if words run out, 4096 if it has over 4,096 words; of an
+       asking also: no statement that reads a proposal begins at the word */
     CORDBASIN_UNFIT_PROGRAM = 2,
     /* a table's content is unfit; place: the first such table, 0 environment, 1 heap, 2 constraints */
     CORDBASIN_UNFIT_TABLE = 3,
@@ -132,9 +133,10 @@ enum {
 
 /* Runs a program on lent tables.
 
-   Each pointer is to as many words as the count beside it says; with a count of 0 it is not followed. The tables and the answer
-   overlap nothing else that is handed over. That is all that is asked of the caller: every content and every length has its answer.
-   The call allocates nothing and keeps nothing, so that two threads may run on tables of their own. It ends within the budget.
+   Each pointer is to as many words as the count beside it says; with a count of 0 it is not followed, and may be null. The tables
+   and the answer overlap nothing else that is handed over. That is all that is asked of the caller: every content and every length
+   has its answer. The call allocates nothing and keeps nothing, so that two threads may run on tables of their own. It ends within
+   the budget.
 
    program       the sheet's program, one block of at most 4,096 words; only read
    environment   the variables, 128 words; holds what the run leaves
@@ -177,9 +179,9 @@ size_t cordbasin_assign(const int32_t *program, size_t program_words, int32_t *e
 
    Returns how many words were accepted: the first so many of the slice of the solver that is told. Outcome 0 comes with the word as
    place. On any other outcome the call returns 0, the solver is 0, and the tables are as they were. The outcomes are a run's, but for
-   5, with its places, and are tried in its order. 2 is also for a word at which no such statement begins, after 2 for the program and
-   before 3; place: the word as it was given, negative ones too. A slice without words is 6. Where both are turned down, the outcome is
-   the second's, or the first's where the second has no words. */
+   5 and 11, with its places, and are tried in its order. 2 is also for a word at which no such statement begins, after 2 for the
+   program and before 3; place: the word as it was given, negative ones too. A slice without words is 6. Where both are turned down,
+   the outcome is the second's, or the first's where the second has no words. */
 size_t cordbasin_ask(const int32_t *program, size_t program_words, int32_t *environment, size_t environment_words,
                      int32_t *heap, size_t heap_words, int32_t *constraints, size_t constraints_words, int32_t word,
                      const int32_t *first, size_t first_words, const int32_t *second, size_t second_words, int32_t answer[3]);

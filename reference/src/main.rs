@@ -90,15 +90,16 @@ fn histogram(
         writeln!(output, "{} {times}", outcome.number())?;
     }
     writeln!(output, "{told}")?;
-    Ok(unless_rare(count, counts))
+    unless_rare(count, counts)
 }
 
-fn unless_rare<'a>(count: u64, counts: impl IntoIterator<Item = &'a u64>) -> ExitCode {
+fn unless_rare<'a>(count: u64, counts: impl IntoIterator<Item = &'a u64>) -> io::Result<ExitCode> {
     let rare = |times: &u64| u128::from(*times) * 10_000 < u128::from(count) * 50;
-    match counts.into_iter().any(rare) {
-        true => ExitCode::FAILURE,
-        false => ExitCode::SUCCESS,
+    if !counts.into_iter().any(rare) {
+        return Ok(ExitCode::SUCCESS);
     }
+    writeln!(io::stderr(), "some come up fewer than 50 times in 10,000")?;
+    Ok(ExitCode::FAILURE)
 }
 
 /// Fails if a class of those that there must be comes up fewer than 50 times in
@@ -109,8 +110,5 @@ fn classes(count: u64, counts: BTreeMap<Class, u64>) -> io::Result<ExitCode> {
         writeln!(output, "{class:?} {times}")?;
     }
     let all = Class::all();
-    Ok(unless_rare(
-        count,
-        all.iter().filter_map(|class| counts.get(class)),
-    ))
+    unless_rare(count, all.iter().filter_map(|class| counts.get(class)))
 }

@@ -52,7 +52,7 @@ use Rattle.rules.proofs.PartLaws.{constraint-iff}
 use Rattle.rules.proofs.StatementWords.{past-path}
 use Rattle.rules.proofs.GivesRules.{gives-fit}
 use Rattle.rules.proofs.InnerLaws.{Inner, inner-on, lost-inner, meets-inner, test-inner, constraint-inner, fields-inner, Sided, at-side, both-differ, unsame-sided}
-use Rattle.rules.proofs.ProgramCode.{statement-there, there-verb, there-part, there-at}
+use Rattle.rules.proofs.ProgramCode.{statement-there, there-verb, there-part}
 use Rattle.rules.proofs.Endings.{Ends, unpaid, refuses, untested}
 
 -- what all of a list are, the first that is not something else is; and where all are it, there is none
@@ -121,7 +121,7 @@ module _ (program : List ℤ) where
 pub data Placed (program : List ℤ) (S : State) (p : List ℤ) (n place : ℕ) : Type 0 where
   plain : place ≡ positionOf program p → outside n ≡ true → Placed program S p n place
   inner : {c : Bool} → Found program (S .cells) n place c p → Placed program S p n place
-  in-kept : n ≡ 15 → Inside program S place 15 → Placed program S p n place
+  in-kept : n ≡ 15 → Inside program S p place 15 → Placed program S p n place
 
 module _ (program : List ℤ) (g : Program program) (S : State) (hold : Holds program S) where
   -- ---- inside the statement
@@ -192,7 +192,7 @@ module _ (program : List ℤ) (g : Program program) (S : State) (hold : Holds pr
       → Gives (S .cells) p target prefix v N → Phase program (S .kept) (S .cells) N target prefix v Y → Uncounted program (S .kept) Y o f → Placed program S p (f .number) (placeOf program f)
   given-placed e here gives phase (Uncounted.own m) = absurd (let z : _≡_ {A = ℕ} 0 1 = cc in omega arith)
   given-placed e here gives phase (Uncounted.kept reads first m) =
-      in-kept refl (of-kept (there-at here) gives phase first (kept-found (gives-fit program S hold gives (here .statement) phase) first m))
+      in-kept refl (of-kept gives phase first (kept-found (gives-fit program S hold gives (here .statement) phase) first m))
 
   own-placed : {f : Fault} {p c : List ℤ} {o : Option (List ℤ)} → o ≡ some c → (ConstraintMeets (S .cells) c f → Placed program S p (f .number) (placeOf program f))
       → Uncounted program (S .kept) (S .cells) o f → Placed program S p (f .number) (placeOf program f)
@@ -265,10 +265,10 @@ placed-own (plain e h) k = e
 placed-own (inner f) k = absurd (k (found-number f))
 placed-own (in-kept e i) k = absurd (k (fifteen e))
 
-pub placed-inside : {program p : List ℤ} {S : State} {n place : ℕ} → AtStatement program p → Placed program S p n place → OneOf n inner-numbers → Inside program S place n
-placed-inside {n = n} a (plain e h) o = absurd (outside-apart n h o)
-placed-inside a (inner f) o = of-statement a f
-placed-inside a (in-kept e i) o = rw e i
+pub placed-inside : {program p : List ℤ} {S : State} {n place : ℕ} → Placed program S p n place → OneOf n inner-numbers → Inside program S p place n
+placed-inside {n = n} (plain e h) o = absurd (outside-apart n h o)
+placed-inside (inner f) o = of-statement f
+placed-inside (in-kept e i) o = rw e i
 
 pub placed-found : {program p : List ℤ} {S : State} {n place : ℕ} → Placed program S p n place → OneOf n inner-numbers → n ≢ 15 → (c : Bool) × Found program (S .cells) n place c p
 placed-found {n = n} (plain e h) o k = absurd (outside-apart n h o)
@@ -281,9 +281,9 @@ found-short : {program p : List ℤ} {S : Cells} {c : Bool} {n place : ℕ} → 
 found-short (in-statement t a b w) = omega arith
 found-short (in-test h t a b w) = omega arith
 
-pub inside-short : {program : List ℤ} {S : State} {n place : ℕ} → Inside program S place n → place < length program
-inside-short (of-statement a f) = found-short f
-inside-short (of-kept a g h k f) = found-short f
+pub inside-short : {program p : List ℤ} {S : State} {n place : ℕ} → Inside program S p place n → place < length program
+inside-short (of-statement f) = found-short f
+inside-short (of-kept g h k f) = found-short f
 
 pub inner-or : (n : ℕ) → Dec (OneOf n inner-numbers)
 inner-or n = go (ℕ-discrete n 7) (ℕ-discrete n 8) (ℕ-discrete n 9) (ℕ-discrete n 15)

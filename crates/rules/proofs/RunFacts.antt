@@ -100,7 +100,7 @@ module _ (program ws : List ℤ) (budget : ℤ) (S : State) where
   -- refused at a statement
   way-facts : {p : List ℤ} (n place : ℕ) (t : Tally) → StatementThere program p → Placed program (t .state) p n place
       → Counts ws (numberOf budget) t → Reached program ws S (t .state) (t .unread) (t .accepted) → Answer program ws budget S (given n place t)
-  way-facts n place t here x c r =
+  way-facts {p} n place t here x c r =
       let k = placed-range x in
       record {
         known = k .1;
@@ -108,7 +108,7 @@ module _ (program ws : List ℤ) (budget : ℤ) (S : State) where
         early = λ g h. absurd (omega (arith, k .0));
         unread-place = λ e. absurd (omega (arith, k .0));
         at-statement = λ h apart. rw (placed-own x apart) (not-nowhere here);
-        inside = placed-inside (there-at here) x;
+        inside = λ o. (p, (there-at here, placed-inside x o));
         steps = c .steps;
         accepted = c .accepted;
         unread = sym (c .part .is);

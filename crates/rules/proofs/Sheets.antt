@@ -1,4 +1,4 @@
--- K1 to K12, a while, lists of entries and askings of two solvers: the definitions give, word for word, what document 01 says. The one place where every definition is opened.
+-- K1 to K12, a while, lists of entries and askings of two solvers: the definitions give, word for word, what documents 01 and 02 say. The one place where every definition is opened.
 -- Assumes nothing.
 use mathlib.Core.Path.{_≡_, refl}
 use Rattle.words.specs.Words.{numberAt, wordOf, copied}

@@ -1,13 +1,14 @@
 -- One statement with two proposals, clause by clause: the laws by which code knows it. Assumes nothing.
-use mathlib.Core.Path.{_≡_, refl, sym, _∙_}
+use mathlib.Core.Path.{_≡_, refl, sym, ap, _∙_}
 use Prim.Native.Nat.{ℕ, suc, _+_, _*_}
-use mathlib.Core.Bool.{Bool, true, false, cond, _&&_, _||_}
+use mathlib.Core.Bool.{Bool, true, false, not, cond, _&&_, _||_}
 use mathlib.Core.List.{List, [], _∷_}
 use lib.Dec.{eqb, ltb, leb}
 use lib.IntN.{ℤ, pos, negsuc}
 use lib.ListN.{length, drop}
 use Rattle.words.specs.Words.{numberOf, numberAt}
 use Rattle.words.specs.Answer.{got, stop, want}
+use Rattle.tables.proofs.SearchLaws.{and-false}
 use Rattle.fit.specs.Fit.{sized}
 use Rattle.program.specs.Forms.{verbOf}
 use Rattle.program.specs.Reading.{readProgram}
@@ -45,26 +46,30 @@ unfolding turnsDown
 turns-is n = refl
 
 module _ (program : List ℤ) (word : ℤ) (second : List ℤ) (S : State) where
-  pub second-takes : (f : Fault) (l : Left) → thenSecond program word second S f (got l) ≡ accepting word 2 second (l .state)
+  pub second-takes : (l : Left) → thenSecond program word second S (got l) ≡ accepting word 2 second (l .state)
   unfolding thenSecond
-  second-takes f l = refl
+  second-takes l = refl
 
-  pub second-stops : (f g : Fault) → thenSecond program word second S f (stop g) ≡ refusedBy program S (cond (none? second) f g)
+  pub second-stops : (g : Fault) → thenSecond program word second S (stop g) ≡ refusedBy program S g
   unfolding thenSecond
-  second-stops f g = refl
+  second-stops g = refl
 
   pub first-takes : (first : List ℤ) (l : Left) → tries program word first second S (got l) ≡ accepting word 1 first (l .state)
   unfolding tries
   first-takes first l = refl
 
-  pub first-turned : (first : List ℤ) (f : Fault) → turnsDown (f .number) ≡ true
-      → tries program word first second S (stop f) ≡ thenSecond program word second S f (alone program (numberOf word) S second)
+  pub first-turned : (first : List ℤ) (f : Fault) → turnsDown (f .number) ≡ true → none? second ≡ false
+      → tries program word first second S (stop f) ≡ thenSecond program word second S (alone program (numberOf word) S second)
   unfolding tries
-  first-turned first f e = rw e
+  first-turned first f e h = rw (e, h)
 
   pub first-stops : (first : List ℤ) (f : Fault) → turnsDown (f .number) ≡ false → tries program word first second S (stop f) ≡ refusedBy program S f
   unfolding tries
   first-stops first f e = rw e
+
+  pub no-second : (first : List ℤ) (f : Fault) → none? second ≡ true → tries program word first second S (stop f) ≡ refusedBy program S f
+  unfolding tries
+  no-second first f e = rw (and-false (turnsDown (f .number)) (not (none? second)) (ap not e))
 
 pub ask-is : (program : List ℤ) (word : ℤ) (first second : List ℤ) (S : State)
     → ask program word first second S

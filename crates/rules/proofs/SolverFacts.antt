@@ -1,5 +1,6 @@
 -- What every answer to one statement with two proposals keeps to, and what holds after it. Assumes nothing.
 use mathlib.Core.Path.{_≡_, refl, sym, ap, _∙_}
+use mathlib.Core.Logic.{inl, inr}
 use Prim.Native.Nat.{ℕ, _≤_}
 use native.Mathlib.Omega.{arith}
 use mathlib.Core.Bool.{Bool, true, _&&_}
@@ -25,7 +26,7 @@ use Rattle.rules.specs.Rules.Solvers.{Tries, t-first, t-second, t-both, 
 use Rattle.rules.specs.Steps.Holds.{Holds, StatementReads}
 use Rattle.rules.specs.Steps.ByVerb.{refusals}
 use Rattle.rules.specs.Claims.Room.{Stays}
-use Rattle.rules.specs.Claims.Solvers.{sliceOf, Kept, SolversAnswers, SolversStand, Moves, given, stated, SolversMove, SolversStructure, SolversStay}
+use Rattle.rules.specs.Claims.Solvers.{sliceOf, Kept, SolversAnswers, SolversStand, Moves, given, SolversMove, SolversStructure, SolversStay}
 use Rattle.rules.proofs.ClassLaws.{member-cons, member-none, member-in}
 use Rattle.rules.proofs.KeptReading.{Listed}
 use Rattle.rules.proofs.PlacedLaws.{inner-range, Placed, plain, refused-placed, placed-range, placed-own, placed-inside}
@@ -84,7 +85,8 @@ blamed-late b = placed-range (b .placed) .0
 
 -- refused before the statement, accepted with the slice of one solver, or refused at the statement
 data Came (program : List ℤ) (word : ℤ) (first second : List ℤ) (S : State) : Given → Type 0 where
-  early : {n : ℕ} {place : ℤ} → OneOf n outcomes → 1 ≤ n → n ≤ 4 → Came program word first second S (turnedDown S n place)
+  early : {n k : ℕ} → Unstarted program (pos 0) S n k → Came program word first second S (turnedDown S n (pos k))
+  unknown : ((p : List ℤ) → Named program word p → ⊥) → Came program word first second S (turnedDown S 2 word)
   takes : {solver : ℕ} {p : List ℤ} {l : Left} → Passes program (pos 0) S → Named program word p → OneOf solver (1 ∷ 2 ∷ [])
       → Steps program S (sliceOf solver first second) p l → Came program word first second S (accepted word solver (sliceOf solver first second) (l .state))
   blames : {p : List ℤ} {f : Fault} → Passes program (pos 0) S → Named program word p → Blamed program S p f → Came program word first second S (refusal program S f)
@@ -121,20 +123,32 @@ module _ {program : List ℤ} {word : ℤ} {S : State} {p : List ℤ} (g : Passe
   tries-came (t-refused r o) = blames g n (refused-blamed r)
 
 came : {program : List ℤ} {word : ℤ} {first second : List ℤ} {S : State} {e : Given} → Asked program word first second S e → Came program word first second S e
-came (unstarted u w) = let low = unstarted-low u in early (early-known u) (low .0) (low .1)
-came (unnamed m g w) = early (there 2 outcomes (omega arith)) (omega arith) (omega arith)
+came (unstarted u w) = early u
+came (unnamed m g w) = unknown w
 came (started g n t) = tries-came g n t
 
 -- ---- what the answer keeps to
 
 module _ (program : List ℤ) (word : ℤ) (first second : List ℤ) (S : State) where
   kept : {e : Given} → Came program word first second S e → Kept program word first second S e
-  kept (early o a b) = record {
-    known = o;
+  kept (early {k = k} u) =
+      let low = unstarted-low u in
+      record {
+        known = early-known u;
+        accepts = λ z. absurd (omega (arith, low .0));
+        refuses = λ h. refl;
+        part = refl;
+        early = λ h l. inl (k, (refl, u));
+        at-statement = λ h w. absurd (omega (arith, low .1));
+        inside = λ i. absurd (let r = inner-range i in omega (arith, r .0, low .1));
+      }
+  kept (unknown w) = record {
+    known = there 2 outcomes (omega arith);
     accepts = λ z. absurd (omega arith);
     refuses = λ h. refl;
     part = refl;
-    at-statement = λ h w. absurd (omega arith);
+    early = λ h l. inr (refl, (refl, w));
+    at-statement = λ h x. absurd (omega arith);
     inside = λ i. absurd (let r = inner-range i in omega (arith, r .0));
   }
   kept (takes {solver = solver} g n o s) = record {
@@ -142,25 +156,29 @@ module _ (program : List ℤ) (word : ℤ) (first second : List ℤ) (S : State)
     accepts = λ z. (refl, (o, refl));
     refuses = λ h. absurd (omega arith);
     part = sym (take-all (length (sliceOf solver first second)) (sliceOf solver first second) (omega arith));
+    early = λ h l. absurd (omega arith);
     at-statement = λ h w. absurd (omega arith);
     inside = λ i. absurd (let r = inner-range i in omega (arith, r .0));
   }
-  kept (blames {f = f} g n b) = record {
+  kept (blames {p = p} {f = f} g n b) = record {
     known = b .known;
     accepts = λ z. absurd (omega (arith, blamed-late b));
     refuses = λ h. refl;
     part = refl;
+    early = λ h l. absurd (omega (arith, blamed-late b));
     at-statement = λ h w. ap pos (placed-own (b .placed) w) ∙ sym (named-stands (g .1 .0) n .word-is);
-    inside = λ i. (placeOf program f, (refl, placed-inside (named-at n) (b .placed) i));
+    inside = λ i. (p, (n, (placeOf program f, (refl, placed-inside (b .placed) i))));
   }
 
   stands : {e : Given} → (1 ≤ e .outcome → 5 ≤ e .outcome) → Came program word first second S e → Stands program (e .state)
-  stands later (early o a b) = absurd (let five = later a in omega arith)
+  stands later (early u) = let low = unstarted-low u in absurd (let five = later (low .0) in omega (arith, low .1))
+  stands later (unknown w) = absurd (let five = later (omega arith) in omega arith)
   stands later (takes {solver = solver} {p = p} {l = l} g n o s) = statements-stand program p S (sliceOf solver first second) l (g .1 .0) (named-at n) (g .1 .1) s
   stands later (blames g n b) = g .1 .1
 
   stays : {e : Given} → Came program word first second S e → Stays S (e .state)
-  stays (early o a b) = stays-self S
+  stays (early u) = stays-self S
+  stays (unknown w) = stays-self S
   stays (takes {solver = solver} {p = p} {l = l} g n o s) = steps-stay program p S (sliceOf solver first second) l (g .1 .1 .fit .sized) (g .1 .1 .long) s
   stays (blames g n b) = stays-self S
 
@@ -177,14 +195,14 @@ solvers-stay program word first second S e a = stays program word first second S
 
 module _ (program : List ℤ) (S : State) (holds : Holds program S) where
   -- a proposal moves the cells after the identity phase, or those of the state before
-  proposed : {ws p : List ℤ} {l : Left} → StatementReads p → 1 ≤ numberAt p 0 → numberAt p 0 ≤ 4 → Steps program S ws p l → Moves program S p (l .state .cells)
+  proposed : {ws p : List ℤ} {l : Left} → StatementReads p → 1 ≤ numberAt p 0 → numberAt p 0 ≤ 4 → Steps program S ws p l → Moves program S p (l .state)
   proposed here a b (s-skip {p = p}) = absurd (omega (arith, number-first (pos 0) p))
   proposed {ws} here a b (s-gives {Y = Y} {Z = Z} {rest = rest} g h s) =
       given g h (proposals-move program (S .kept) _ Y ws Z rest (gives-fit program S holds g here h .sized) s)
   proposed {ws} here a b (s-always {Z = Z} {rest = rest} s k) =
-      stated {verb = 3} (omega arith) (omega arith) (proposals-move program (S .kept) _ (S .cells) ws Z rest (holds .fit .sized) s)
+      Moves.always (proposals-move program (S .kept) _ (S .cells) ws Z rest (holds .fit .sized) s) k
   proposed {ws} here a b (s-once {Z = Z} {rest = rest} s) =
-      stated {verb = 4} (omega arith) (omega arith) (proposals-move program (S .kept) _ (S .cells) ws Z rest (holds .fit .sized) s)
+      Moves.once (proposals-move program (S .kept) _ (S .cells) ws Z rest (holds .fit .sized) s)
   proposed here a b (s-always-identity {p = p} x k) = absurd (omega (arith, number-first (pos 5) p))
   proposed here a b (s-once-identity {p = p} x) = absurd (omega (arith, number-first (pos 6) p))
 
@@ -194,8 +212,9 @@ module _ (program : List ℤ) (S : State) (holds : Holds program S) where
       (steps-rule program p S ws here holds l .1 s) (steps-rule program p S us here holds m .1 r)
 
 module _ (program : List ℤ) (word : ℤ) (S : State) where
-  moves : {first second : List ℤ} {e : Given} → e .outcome ≡ 0 → Came program word first second S e → (p : List ℤ) × (Named program word p × Moves program S p (e .state .cells))
-  moves z (early o a b) = absurd (omega arith)
+  moves : {first second : List ℤ} {e : Given} → e .outcome ≡ 0 → Came program word first second S e → (p : List ℤ) × (Named program word p × Moves program S p (e .state))
+  moves z (early u) = let low = unstarted-low u in absurd (omega (arith, low .0))
+  moves z (unknown w) = absurd (omega arith)
   moves z (takes {p = p} g n o s) =
       let v = named-stands (g .1 .0) n in
       (p, (n, proposed program S (passes-hold program (pos 0) S g) (v .here .statement) (v .least) (v .most) s))
@@ -203,9 +222,11 @@ module _ (program : List ℤ) (word : ℤ) (S : State) where
 
   alike : {first second third fourth : List ℤ} {a b : Given} → Came program word first second S a → Came program word third fourth S b → a .outcome ≡ 0 → b .outcome ≡ 0
       → SameState (a .state) (b .state)
-  alike (early o a b) y e f = absurd (omega arith)
+  alike (early u) y e f = let low = unstarted-low u in absurd (omega (arith, low .0))
+  alike (unknown w) y e f = absurd (omega arith)
   alike (blames g n b) y e f = absurd (omega (arith, blamed-late b))
-  alike (takes g n o s) (early q a b) e f = absurd (omega arith)
+  alike (takes g n o s) (early u) e f = let low = unstarted-low u in absurd (omega (arith, low .0))
+  alike (takes g n o s) (unknown w) e f = absurd (omega arith)
   alike (takes g n o s) (blames h m b) e f = absurd (omega (arith, blamed-late b))
   alike (takes g n o s) (takes h m q r) e f =
       let v = named-stands (g .1 .0) n in

@@ -3,7 +3,7 @@ use mathlib.Core.Path.{_≡_, refl, sym, ap, _∙_}
 use mathlib.Core.Logic.{_↔_, _⊎_, inl, inr}
 use Prim.Native.Nat.{ℕ, _<_}
 use native.Mathlib.Omega.{arith}
-use mathlib.Core.Bool.{Bool, true, false, true≢false, cond}
+use mathlib.Core.Bool.{Bool, true, false, true≢false}
 use mathlib.Core.List.{List, [], _∷_, List·Memᴰ as OneOf}
 use borrow.Author.Tests.{leb-true, le-leb}
 use lib.Dec.{leb}
@@ -42,11 +42,11 @@ use Rattle.rules.proofs.EntryRules.{passes-hold}
 use Rattle.rules.proofs.StartClauses.{budget-is}
 use Rattle.rules.proofs.StartRules.{measured-iff, passes-iff, unstarted-iff}
 use Rattle.rules.proofs.SpotLaws.{at-nowhere}
-use Rattle.rules.proofs.SolverClauses.{named-is, whole-more, whole-all, alone-is, second-takes, second-stops, first-takes, first-turned, first-stops}
+use Rattle.rules.proofs.SolverClauses.{named-is, whole-more, whole-all, alone-is, second-takes, second-stops, first-takes, first-turned, first-stops, no-second}
 use Rattle.rules.proofs.SolverSteps.{Stood, named-stands, stood-verb, turning-sound, turning-complete, not-turning, other-number}
 use Rattle.rules.proofs.SolverSteps.{Comes, comes-asks, comes-unformed, steps-took, Whose, its-own, proposals, whose, own-always}
-use Rattle.rules.proofs.SolverSteps.{formed-whole, formed-more, more-words, never-formed, Shaped, is-formed, unformed, shaped, fails-unformed}
-use Rattle.rules.proofs.SolverSteps.{six, sixteen, turned-number, asks-comes, turned-down-comes, none-turned}
+use Rattle.rules.proofs.SolverSteps.{formed-length, formed-whole, formed-more, more-words, never-formed, Shaped, is-formed, unformed, shaped, fails-unformed}
+use Rattle.rules.proofs.SolverSteps.{six, sixteen, turned-number, asks-comes, turned-down-comes}
 
 -- the words that stand for a slice with words left over
 abbrev over : List ℤ
@@ -58,6 +58,10 @@ over-words e = omega (arith, ap length e)
 some-words : (ws : List ℤ) → (ws ≡ [] → ⊥) → none? ws ≡ false
 some-words [] h = absurd (h refl)
 some-words (w ∷ ws) h = refl
+
+without-words : (ws : List ℤ) → none? ws ≡ true → ws ≡ []
+without-words [] e = refl
+without-words (w ∷ ws) e = absurd (true≢false (sym e))
 
 -- ---- the statement with one slice
 
@@ -108,6 +112,9 @@ module _ (program : List ℤ) (word : ℤ) (S : State) (p : List ℤ) (pass : Pa
 
   pub accepts-comes : {ws : List ℤ} {l : Left} → Accepts program S p ws l → Comes program S p
   accepts-comes a = steps-took (stood .least) (stood .most) (a .steps) .comes
+
+  accepts-words : {ws : List ℤ} {l : Left} → Accepts program S p ws l → ws ≡ [] → ⊥
+  accepts-words a e = omega (arith, formed-length (steps-took (stood .least) (stood .most) (a .steps) .formed), ap length e)
 
   pub alone-accepts : (ws : List ℤ) (l : Left) → (alone program (numberOf word) S ws ≡ got l) ↔ Accepts program S p ws l
   alone-accepts ws l = (accepts-sound ws l, accepts-complete ws l)
@@ -178,15 +185,14 @@ module _ (program : List ℤ) (word : ℤ) (S : State) (p : List ℤ) (pass : Pa
     abbrev Now : Given → Type 0
     Now e = Tries program word first second S p e
 
-    second-sound : {f : Fault} → TurnsDown program S p first f → Now (thenSecond program word second S f (alone program (numberOf word) S second))
-    second-sound {f} t = either (alone program (numberOf word) S second)
-        (λ l e. rw (e, second-takes program word second S f l) (t-second t (alone-accepts second l .0 e)))
-        (λ g e. rw (e, second-stops program word second S f g) (stopped second refl (alone-refuses second g .0 e)))
+    second-sound : {f : Fault} → TurnsDown program S p first f → (second ≡ [] → ⊥) → Now (thenSecond program word second S (alone program (numberOf word) S second))
+    second-sound t h = either (alone program (numberOf word) S second)
+        (λ l e. rw (e, second-takes program word second S l) (t-second t (alone-accepts second l .0 e)))
+        (λ g e. rw (e, second-stops program word second S g) (stopped (alone-refuses second g .0 e)))
       where
-        stopped : {g : Fault} (us : List ℤ) → second ≡ us → Stops program S p second g → Now (refusedBy program S (cond (none? us) f g))
-        stopped [] e s = t-no-second t e
-        stopped (u ∷ us) e (inl d) = t-both t d (λ z. omega (arith, ap length (sym e ∙ z)))
-        stopped (u ∷ us) e (inr x) = absurd (never-own (turned-down-comes t) (x .0) (x .1))
+        stopped : {g : Fault} → Stops program S p second g → Now (refusedBy program S g)
+        stopped (inl d) = t-both t d h
+        stopped (inr x) = absurd (never-own (turned-down-comes t) (x .0) (x .1))
 
     tries-sound : Now (tries program word first second S (alone program (numberOf word) S first))
     tries-sound = either (alone program (numberOf word) S first)
@@ -194,22 +200,20 @@ module _ (program : List ℤ) (word : ℤ) (S : State) (p : List ℤ) (pass : Pa
         (λ f e. stopped e (alone-refuses first f .0 e))
       where
         stopped : {f : Fault} → alone program (numberOf word) S first ≡ stop f → Stops program S p first f → Now (tries program word first second S (alone program (numberOf word) S first))
-        stopped {f} e (inl t) = rw (e, first-turned program word second S first f (turning-complete (turned-number t))) (second-sound t)
+        stopped {f} e (inl t) = cases (none? second)
+            (λ c. rw (e, no-second program word second S first f c) (t-no-second t (without-words second c)))
+            (λ c. rw (e, first-turned program word second S first f (turning-complete (turned-number t)) c) (second-sound t (λ z. true≢false (ap none? (sym z) ∙ c))))
         stopped {f} e (inr x) = rw (e, first-stops program word second S first f (other-number (x .1))) (t-refused (x .0) (x .1))
 
-    after-first : {f : Fault} → TurnsDown program S p first f
-        → tries program word first second S (alone program (numberOf word) S first) ≡ thenSecond program word second S f (alone program (numberOf word) S second)
-    after-first {f} t = rw (alone-refuses first f .1 (inl t)) (first-turned program word second S first f (turning-complete (turned-number t)))
+    after-first : {f : Fault} → TurnsDown program S p first f → (second ≡ [] → ⊥)
+        → tries program word first second S (alone program (numberOf word) S first) ≡ thenSecond program word second S (alone program (numberOf word) S second)
+    after-first {f} t h = rw (alone-refuses first f .1 (inl t)) (first-turned program word second S first f (turning-complete (turned-number t)) (some-words second h))
 
     tries-complete : {e : Given} → Now e → tries program word first second S (alone program (numberOf word) S first) ≡ e
     tries-complete (t-first {l = l} a) = rw (alone-accepts first l .1 a) (first-takes program word second S first l)
-    tries-complete (t-second {f = f} {l = l} t a) = after-first t ∙ rw (alone-accepts second l .1 a) (second-takes program word second S f l)
-    tries-complete (t-both {f = f} {g = g} t d h) =
-        after-first t ∙ rw (alone-refuses second g .1 (inl d)) (second-stops program word second S f g) ∙ ap (λ b. refusedBy program S (cond b f g)) (some-words second h)
-    tries-complete (t-no-second {f = f} t e) =
-        after-first t
-        ∙ rw (alone-refuses second (refused 6 p) .1 (inl (none-turned e (turned-down-comes t)))) (second-stops program word second S f (refused 6 p))
-        ∙ ap (λ us. refusedBy program S (cond (none? us) f (refused 6 p))) e
+    tries-complete (t-second {l = l} t a) = after-first t (accepts-words a) ∙ rw (alone-accepts second l .1 a) (second-takes program word second S l)
+    tries-complete (t-both {g = g} t d h) = after-first t h ∙ rw (alone-refuses second g .1 (inl d)) (second-stops program word second S g)
+    tries-complete (t-no-second {f = f} t e) = rw (alone-refuses first f .1 (inl t)) (no-second program word second S first f (ap none? e))
     tries-complete (t-refused {f = f} r h) = rw (alone-refuses first f .1 (inr (r, h))) (first-stops program word second S first f (other-number h))
 
     pub tries-rule : (e : Given) → (tries program word first second S (alone program (numberOf word) S first) ≡ e) ↔ Tries program word first second S p e

@@ -258,7 +258,7 @@ entries-length : {low n : ℕ} {ws rest : List ℤ} {es : List Entry} → Entrie
 entries-length no-more = omega arith
 entries-length (next a b others) = let e = entries-length others in omega arith
 
-formed-length : {ws rest : List ℤ} {es : List Entry} → Formed ws es rest → length ws ≡ 2 * numberAt ws 0 + 1 + length rest
+pub formed-length : {ws rest : List ℤ} {es : List Entry} → Formed ws es rest → length ws ≡ 2 * numberAt ws 0 + 1 + length rest
 formed-length (formed {n = n} {ws = ws} is) = omega (arith, number-first (pos n) ws, entries-length is)
 
 pub formed-whole : {ws rest : List ℤ} {es : List Entry} → hasMore ws ≡ false → Formed ws es rest → rest ≡ []
@@ -321,7 +321,3 @@ asks-comes a = turned-comes a six
 pub turned-down-comes : {program p ws : List ℤ} {S : State} {f : Fault} → TurnsDown program S p ws f → Comes program S p
 turned-down-comes (fails r t w) = turned-comes r t
 turned-down-comes (left-over a f) = asks-comes a
-
--- a slice without a word is turned down with 6
-pub none-turned : {program p ws : List ℤ} {S : State} → ws ≡ [] → Comes program S p → TurnsDown program S p ws (refused 6 p)
-none-turned {ws = ws} e c = fails (c .refuses ws 6 (no-words e)) six (λ es rest f. absurd (omega (arith, formed-length f, ap length e)))

@@ -1,6 +1,6 @@
 -- One statement with two proposals (02, W6), by the statement's own rule (Statements.doSimple). Assumes nothing: these are definitions.
 use Prim.Native.Nat.{ℕ, zero, suc, _+_, _*_}
-use mathlib.Core.Bool.{Bool, true, false, cond, _&&_, _||_}
+use mathlib.Core.Bool.{Bool, true, false, not, cond, _&&_, _||_}
 use mathlib.Core.List.{List, [], _∷_}
 use lib.Dec.{eqb, ltb, leb}
 use lib.IntN.{ℤ, pos, negsuc}
@@ -61,16 +61,17 @@ alone program at S ws = doSimple program (drop at program) S (whole ws) (verbOf 
 unfoldable pub turnsDown : ℕ → Bool
 turnsDown n = eqb n 6 || leb 16 n && leb n 19
 
--- what the second slice comes to, where the first was refused with f: "If both were tried in vain, the number is the second's, or the first's where the second slice is empty."
-unfoldable pub thenSecond : List ℤ → ℤ → List ℤ → State → Fault → Res Left → Given
-thenSecond program word second S f (got l) = accepting word 2 second (l .state)
-thenSecond program word second S f (stop g) = refusedBy program S (cond (none? second) f g)
+-- what the second slice comes to
+unfoldable pub thenSecond : List ℤ → ℤ → List ℤ → State → Res Left → Given
+thenSecond program word second S (got l) = accepting word 2 second (l .state)
+thenSecond program word second S (stop g) = refusedBy program S g
 
--- "The first is tried; if it is refused by 6 or by 16 to 19 (later 31 too), the second."
+-- "The first is tried; if it is refused by 6 or by 16 to 19 (later 31 too), the second."; an empty second is not tried:
+-- "If both were tried in vain, the number is the second's, or the first's where the second slice is empty."
 unfoldable pub tries : List ℤ → ℤ → List ℤ → List ℤ → State → Res Left → Given
 tries program word first second S (got l) = accepting word 1 first (l .state)
 tries program word first second S (stop f) =
-    cond (turnsDown (f .number)) (thenSecond program word second S f (alone program (numberOf word) S second)) (refusedBy program S f)
+    cond (turnsDown (f .number) && not (none? second)) (thenSecond program word second S (alone program (numberOf word) S second)) (refusedBy program S f)
 
 -- what is tried before the statement refuses it, or the call goes on
 abbrev pub passing : Answer Early (Unit {0}) → State → Given → Given

@@ -66,7 +66,7 @@ module _ {program ws : List ℤ} {budget : ℤ} {S : State} {e : Ended} (a : Ans
     where
       go : Dec (OneOf (e .outcome) (7 ∷ 8 ∷ 9 ∷ 15 ∷ [])) → Dec (e .place < length program) → e .place < 2147483648
       go o (yes l) = omega arith
-      go (yes o) (no l) = absurd (l (inside-short (a .inside o)))
+      go (yes o) (no l) = absurd (l (inside-short (a .inside o .1 .1)))
       go (no o) (no l) = absurd (a .at-statement h o (sym (statement-past program (e .place) (omega arith))))
   placed b (no h) (yes z) = omega (arith, a .finished z)
   placed b (no h) (no z) = early-small (a .early (omega arith) (omega arith) .0)

@@ -11,7 +11,7 @@ use Rattle.rules.specs.State.{State}
 use Rattle.rules.specs.Start.{Ended, run}
 use Rattle.rules.specs.Claims.Answers.{Inside, Reached}
 use Rattle.rules.specs.Structure.{SameState}
-use Rattle.rules.specs.Rules.Kept.{Stands}
+use Rattle.rules.specs.Rules.Kept.{AtStatement, Stands}
 use Rattle.rules.specs.Rules.Answers.{Answered}
 use Rattle.run.specs.Told.{Meets}
 
@@ -25,7 +25,7 @@ pub record Keeps (program ws : List ℤ) (budget : ℤ) (S Z : State) (answer un
   pub known : numberAt answer 0 ≤ 19
   pub untouched : 1 ≤ numberAt answer 0 → numberAt answer 0 ≤ 4 → (Z ≡ S) × ((unread ≡ ws) × ((numberAt answer 2 ≡ 0) × (numberAt answer 3 ≡ 0)))
   pub at-statement : 5 ≤ numberAt answer 0 → (OneOf (numberAt answer 0) (7 ∷ 8 ∷ 9 ∷ 15 ∷ []) → ⊥) → statementAt program (numberAt answer 1) ≡ Nowhere → ⊥
-  pub inside : OneOf (numberAt answer 0) (7 ∷ 8 ∷ 9 ∷ 15 ∷ []) → Inside program Z (numberAt answer 1) (numberAt answer 0)
+  pub inside : OneOf (numberAt answer 0) (7 ∷ 8 ∷ 9 ∷ 15 ∷ []) → (p : List ℤ) × (AtStatement program p × Inside program Z p (numberAt answer 1) (numberAt answer 0))
   pub steps : numberAt answer 2 ≤ numberOf budget
   pub accepted : numberAt answer 3 ≤ numberAt answer 2
   pub part : unread ≡ lastOf (length unread) ws

@@ -9,7 +9,7 @@ use lib.ListN.{length, take, drop}
 use lib.Seq.{take-all}
 use Rattle.words.specs.Words.{numberOf, numberAt, wordOf}
 use Rattle.words.specs.Answer.{Answer, got, stop}
-use Rattle.words.proofs.Laws.{word-is}
+use Rattle.words.proofs.Laws.{word-is, number-first, number-drop}
 use Rattle.words.proofs.AnswerLaws.{either}
 use Rattle.tables.proofs.SearchLaws.{cases}
 use Rattle.program.specs.Forms.{verbOf}
@@ -24,7 +24,7 @@ use Rattle.rules.specs.Claims.Solvers.{sliceOf}
 use Rattle.rules.proofs.EndLaws.{Ends, ends-got, ends-stop, ends-on}
 use Rattle.rules.proofs.RefusalLaws.{Refusal, told, unread, simple-refuses}
 use Rattle.rules.proofs.StartClauses.{early-got, early-stop}
-use Rattle.rules.proofs.SolverClauses.{alone-is, second-takes, second-stops, first-takes, first-turned, first-stops, ask-is}
+use Rattle.rules.proofs.SolverClauses.{alone-is, second-takes, second-stops, first-takes, first-turned, first-stops, no-second, ask-is}
 use Rattle.proposals.proofs.FormLaws.{unlike}
 use Rattle.phases.specs.declared.Done.{Done}
 use Rattle.phases.specs.declared.Done.the-variants.{Accepted, Refused as Turned}
@@ -99,38 +99,33 @@ module _ (program : List ℤ) (word : ℤ) (first second : List ℤ) (S : State)
       stopped : tries program word first second S (stop fault) ≡ both
       stopped = ap (tries program word first second S) (sym (not-done d h .is))
 
-      pub tries-neither : turnsDown n ≡ false → givenBy program word first second Y (Neither n w) ≡ both
-      tries-neither e =
-          ap (λ (X : State). refusedBy program X fault) stays ∙ sym (first-stops program word second S first fault e) ∙ stopped
+      firsts : tries program word first second S (stop fault) ≡ refusedBy program S fault → givenBy program word first second Y (Neither n w) ≡ both
+      firsts x = ap (λ (X : State). refusedBy program X fault) stays ∙ sym x ∙ stopped
 
-      -- the first is turned down: the second is tried from the same tables
-      module _ (e : turnsDown n ≡ true) {Z : State} {q : Done} (g : Does Y Z q (alone program (numberOf word) Y second)) where
+      pub tries-neither : turnsDown n ≡ false → givenBy program word first second Y (Neither n w) ≡ both
+      tries-neither e = firsts (first-stops program word second S first fault e)
+
+      pub tries-empty : length second ≡ 0 → givenBy program word first second Y (Neither n w) ≡ both
+      tries-empty z = firsts (no-second program word second S first fault (empty second z))
+
+      -- the first is turned down, and the second has words: it is tried from the same tables
+      module _ (e : turnsDown n ≡ true) (z : length second ≡ 0 → ⊥) {Z : State} {q : Done} (g : Does Y Z q (alone program (numberOf word) Y second)) where
         tried : Does S Z q (alone program (numberOf word) S second)
         tried = rw stays at g
 
-        turned : {m : Res Left} → alone program (numberOf word) S second ≡ m → thenSecond program word second S fault m ≡ both
-        turned x = ap (thenSecond program word second S fault) (sym x) ∙ sym (first-turned program word second S first fault e) ∙ stopped
+        turned : {m : Res Left} → alone program (numberOf word) S second ≡ m → thenSecond program word second S m ≡ both
+        turned x = ap (thenSecond program word second S) (sym x) ∙ sym (first-turned program word second S first fault e (not-empty second z)) ∙ stopped
 
         pub tries-second : {unread k : ℕ} → q ≡ Accepted unread k → givenBy program word first second Z Second ≡ both
         tries-second i =
             let t = taken tried i in
-            ap (accepting word 2 second) (t .leaves) ∙ sym (second-takes program word second S fault (t .left)) ∙ turned (t .is)
+            ap (accepting word 2 second) (t .leaves) ∙ sym (second-takes program word second S (t .left)) ∙ turned (t .is)
 
-        module _ {m v : ℕ} (i : q ≡ Turned m v) where
-          abbrev other : Fault
-          other = record { number = m; word = v }
-
-          neither : {b : Bool} → none? second ≡ b → refusedBy program Z (cond b fault other) ≡ both
-          neither {b} x =
-              let t = not-done tried i in
-              ap (λ (X : State). refusedBy program X (cond b fault other)) (t .stays) ∙ ap (λ (c : Bool). refusedBy program S (cond c fault other)) (sym x)
-              ∙ sym (second-stops program word second S fault other) ∙ turned (t .is)
-
-          pub tries-empty : length second ≡ 0 → givenBy program word first second Z (Neither n w) ≡ both
-          tries-empty z = neither (empty second z)
-
-          pub tries-both : (length second ≡ 0 → ⊥) → givenBy program word first second Z (Neither m v) ≡ both
-          tries-both z = neither (not-empty second z)
+        pub tries-both : {m v : ℕ} → q ≡ Turned m v → givenBy program word first second Z (Neither m v) ≡ both
+        tries-both {m} {v} i =
+            let t = not-done tried i in
+            let other : Fault = record { number = m; word = v } in
+            ap (λ (X : State). refusedBy program X other) (t .stays) ∙ sym (second-stops program word second S other) ∙ turned (t .is)
 
   -- ---- the numbers of a refusal
 
@@ -146,14 +141,12 @@ module _ (program : List ℤ) (word : ℤ) (first second : List ℤ) (S : State)
       either (alone program (numberOf word) S first)
       (λ l e. rw (e, first-takes program word second S first l) (omega arith))
       (λ f e. cases (turnsDown (f .number))
-      (λ c. either (alone program (numberOf word) S second)
-      (λ l k. rw (e, first-turned program word second S first f c, k, second-takes program word second S f l) (omega arith))
-      (λ g k. rw (e, first-turned program word second S first f c, k, second-stops program word second S f g) (go f g (none? second) (alone-small first e) (alone-small second k))))
+      (λ c. cases (none? second)
+      (λ z. rw (e, no-second program word second S first f z) (alone-small first e))
+      (λ z. either (alone program (numberOf word) S second)
+      (λ l k. rw (e, first-turned program word second S first f c z, k, second-takes program word second S l) (omega arith))
+      (λ g k. rw (e, first-turned program word second S first f c z, k, second-stops program word second S g) (alone-small second k))))
       (λ c. rw (e, first-stops program word second S first f c) (alone-small first e)))
-    where
-      go : (f g : Fault) (b : Bool) → f .number ≤ 19 → g .number ≤ 19 → cond b f g .number ≤ 19
-      go f g true a b = a
-      go f g false a b = b
 
   -- ---- the start
 
@@ -227,3 +220,7 @@ module _ (program : List ℤ) (word : ℤ) (first second : List ℤ) (S : State)
             let y : refusing Z n (pos (length program - left)) ≡ both = rw x at e in
             let l : n ≤ 19 = rw (← y) at both-small in
             hands-none (begins .0 ∙ sym y) l (rw (word-is (length program - left) (omega (arith, begins .1))) at a) w
+
+-- what is the solver's that the answer tells
+pub of-solver : {A : Type 0} (k : ℕ) → k ≤ 2 → {a b : ℤ} {answer : List ℤ} → answer ≡ a ∷ b ∷ wordOf k ∷ [] → (one two : A) → sliceOf (numberAt answer 2) one two ≡ sliceOf k one two
+of-solver k l {a} {b} x one two = rw (x, word-is k (omega arith), sym (number-drop (a ∷ b ∷ pos k ∷ []) 2 0) ∙ number-first (pos k) [])

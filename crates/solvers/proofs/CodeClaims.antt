@@ -1,12 +1,13 @@
 -- The claims of specs/Claims.antt. Assumes nothing.
-use mathlib.Core.Path.{_≡_, refl, sym, ap, _∙_}
+use mathlib.Core.Path.{_≡_, refl, sym, ap, subst, _∙_}
 use mathlib.Core.Logic.{_⊎_, inl, inr}
 use native.Mathlib.Omega.{arith}
 use Prim.Native.Nat.{ℕ, zero, suc, _≤_}
 use lib.IntN.{pos}
-use Rattle.words.specs.Words.{wordAt, numberAt}
+use Rattle.words.specs.Words.{wordAt, numberOf, numberAt}
 use Rattle.words.proofs.Laws.{number-first, number-drop}
 use Rattle.rules.specs.Solvers.{Given, ask}
+use Rattle.rules.specs.Claims.Answers.{Inside}
 use Rattle.rules.proofs.SolverRules.{solvers-rules}
 use Rattle.rules.proofs.SolverJudged.{solvers-alone}
 use Rattle.rules.proofs.SolverFacts.{solvers-answers, solvers-stand, solvers-move, solvers-structure}
@@ -20,6 +21,9 @@ module _ (e : Given) where
 
   place-is : wordAt (answerOf e) 1 ≡ e .place
   place-is = refl
+
+  number-is : {k : ℕ} → e .place ≡ pos k → numberAt (answerOf e) 1 ≡ k
+  number-is z = sym (number-drop (answerOf e) 1 0) ∙ number-first (e .place) _ ∙ ap numberOf z
 
   solver-is : numberAt (answerOf e) 2 ≡ e .solver
   solver-is = sym (number-drop (answerOf e) 2 0) ∙ number-first (pos (e .solver)) _
@@ -42,7 +46,8 @@ every-answer program word first second S Z a u m =
       at-statement = λ h apart. f .at-statement (rw (outcome-is e) at h) (rw (outcome-is e) at apart);
       inside = λ o.
           let q = f .inside (rw (outcome-is e) at o) in
-          rw (outcome-is e, sym (number-drop (answerOf e) 1 0) ∙ number-first (e .place) _, q .1 .0) (q .1 .1);
+          let i = q .1 .1 in
+          (q .0, (q .1 .0, subst (λ k. Inside program S (q .0) k (numberAt (answerOf e) 0)) (sym (number-is e (i .1 .0))) (subst (Inside program S (q .0) (i .0)) (sym (outcome-is e)) (i .1 .1))));
     })
 
 pub answers-exactly : AnswersExactly

@@ -28,7 +28,7 @@ pub record Keeps (program : List ℤ) (word : ℤ) (first second : List ℤ) (S 
   -- refused: every word of the tables as before
   pub untouched : 1 ≤ numberAt answer 0 → (Z ≡ S) × ((words ≡ []) × (numberAt answer 2 ≡ 0))
   pub at-statement : 5 ≤ numberAt answer 0 → (OneOf (numberAt answer 0) (7 ∷ 8 ∷ 9 ∷ 15 ∷ []) → ⊥) → wordAt answer 1 ≡ word
-  pub inside : OneOf (numberAt answer 0) (7 ∷ 8 ∷ 9 ∷ 15 ∷ []) → Inside program S (numberAt answer 1) (numberAt answer 0)
+  pub inside : OneOf (numberAt answer 0) (7 ∷ 8 ∷ 9 ∷ 15 ∷ []) → (p : List ℤ) × (Named program word p × Inside program S p (numberAt answer 1) (numberAt answer 0))
 
 abbrev pub EveryAnswer : Type 0
 EveryAnswer = (program : List ℤ) (word : ℤ) (first second : List ℤ) (S Z : State) (a u : List ℤ)
@@ -57,7 +57,7 @@ StandsAfter = (program : List ℤ) (word : ℤ) (first second : List ℤ) (S Z :
 -- what an accepted proposal moves
 abbrev pub MovesOnly : Type 0
 MovesOnly = (program : List ℤ) (word : ℤ) (first second : List ℤ) (S Z : State) (a u : List ℤ)
-    → Hands first second Z a u (ask program word first second S) → numberAt a 0 ≡ 0 → (p : List ℤ) × (Named program word p × Moves program S p (Z .cells))
+    → Hands first second Z a u (ask program word first second S) → numberAt a 0 ≡ 0 → (p : List ℤ) × (Named program word p × Moves program S p Z)
 
 -- two accepted calls for one statement leave one structure
 abbrev pub OneStructure : Type 0

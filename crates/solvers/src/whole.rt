@@ -9,13 +9,14 @@ use program::Verdict;
 use run::Started;
 ghost use mathlib.Core.Path.{_≡_};
 ghost use mathlib.Core.List.{[], _∷_};
-ghost use Rattle.words.specs.Words.{numberOf, wordOf};
+ghost use Rattle.words.specs.Words.{numberOf, numberAt, wordOf};
 ghost use Rattle.rules.specs.Solvers.{tries, ask as askBy};
 ghost use Rattle.rules.specs.Solvers.{alone as aloneBy};
+ghost use Rattle.rules.specs.Claims.Solvers.{sliceOf};
 ghost use Rattle.phases.specs.Told.{tables};
 ghost use Rattle.solvers.specs.Told.{givenBy, opening, Hands};
 
-// The first slice is tried, and then the second where the first is turned down.
+// The first slice is tried, and then the second where the first is turned down and the second has words.
 fn attempt(
     program: &[i32],
     environment: &mut [i32],
@@ -30,18 +31,16 @@ fn attempt(
     let at = words::number(word);
     match alone(program, environment, heap, constraints, first, at) {
         Done::Accepted(_, _) => Tried::First,
-        Done::Refused(number, place) => {
+        Done::Refused(number, left) => {
             if !turns_down(number) {
-                return Tried::Neither(number, place);
+                return Tried::Neither(number, left);
+            }
+            if second.len() == 0 {
+                return Tried::Neither(number, left);
             }
             match alone(program, environment, heap, constraints, second, at) {
                 Done::Accepted(_, _) => Tried::Second,
-                Done::Refused(other, its) => {
-                    if second.len() == 0 {
-                        return Tried::Neither(number, place);
-                    }
-                    Tried::Neither(other, its)
-                }
+                Done::Refused(other, rest) => Tried::Neither(other, rest),
             }
         }
     }
@@ -95,12 +94,13 @@ pub fn ask<'a>(
     second: &'a [i32],
     answer: &mut [i32; 3],
 ) -> &'a [i32]
-    ensures { λ r. ⌜ Hands (now (first .entry)) (now (second .entry)) (tables (now (environment .exit)) (now (heap .exit)) (now (constraints .exit))) (now (answer .exit)) (now r) (askBy (now (program .entry)) word (now (first .entry)) (now (second .entry)) (tables (now (environment .entry)) (now (heap .entry)) (now (constraints .entry)))) ⌝ }
+    ensures hands { λ r. ⌜ Hands (now (first .entry)) (now (second .entry)) (tables (now (environment .exit)) (now (heap .exit)) (now (constraints .exit))) (now (answer .exit)) (now r) (askBy (now (program .entry)) word (now (first .entry)) (now (second .entry)) (tables (now (environment .entry)) (now (heap .entry)) (now (constraints .entry)))) ⌝ }
+    ensures place { λ r. ⌜ r .ptr ≡ sliceOf (numberAt (now (answer .exit)) 2) (first .entry .ptr) (second .entry .ptr) ⌝ }
 {
     match opens(program, environment, heap, constraints, word) {
         Opened::Early(number, place) => {
             tell(answer, number, place, 0);
-            words::part_to(first, 0)
+            &first[..0]
         }
         Opened::Begins => match attempt(
             program,
@@ -126,7 +126,7 @@ pub fn ask<'a>(
                     words::word_of(words::less(program.len(), left)),
                     0,
                 );
-                words::part_to(first, 0)
+                &first[..0]
             }
         },
     }

@@ -52,8 +52,8 @@ pub struct ListAnswer<'p> {
 
 /// How a run ended, under document 01's numbers; how a text was read, which is
 /// 0, 1 or 20 to 22; how a list ended, which is a run's or 23; how a statement
-/// with two solvers ended, which is a run's but for 5; or how a program was
-/// written, which is 0 to 2, 24 or 25. Prints as what it says.
+/// with two solvers ended, which is a run's but for 5 and 11; or how a program
+/// was written, which is 0 to 2, 24 or 25. Prints as what it says.
 ///
 /// 1 to 4 are tried in their order; they cost no steps, accept no proposal and
 /// change no table. From 5 on the tables hold what the last accepted statement

@@ -3,10 +3,6 @@
 use crate::answer::Outcome;
 use core::fmt;
 
-/// What 2 says of the word that was asked about. It is as true where the
-/// program does not read from that very word on.
-pub(crate) const NO_STATEMENT: &str = "no statement that reads a proposal begins there";
-
 /// One of the two that are asked. Prints as `first` or `second`.
 #[derive(Clone, Copy, Debug, PartialEq, Eq, PartialOrd, Ord, Hash)]
 pub enum Solver {
@@ -31,9 +27,9 @@ pub struct Asked<'p> {
     /// How the statement ended.
     pub outcome: Outcome,
     /// That word where the statement finished, else the place of a run: see
-    /// [`Outcome`]. For 2 it is also that word, and then any, negative ones
-    /// too. [`Program::asked_refusal`](crate::Program::asked_refusal) shows it
-    /// in the text.
+    /// [`Outcome`]. For 2 it can also be that word, which may then be negative.
+    /// [`Program::asked_refusal`](crate::Program::asked_refusal) shows it in
+    /// the text.
     pub place: i32,
     /// The solver whose proposal was accepted, with the accepted words as a
     /// part of the caller's own slice. There are none on a refusal.
@@ -48,6 +44,22 @@ impl Solver {
 }
 
 impl<'p> Asked<'p> {
+    /// What the outcome says of an asking, which has no budget, names a word
+    /// and takes whole proposals. What 2 says of the word is as true where the
+    /// program does not read from that very word on.
+    pub fn says(&self) -> &'static str {
+        match self.outcome {
+            Outcome::WrongSize => "a table's length is wrong",
+            Outcome::UnfitProgram if self.place == self.word => {
+                "no statement that reads a proposal begins there"
+            }
+            Outcome::UnfitProposal => {
+                "proposal cut short, n out of range, locations not rising or outside 0 to 575, words left over"
+            }
+            outcome => outcome.says(),
+        }
+    }
+
     /// The answer of the three numbers and of the count of words that were
     /// accepted; none where the archive is not the proved one.
     pub(crate) fn of(
@@ -87,11 +99,7 @@ impl fmt::Display for Asked<'_> {
             Outcome::WrongSize | Outcome::UnfitTable => "place",
             _ => "word",
         };
-        write!(out, "{} at {of} {place}: ", outcome.number())?;
-        if outcome == Outcome::UnfitProgram && place == self.word {
-            return write!(out, "{NO_STATEMENT}");
-        }
-        write!(out, "{outcome}")?;
+        write!(out, "{} at {of} {place}: {}", outcome.number(), self.says())?;
         match self.accepted {
             Some((solver, _)) => write!(out, ", by the {solver} solver"),
             None => Ok(()),

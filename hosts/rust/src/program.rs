@@ -2,7 +2,7 @@
 //! in the text.
 
 use crate::answer::{Answer, Outcome};
-use crate::asking::{Asked, NO_STATEMENT};
+use crate::asking::Asked;
 use crate::call::{read_words, LONGEST_PROGRAM, LONGEST_TEXT, NAMES_WORDS};
 use crate::entry::{Entry, Literal, LONGEST_PATH};
 use crate::text::{written, Unwritten};
@@ -32,11 +32,13 @@ pub struct Program<'t> {
 /// line, and a mark under the place.
 #[derive(Clone, Copy, Debug, PartialEq, Eq)]
 pub struct Refusal<'t> {
-    /// 20 to 22 for a text, 4 to 19 for a run, 2 or 4 to 19 for two solvers.
+    /// 20 to 22 for a text, 4 to 19 for a run, 2 or 4 to 19 for two solvers,
+    /// but for 5 and 11.
     pub outcome: Outcome,
     /// The token at which the text is refused, or that the word at the place
     /// comes from.
     pub spot: Spot<'t>,
+    says: &'static str,
 }
 
 /// A place in a text.
@@ -76,6 +78,7 @@ impl<'t> Program<'t> {
             return Err(Refusal {
                 outcome: reading.outcome,
                 spot: Spot::of(text, reading.place),
+                says: reading.outcome.says(),
             });
         }
         program.count = reading.words;
@@ -146,6 +149,7 @@ impl<'t> Program<'t> {
         Some(Refusal {
             outcome: answer.outcome,
             spot: self.spot(answer.place)?,
+            says: answer.outcome.says(),
         })
     }
 
@@ -164,6 +168,7 @@ impl<'t> Program<'t> {
         Some(Refusal {
             outcome: asked.outcome,
             spot: spot?,
+            says: asked.says(),
         })
     }
 
@@ -234,12 +239,7 @@ impl fmt::Display for Spot<'_> {
 impl fmt::Display for Refusal<'_> {
     fn fmt(&self, out: &mut fmt::Formatter<'_>) -> fmt::Result {
         let (line, column) = (self.spot.line, self.spot.column);
-        let number = self.outcome.number();
-        // The program of a text reads: 2 is of a word that was asked about.
-        let says = match self.outcome {
-            Outcome::UnfitProgram => NO_STATEMENT,
-            outcome => outcome.says(),
-        };
+        let (number, says) = (self.outcome.number(), self.says);
         writeln!(out, "{number} at line {line}, column {column}: {says}")?;
         write!(out, "{}", self.spot)
     }

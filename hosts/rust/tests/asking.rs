@@ -126,6 +126,11 @@ fn words_left_over_are_16() {
         assert_eq!(in_vain(over, STUBBORN), Outcome::UnfitEntry);
         assert_eq!(accepted(over, FITTING), Solver::Second);
     }
+    let (program, tables) = worked();
+    let asked = refused(program.words(), &tables, 27, [OVER[0]; 2]);
+    assert!(asked.to_string().ends_with("words left over"));
+    let refusal = program.asked_refusal(&asked).expect("a word of it");
+    assert!(refusal.to_string().contains("words left over\n"));
 }
 
 /// Both are only read, and may be one, or parts of one.
@@ -234,6 +239,7 @@ fn tables_of_another_length_are_refused() {
         let [environment, heap, constraints] = &mut tables;
         let asked = ask_words(&[9], environment, heap, constraints, -5, FITTING, IDLE);
         assert_eq!((asked.outcome, asked.place), (Outcome::WrongSize, 0));
+        assert_eq!(asked.to_string(), "1 at place 0: a table's length is wrong");
         assert_eq!((asked.accepted, tables), (None, before));
     }
 }

@@ -46,11 +46,11 @@ pub data Found (program : List ℤ) (S : Cells) (n place : ℕ) : Bool → List 
   in-test : {verb : ℕ} {p q : List ℤ}
       → 7 ≤ verb → Takes (Expression false expressionDepth) p q → positionOf program p ≤ place → place < positionOf program q → Wrong S false n (drop place program) → Found program S n place false (pos verb ∷ p)
 
--- the place of 7, 8 and 9 is a word of the statement; that of 15 is a word of the first kept constraint that does not read once the target's class has its value
-pub data Inside (program : List ℤ) (S : State) (place : ℕ) : ℕ → Type 0 where
-  of-statement : {c : Bool} {n : ℕ} {p : List ℤ} → AtStatement program p → Found program (S .cells) n place c p → Inside program S place n
-  of-kept : {n k target : ℕ} {prefix : List ℕ} {v : Value} {N Y : Cells} {p : List ℤ} → AtStatement program p → Gives (S .cells) p target prefix v N → Phase program (S .kept) (S .cells) N target prefix v Y
-      → FirstNot (Reads program Y) (positions (S .kept) Values) k → Found program Y n place true (drop k program) → Inside program S place 15
+-- the place of 7, 8 and 9 is a word of the statement at p; that of 15 is a word of the first kept constraint that does not read once the target's class has its value
+pub data Inside (program : List ℤ) (S : State) (p : List ℤ) (place : ℕ) : ℕ → Type 0 where
+  of-statement : {c : Bool} {n : ℕ} → Found program (S .cells) n place c p → Inside program S p place n
+  of-kept : {n k target : ℕ} {prefix : List ℕ} {v : Value} {N Y : Cells} → Gives (S .cells) p target prefix v N → Phase program (S .kept) (S .cells) N target prefix v Y
+      → FirstNot (Reads program Y) (positions (S .kept) Values) k → Found program Y n place true (drop k program) → Inside program S p place 15
 
 pub record Answer (program ws : List ℤ) (budget : ℤ) (S : State) (e : Ended) : Type 0 where
   -- "No. 0 to 19"
@@ -63,7 +63,7 @@ pub record Answer (program ws : List ℤ) (budget : ℤ) (S : State) (e : Ended)
   pub unread-place : e .outcome ≡ 2 → (e .place ≤ mostWords) × ((e .place ≤ length program) × (mostWords < length program → e .place ≡ mostWords))
   -- "From 5 on, place is the statement's word", but for 7, 8, 9 and 15 (02, W2)
   pub at-statement : 5 ≤ e .outcome → (OneOf (e .outcome) (7 ∷ 8 ∷ 9 ∷ 15 ∷ []) → ⊥) → statementAt program (e .place) ≡ Nowhere → ⊥
-  pub inside : OneOf (e .outcome) (7 ∷ 8 ∷ 9 ∷ 15 ∷ []) → Inside program (e .state) (e .place) (e .outcome)
+  pub inside : OneOf (e .outcome) (7 ∷ 8 ∷ 9 ∷ 15 ∷ []) → (p : List ℤ) × (AtStatement program p × Inside program (e .state) p (e .place) (e .outcome))
   -- the counts, and the unread words "as a part of that slice"
   pub steps : e .steps ≤ numberOf budget
   pub accepted : e .accepted ≤ e .steps

@@ -8,16 +8,17 @@ use mathlib.Core.Option.{none, some}
 use lib.IntN.{ℤ, pos}
 use lib.ListN.{length, take}
 use Rattle.tables.specs.declared.Value.{Value}
+use Rattle.tables.specs.declared.Sort.the-variants.{Values}
 use Rattle.tables.specs.Cells.{Cells}
 use Rattle.rules.specs.State.{State, Fault}
-use Rattle.rules.specs.Statements.{Left}
+use Rattle.rules.specs.Statements.{Left, positionOf}
 use Rattle.rules.specs.Solvers.{Given, ask}
 use Rattle.rules.specs.Effects.{Effect}
 use Rattle.rules.specs.Structure.{SameState}
 use Rattle.rules.specs.Rules.Identities.{Phase}
-use Rattle.rules.specs.Rules.Statements.{asking, Gives, Refused}
+use Rattle.rules.specs.Rules.Statements.{Keeps, asking, Gives, Refused}
 use Rattle.rules.specs.Rules.Kept.{Stands}
-use Rattle.rules.specs.Rules.Answers.{Passes}
+use Rattle.rules.specs.Rules.Answers.{Unstarted, Passes}
 use Rattle.rules.specs.Rules.Solvers.{Named, Accepts, Asks, turning, TurnsDown, accepted, turnedDown, Asked}
 use Rattle.rules.specs.Claims.Answers.{Inside}
 use Rattle.rules.specs.Claims.Room.{Stays}
@@ -43,8 +44,8 @@ SolversAlone = (program : List ℤ) (word : ℤ) (first second : List ℤ) (S : 
 
 -- ---- demand 1: what every answer of the call keeps to
 
--- the slice of a solver; where none is told, the first
-abbrev pub sliceOf : ℕ → List ℤ → List ℤ → List ℤ
+-- of two, that of a solver; where none is told, the first
+abbrev pub sliceOf : {A : Type 0} → ℕ → A → A → A
 sliceOf zero first second = first
 sliceOf (suc zero) first second = first
 sliceOf (suc (suc k)) first second = second
@@ -57,9 +58,12 @@ pub record Kept (program : List ℤ) (word : ℤ) (first second : List ℤ) (S :
   pub refuses : 1 ≤ e .outcome → e ≡ turnedDown S (e .outcome) (e .place)
   -- "as a part of whichever slice they came from", "the empty start of the first slice"
   pub part : e .words ≡ take (length (e .words)) (sliceOf (e .solver) first second)
-  -- the place of a refusal is a run's: the statement's word, but for 7, 8, 9 and 15
+  -- 1 to 4: the first thing that is wrong, as in a run; or 2 for a word that names no statement
+  pub early : 1 ≤ e .outcome → e .outcome ≤ 4
+      → ((k : ℕ) × ((e .place ≡ pos k) × Unstarted program (pos 0) S (e .outcome) k)) ⊎ ((e .outcome ≡ 2) × ((e .place ≡ word) × ((p : List ℤ) → Named program word p → ⊥)))
+  -- from 5 on the place is a run's: the statement's word, but for 7, 8, 9 and 15
   pub at-statement : 5 ≤ e .outcome → (OneOf (e .outcome) (7 ∷ 8 ∷ 9 ∷ 15 ∷ []) → ⊥) → e .place ≡ word
-  pub inside : OneOf (e .outcome) (7 ∷ 8 ∷ 9 ∷ 15 ∷ []) → (k : ℕ) × ((e .place ≡ pos k) × Inside program S k (e .outcome))
+  pub inside : OneOf (e .outcome) (7 ∷ 8 ∷ 9 ∷ 15 ∷ []) → (p : List ℤ) × (Named program word p × ((k : ℕ) × ((e .place ≡ pos k) × Inside program S p k (e .outcome))))
 
 abbrev pub SolversAnswers : Type 0
 SolversAnswers = (program : List ℤ) (word : ℤ) (first second : List ℤ) (S : State) (e : Given) → Asked program word first second S e → Kept program word first second S e
@@ -71,17 +75,20 @@ abbrev pub SolversStand : Type 0
 SolversStand = (program : List ℤ) (word : ℤ) (first second : List ℤ) (S : State) (e : Given)
     → (1 ≤ e .outcome → 5 ≤ e .outcome) → Asked program word first second S e → Stands program (e .state)
 
--- the accepted proposal moves integers and booleans, each to its own kind, and nothing else: after the target's class has its value, or in the state before the constraint
-pub data Moves (program : List ℤ) (S : State) : List ℤ → Cells → Type 0 where
+-- the accepted proposal moves integers and booleans, each to its own kind, and nothing else: after the target's class has its value, or in the state before the constraint, of which an
+-- always keeps the position
+pub data Moves (program : List ℤ) (S : State) : List ℤ → State → Type 0 where
   given : {target : ℕ} {prefix : List ℕ} {v : Value} {N Y Z : Cells} {p : List ℤ}
-      → Gives (S .cells) p target prefix v N → Phase program (S .kept) (S .cells) N target prefix v Y → Effect (asking none (some target) true) Y Z → Moves program S p Z
-  stated : {verb : ℕ} {Z : Cells} {p : List ℤ} → 3 ≤ verb → verb ≤ 4 → Effect (asking (some p) none true) (S .cells) Z → Moves program S (pos verb ∷ p) Z
+      → Gives (S .cells) p target prefix v N → Phase program (S .kept) (S .cells) N target prefix v Y → Effect (asking none (some target) true) Y Z → Moves program S p (record { cells = Z; kept = S .kept })
+  always : {Z : Cells} {p kept : List ℤ}
+      → Effect (asking (some p) none true) (S .cells) Z → Keeps (S .kept) Values (positionOf program (pos 3 ∷ p)) kept → Moves program S (pos 3 ∷ p) (record { cells = Z; kept = kept })
+  once : {Z : Cells} {p : List ℤ} → Effect (asking (some p) none true) (S .cells) Z → Moves program S (pos 4 ∷ p) (record { cells = Z; kept = S .kept })
 
 abbrev pub SolversMove : Type 0
 SolversMove = (program : List ℤ) (word : ℤ) (first second : List ℤ) (S : State) (e : Given)
-    → e .outcome ≡ 0 → Asked program word first second S e → (p : List ℤ) × (Named program word p × Moves program S p (e .state .cells))
+    → e .outcome ≡ 0 → Asked program word first second S e → (p : List ℤ) × (Named program word p × Moves program S p (e .state))
 
--- a slice is accepted, or one number turns it down, where the statement comes to its proposal; where it does not, it is refused whatever is proposed
+-- where the statement comes to its proposal, a slice is accepted or one number turns it down; any other refusal is the same whatever is proposed
 pub record Judged (program : List ℤ) (S : State) (p ws : List ℤ) : Type 0 where
   pub some : Asks program S p → Alone program S p ws ⊎ ((f : Fault) × TurnsDown program S p ws f)
   pub never-both : {l : Left} {f : Fault} → Accepts program S p ws l → TurnsDown program S p ws f → ⊥

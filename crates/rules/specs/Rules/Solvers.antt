@@ -65,7 +65,7 @@ pub data Tries (program : List ℤ) (word : ℤ) (first second : List ℤ) (S : 
 
 -- the call gives this; without a budget, the start is that of a run with 0
 pub data Asked (program : List ℤ) (word : ℤ) (first second : List ℤ) (S : State) : Given → Type 0 where
-  -- 1, and 2 for the program; 3 and 4 where the word is one of these
+  -- 1, and 2 for the program; 3 and 4 where the word names a statement
   unstarted : {n place : ℕ} → Unstarted program (pos 0) S n place → (3 ≤ n → (p : List ℤ) × Named program word p) → Asked program word first second S (turnedDown S n (pos place))
   -- "any other word is 2 there"
   unnamed : Measured (pos 0) S → Program program → ((p : List ℤ) → Named program word p → ⊥) → Asked program word first second S (turnedDown S 2 word)

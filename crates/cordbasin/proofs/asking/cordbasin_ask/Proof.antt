@@ -27,7 +27,7 @@ same-length-3 c = search needs
 -- src/asking.rt:7:1
 returns : tie.Need-returns
 returns c =
-    let r = rw (back32 (c .before .before .before .before .before .before .before .before .args .word) (c .before .before .before .before .before .before .before .before .fits .word)) at (c .before .before .before .ask .ensures) in
+    let r = rw (back32 (c .before .before .before .before .before .before .before .before .args .word) (c .before .before .before .before .before .before .before .before .fits .word)) at (c .before .before .before .ask .ensures .0) in
     record { answers = r .answers; leaves = r .leaves; counts = ap length (r .hands-back); start = sym (r .hands-back) ∙ r .start }
 
 pub cordbasin-ask-spec : {M : Type 1} → statement M

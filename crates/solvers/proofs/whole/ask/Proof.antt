@@ -1,7 +1,8 @@
-use mathlib.Core.Path.{_≡_, sym, ap, _∙_}
+use mathlib.Core.Path.{_≡_, refl, sym, ap, _∙_}
+use native.Mathlib.Omega.{arith}
 use Rattle.words.proofs.Signed.{back32}
 use Rattle.phases.specs.Told.{tables}
-use Rattle.solvers.proofs.AskLaws.{hands-early, hands-first, hands-second, hands-neither}
+use Rattle.solvers.proofs.AskLaws.{hands-early, hands-first, hands-second, hands-neither, of-solver}
 use borrow.Author.Needs.{needs}
 use Rattle.solvers.proofs.whole.ask.Statement.{statement}
 use Rattle.solvers.proofs.whole.ask.Tie as tie
@@ -11,7 +12,6 @@ use Rattle.solvers.proofs.whole.attempt.Reads as attempt-reads
 use Rattle.solvers.proofs.whole.opens.Reads as opens-reads
 use Rattle.solvers.proofs.whole.tell.Reads as tell-reads
 use Rattle.words.proofs.less.Reads as less-reads
-use Rattle.words.proofs.part_to.Reads as part-to-reads
 use Rattle.words.proofs.word_of.Reads as word-of-reads
 
 -- src/whole.rt:100:11
@@ -25,10 +25,6 @@ enum-known-number c = search needs
 -- src/whole.rt:102:13
 tell-requires : tie.Need-tell-requires
 tell-requires c κs = search needs
-
--- src/whole.rt:103:13
-part-to-requires : tie.Need-part-to-requires
-part-to-requires c κs = search needs
 
 -- src/whole.rt:107:13
 enum-told : tie.Need-enum-told
@@ -70,10 +66,6 @@ word-of-requires c κs = search needs
 tell-requires-4 : tie.Need-tell-requires-4
 tell-requires-4 c κs = search needs
 
--- src/whole.rt:129:17
-part-to-requires-2 : tie.Need-part-to-requires-2
-part-to-requires-2 c κs = search needs
-
 -- src/whole.rt:88:1
 same-length : tie.Need-same-length
 same-length c = search needs
@@ -90,7 +82,7 @@ same-length-3 c = search needs
 returns : tie.Need-returns
 returns c =
     let b = back32 (c .before .before .before .before .before .before .before .before .before .before .args .word) (c .before .before .before .before .before .before .before .before .before .before .fits .word) in
-    hands-early (c .before .before .before .before .before .before .before .before .before .before .args .program .now) (c .before .before .before .before .before .before .before .before .before .before .args .word) (c .before .before .before .before .before .before .before .before .before .before .args .first .now) (c .before .before .before .before .before .before .before .before .before .before .args .second .now) (tables (c .before .before .before .before .before .before .before .before .before .before .args .environment .now) (c .before .before .before .before .before .before .before .before .before .before .args .heap .now) (c .before .before .before .before .before .before .before .before .before .before .args .constraints .now)) (rw b at (c .before .before .before .before .before .before .opens .ensures)) (c .before .before .before .before .number .given .1) (rw (back32 (c .before .before .before .before .number .given .0 .1 .0) (record { sfits = c .before .before .before .known-told .given .1 .0 .1 })) at (c .before .tell .ensures)) (c .part-to .ensures)
+    (hands-early (c .before .before .before .before .before .before .before .before .before .before .args .program .now) (c .before .before .before .before .before .before .before .before .before .before .args .word) (c .before .before .before .before .before .before .before .before .before .before .args .first .now) (c .before .before .before .before .before .before .before .before .before .before .args .second .now) (tables (c .before .before .before .before .before .before .before .before .before .before .args .environment .now) (c .before .before .before .before .before .before .before .before .before .before .args .heap .now) (c .before .before .before .before .before .before .before .before .before .before .args .constraints .now)) (rw b at (c .before .before .before .before .before .before .opens .ensures)) (c .before .before .before .before .number .given .1) (rw (back32 (c .before .before .before .before .number .given .0 .1 .0) (record { sfits = c .before .before .before .known-told .given .1 .0 .1 })) at (c .before .tell .ensures)) refl, sym (of-solver 0 (omega arith) (c .before .tell .ensures) _ _))
 
 -- src/whole.rt:88:1
 same-length-4 : tie.Need-same-length-4
@@ -108,7 +100,7 @@ same-length-6 c = search needs
 returns-2 : tie.Need-returns-2
 returns-2 c =
     let b = back32 (c .before .before .before .before .before .before .before .before .before .before .before .before .before .before .before .before .before .args .word) (c .before .before .before .before .before .before .before .before .before .before .before .before .before .before .before .before .before .fits .word) in
-    hands-first (c .before .before .before .before .before .before .before .before .before .before .before .before .before .before .before .before .before .args .program .now) (c .before .before .before .before .before .before .before .before .before .before .before .before .before .before .before .before .before .args .word) (c .before .before .before .before .before .before .before .before .before .before .before .before .before .before .before .before .before .args .first .now) (c .before .before .before .before .before .before .before .before .before .before .before .before .before .before .before .before .before .args .second .now) (tables (c .before .before .before .before .before .before .before .before .before .before .before .before .before .before .before .before .before .args .environment .now) (c .before .before .before .before .before .before .before .before .before .before .before .before .before .before .before .before .before .args .heap .now) (c .before .before .before .before .before .before .before .before .before .before .before .before .before .before .before .before .before .args .constraints .now)) (rw b at (c .before .before .before .before .before .before .before .before .before .before .before .before .before .opens .ensures)) (c .before .before .before .before .before .before .before .before .before .before .before .enum-told .given .1) {Z = tables (c .before .before .before .before .before .before .before .attempt .last .1 .0) (c .before .before .before .before .before .before .before .attempt .last .1 .1 .0) (c .before .before .before .before .before .before .before .attempt .last .1 .1 .1 .0)} (rw b at (c .before .before .before .before .before .before .before .attempt .ensures)) (c .before .before .enum-told2 .given .1) (rw b at (c .tell2 .ensures))
+    (hands-first (c .before .before .before .before .before .before .before .before .before .before .before .before .before .before .before .before .before .args .program .now) (c .before .before .before .before .before .before .before .before .before .before .before .before .before .before .before .before .before .args .word) (c .before .before .before .before .before .before .before .before .before .before .before .before .before .before .before .before .before .args .first .now) (c .before .before .before .before .before .before .before .before .before .before .before .before .before .before .before .before .before .args .second .now) (tables (c .before .before .before .before .before .before .before .before .before .before .before .before .before .before .before .before .before .args .environment .now) (c .before .before .before .before .before .before .before .before .before .before .before .before .before .before .before .before .before .args .heap .now) (c .before .before .before .before .before .before .before .before .before .before .before .before .before .before .before .before .before .args .constraints .now)) (rw b at (c .before .before .before .before .before .before .before .before .before .before .before .before .before .opens .ensures)) (c .before .before .before .before .before .before .before .before .before .before .before .enum-told .given .1) {Z = tables (c .before .before .before .before .before .before .before .attempt .last .1 .0) (c .before .before .before .before .before .before .before .attempt .last .1 .1 .0) (c .before .before .before .before .before .before .before .attempt .last .1 .1 .1 .0)} (rw b at (c .before .before .before .before .before .before .before .attempt .ensures)) (c .before .before .enum-told2 .given .1) (rw b at (c .tell2 .ensures)), sym (of-solver 1 (omega arith) (c .tell2 .ensures) _ _))
 
 -- src/whole.rt:88:1
 same-length-7 : tie.Need-same-length-7
@@ -126,7 +118,7 @@ same-length-9 c = search needs
 returns-3 : tie.Need-returns-3
 returns-3 c =
     let b = back32 (c .before .before .before .before .before .before .before .before .before .before .before .before .before .before .before .before .before .args .word) (c .before .before .before .before .before .before .before .before .before .before .before .before .before .before .before .before .before .fits .word) in
-    hands-second (c .before .before .before .before .before .before .before .before .before .before .before .before .before .before .before .before .before .args .program .now) (c .before .before .before .before .before .before .before .before .before .before .before .before .before .before .before .before .before .args .word) (c .before .before .before .before .before .before .before .before .before .before .before .before .before .before .before .before .before .args .first .now) (c .before .before .before .before .before .before .before .before .before .before .before .before .before .before .before .before .before .args .second .now) (tables (c .before .before .before .before .before .before .before .before .before .before .before .before .before .before .before .before .before .args .environment .now) (c .before .before .before .before .before .before .before .before .before .before .before .before .before .before .before .before .before .args .heap .now) (c .before .before .before .before .before .before .before .before .before .before .before .before .before .before .before .before .before .args .constraints .now)) (rw b at (c .before .before .before .before .before .before .before .before .before .before .before .before .before .opens .ensures)) (c .before .before .before .before .before .before .before .before .before .before .before .enum-told .given .1) {Z = tables (c .before .before .before .before .before .before .before .attempt .last .1 .0) (c .before .before .before .before .before .before .before .attempt .last .1 .1 .0) (c .before .before .before .before .before .before .before .attempt .last .1 .1 .1 .0)} (rw b at (c .before .before .before .before .before .before .before .attempt .ensures)) (c .before .before .enum-told3 .given .1) (rw b at (c .tell3 .ensures))
+    (hands-second (c .before .before .before .before .before .before .before .before .before .before .before .before .before .before .before .before .before .args .program .now) (c .before .before .before .before .before .before .before .before .before .before .before .before .before .before .before .before .before .args .word) (c .before .before .before .before .before .before .before .before .before .before .before .before .before .before .before .before .before .args .first .now) (c .before .before .before .before .before .before .before .before .before .before .before .before .before .before .before .before .before .args .second .now) (tables (c .before .before .before .before .before .before .before .before .before .before .before .before .before .before .before .before .before .args .environment .now) (c .before .before .before .before .before .before .before .before .before .before .before .before .before .before .before .before .before .args .heap .now) (c .before .before .before .before .before .before .before .before .before .before .before .before .before .before .before .before .before .args .constraints .now)) (rw b at (c .before .before .before .before .before .before .before .before .before .before .before .before .before .opens .ensures)) (c .before .before .before .before .before .before .before .before .before .before .before .enum-told .given .1) {Z = tables (c .before .before .before .before .before .before .before .attempt .last .1 .0) (c .before .before .before .before .before .before .before .attempt .last .1 .1 .0) (c .before .before .before .before .before .before .before .attempt .last .1 .1 .1 .0)} (rw b at (c .before .before .before .before .before .before .before .attempt .ensures)) (c .before .before .enum-told3 .given .1) (rw b at (c .tell3 .ensures)), sym (of-solver 2 (omega arith) (c .tell3 .ensures) _ _))
 
 -- src/whole.rt:88:1
 same-length-10 : tie.Need-same-length-10
@@ -144,7 +136,14 @@ same-length-12 c = search needs
 returns-4 : tie.Need-returns-4
 returns-4 c =
     let b = back32 (c .before .before .before .before .before .before .before .before .before .before .before .before .before .before .before .before .before .before .before .before .before .args .word) (c .before .before .before .before .before .before .before .before .before .before .before .before .before .before .before .before .before .before .before .before .before .fits .word) in
-    hands-neither (c .before .before .before .before .before .before .before .before .before .before .before .before .before .before .before .before .before .before .before .before .before .args .program .now) (c .before .before .before .before .before .before .before .before .before .before .before .before .before .before .before .before .before .before .before .before .before .args .word) (c .before .before .before .before .before .before .before .before .before .before .before .before .before .before .before .before .before .before .before .before .before .args .first .now) (c .before .before .before .before .before .before .before .before .before .before .before .before .before .before .before .before .before .before .before .before .before .args .second .now) (tables (c .before .before .before .before .before .before .before .before .before .before .before .before .before .before .before .before .before .before .before .before .before .args .environment .now) (c .before .before .before .before .before .before .before .before .before .before .before .before .before .before .before .before .before .before .before .before .before .args .heap .now) (c .before .before .before .before .before .before .before .before .before .before .before .before .before .before .before .before .before .before .before .before .before .args .constraints .now)) (rw b at (c .before .before .before .before .before .before .before .before .before .before .before .before .before .before .before .before .before .opens .ensures)) (c .before .before .before .before .before .before .before .before .before .before .before .before .before .before .before .enum-told .given .1) {Z = tables (c .before .before .before .before .before .before .before .before .before .before .before .attempt .last .1 .0) (c .before .before .before .before .before .before .before .before .before .before .before .attempt .last .1 .1 .0) (c .before .before .before .before .before .before .before .before .before .before .before .attempt .last .1 .1 .1 .0)} (rw b at (c .before .before .before .before .before .before .before .before .before .before .before .attempt .ensures)) (c .before .before .before .before .before .before .outcome .given .1) (rw (back32 (c .before .before .word-of .result) (record { sfits = c .before .before .word-of .ok }), c .before .before .word-of .ensures, c .before .before .before .less .ensures) at (c .before .tell4 .ensures)) (c .part-to2 .ensures)
+    (hands-neither (c .before .before .before .before .before .before .before .before .before .before .before .before .before .before .before .before .before .before .before .before .before .args .program .now) (c .before .before .before .before .before .before .before .before .before .before .before .before .before .before .before .before .before .before .before .before .before .args .word) (c .before .before .before .before .before .before .before .before .before .before .before .before .before .before .before .before .before .before .before .before .before .args .first .now) (c .before .before .before .before .before .before .before .before .before .before .before .before .before .before .before .before .before .before .before .before .before .args .second .now) (tables (c .before .before .before .before .before .before .before .before .before .before .before .before .before .before .before .before .before .before .before .before .before .args .environment .now) (c .before .before .before .before .before .before .before .before .before .before .before .before .before .before .before .before .before .before .before .before .before .args .heap .now) (c .before .before .before .before .before .before .before .before .before .before .before .before .before .before .before .before .before .before .before .before .before .args .constraints .now)) (rw b at (c .before .before .before .before .before .before .before .before .before .before .before .before .before .before .before .before .before .opens .ensures)) (c .before .before .before .before .before .before .before .before .before .before .before .before .before .before .before .enum-told .given .1) {Z = tables (c .before .before .before .before .before .before .before .before .before .before .before .attempt .last .1 .0) (c .before .before .before .before .before .before .before .before .before .before .before .attempt .last .1 .1 .0) (c .before .before .before .before .before .before .before .before .before .before .before .attempt .last .1 .1 .1 .0)} (rw b at (c .before .before .before .before .before .before .before .before .before .before .before .attempt .ensures)) (c .before .before .before .before .before .before .outcome .given .1) (rw (back32 (c .before .before .word-of .result) (record { sfits = c .before .before .word-of .ok }), c .before .before .word-of .ensures, c .before .before .before .less .ensures) at (c .before .tell4 .ensures)) refl, sym (of-solver 0 (omega arith) (c .before .tell4 .ensures) _ _))
+
+-- the empty start of the first
+slice-aggregate-result : tie.Need-slice-aggregate-result
+slice-aggregate-result c = refl
+
+slice-aggregate-result-2 : tie.Need-slice-aggregate-result-2
+slice-aggregate-result-2 c = refl
 
 pub ask-spec : {M : Type 1} → statement M
 ask-spec =
@@ -153,7 +152,7 @@ ask-spec =
     opens-requires
     enum-known-number
     tell-requires
-    part-to-requires
+    slice-aggregate-result
     enum-told
     attempt-requires
     enum-told-2
@@ -164,7 +163,7 @@ ask-spec =
     less-requires
     word-of-requires
     tell-requires-4
-    part-to-requires-2
+    slice-aggregate-result-2
     same-length
     same-length-2
     same-length-3
