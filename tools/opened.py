@@ -38,7 +38,8 @@ for crate, names in own.items():
                 continue
             lines_seen += 1
             for name in found.group(1).split():
-                if name not in names:
+                # a name that no crate has is the kit's
+                if name not in names and any(name in theirs for theirs in own.values()):
                     wrong.append(f"{path}:{number}: {name}")
     if crate in KNOWING:
         continue

@@ -3,8 +3,8 @@
 
 Reads what objdump says of the archive (target/native/libcordbasin.a if none is named): each function's frame and its calls. A function that
 calls itself, straight or through others, is counted as often as its nesting allows: blocks nest 8 deep, expressions 16; one more call of each
-meets the limit and turns back; a number has at most 20 digits. Ends with 1 above 64 KiB for a run, a list, two solvers on a statement or a text that is written and 128 KiB for
-one that is read, where a function's nesting is not known, and where a call goes to a function that is not in the archive, other than the four that move memory.
+meets the limit and turns back; a number has at most 20 digits. Ends with 1 where a call takes more than CALLS says, where a function's nesting
+is not known, and where a call goes to a function that is not in the archive, other than the four that move memory.
 """
 
 import re
@@ -39,7 +39,7 @@ NESTING = {
     "put_digits": 20,
 }
 # The calls, and how many bytes fail.
-CALLS = {"cordbasin_run": 65536, "cordbasin_assign": 65536, "cordbasin_ask": 65536, "cordbasin_write": 65536, "cordbasin_read": 131072}
+CALLS = {"cordbasin_run": 18432, "cordbasin_assign": 12288, "cordbasin_ask": 12288, "cordbasin_write": 65536, "cordbasin_read": 131072}
 MEMORY = {"memcpy", "memmove", "memset", "memcmp"}
 # A large frame is taken a page at a time, in a loop that ends at an address worked out here. On x86-64 %r11 is so far below %rsp, or a copy of
 # %rsp from which so much is taken.

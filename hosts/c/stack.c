@@ -1,6 +1,7 @@
 /* How much stack the calls take, on a stack that was painted before: a run of a sheet with blocks nested 8 deep and an expression nested
-   16 deep; a list over such a sheet; two solvers on its innermost statement and on an assignment, over 64 kept constraints; reading such
-   a text and writing its program; and reading one bracket and 30,000 around a number. */
+   16 deep, and one that moves the largest class there, and nine cells more; a list over such a sheet; two solvers on its innermost
+   statement and on an assignment, over 64 kept constraints; reading such a text and writing its program; and reading one bracket and
+   30,000 around a number. */
 #define _POSIX_C_SOURCE 200809L
 #include <pthread.h>
 #include <stdint.h>
@@ -9,10 +10,14 @@
 
 #include "cordbasin.h"
 
-enum { STACK = 1 << 20, PAINT = 0x5A, IFS = 7, DEEP = 15, BRACKETS = 30000, RUNNING = 65536, READING = 131072 };
+enum { STACK = 1 << 20, PAINT = 0x5A, IFS = 7, DEEP = 15, BRACKETS = 30000 };
+/* How many bytes fail, for each call. */
+enum { RUNNING = 18432, LISTING = 12288, ASKING = 12288, WRITING = 65536, READING = 131072 };
 /* The words at which the program below has its assignment and its constraint, where no always stands before them; an always, its words,
    and how many are kept. */
 enum { ASSIGNMENT = 1, CONSTRAINT = 6 + 3 * IFS, ALWAYS = 3, ALWAYS_WORDS = 4 + 3 * DEEP, KEPT = 64 };
+/* A class of as many cells as all identities tie, and as many cells more as are no longer few. */
+enum { TIES = 32, CHANGED = 9, FIRST_CHANGED = 40 };
 
 static _Alignas(65536) unsigned char stack[STACK];
 static int32_t answer[4], program[CORDBASIN_PROGRAM_WORDS];
@@ -33,6 +38,23 @@ static int32_t *part(int32_t *at) {
     return at;
 }
 
+/* So many words behind a place of the program. What follows them is given back. */
+static int32_t *put_words(int32_t *at, const int32_t *words, size_t count) {
+    memcpy(at, words, count * sizeof *words);
+    return at + count;
+}
+
+/* IFS ifs whose test is true, the last with one statement to come; and their else, without any. */
+static int32_t *put_ifs(int32_t *at) {
+    for (int nested = 0; nested < IFS; nested++) at = put_words(at, (int32_t[]){7, 22, 1}, 3);
+    return at;
+}
+
+static int32_t *put_elses(int32_t *at) {
+    for (int nested = 0; nested < IFS; nested++) *at++ = 0;
+    return at;
+}
+
 /* The words of so many always, each with that part; v0 := 1; and in IFS ifs: once required v0 = 2, and that part. */
 static size_t written(int kept) {
     int32_t *at = program;
@@ -42,15 +64,8 @@ static size_t written(int kept) {
         *at++ = 1;
         at = part(at);
     }
-    memcpy(at, (int32_t[]){1, 0, 0, 23, 1}, 20);
-    at += 5;
-    for (int nested = 0; nested < IFS; nested++) {
-        memcpy(at, (int32_t[]){7, 22, 1}, 12);
-        at += 3;
-    }
-    memcpy(at, (int32_t[]){4, 2, 3, 25, 6, 24, 0, 0, 23, 2}, 40);
-    at = part(at + 10);
-    for (int nested = 0; nested < IFS; nested++) *at++ = 0;
+    at = put_ifs(put_words(at, (int32_t[]){1, 0, 0, 23, 1}, 5));
+    at = put_elses(part(put_words(at, (int32_t[]){4, 2, 3, 25, 6, 24, 0, 0, 23, 2}, 10)));
     return (size_t)(at - program);
 }
 
@@ -58,6 +73,25 @@ static void *run(void *unused) {
     static int32_t environment[128], heap[1601], constraints[98];
     const int32_t proposals[] = {0, 1, 0, 2};
     cordbasin_run(program, written(0), environment, 128, heap, 1601, constraints, 98, proposals, 4, 100, answer);
+    return unused;
+}
+
+/* Always weak v40 = 1 and that part; v0 == v1, .., v31 == v32; and in IFS ifs: v0 := new {}, which moves the 33 cells. The proposal with
+   it moves v40 to v48. */
+static void *move_class(void *unused) {
+    static int32_t environment[128], heap[1601], constraints[98];
+    int32_t *at = program, proposals[2 + 2 * CHANGED] = {0, CHANGED};
+    *at++ = 2 + TIES;
+    at = part(put_words(at, (int32_t[]){ALWAYS, 2, 1, 25, 6, 24, FIRST_CHANGED, 0, 23, 1}, 10));
+    for (int cell = 0; cell <= TIES; cell++) environment[2 * cell] = CORDBASIN_NIL;
+    for (int tie = 0; tie < TIES; tie++) at = put_words(at, (int32_t[]){5, tie, 0, tie + 1, 0}, 5);
+    at = put_elses(put_words(put_ifs(at), (int32_t[]){2, 0, 0}, 3));
+    for (int turn = 0; turn < CHANGED; turn++) {
+        environment[2 * (FIRST_CHANGED + turn)] = CORDBASIN_INTEGER;
+        proposals[2 + 2 * turn] = FIRST_CHANGED + turn;
+        proposals[3 + 2 * turn] = 1;
+    }
+    cordbasin_run(program, (size_t)(at - program), environment, 128, heap, 1601, constraints, 98, proposals, 2 + 2 * CHANGED, 100, answer);
     return unused;
 }
 
@@ -165,6 +199,7 @@ static size_t nested(void) {
 
 int main(void) {
     size_t deepest = taken("a run of blocks and an expression nested deep", run);
+    size_t class = taken("a run that moves a class of 33 cells and 9 more, nested deep", move_class);
     size_t list = taken("a list over blocks and an expression nested deep", assign);
     size_t once = taken("two solvers on a constraint nested deep", ask_once);
     size_t set = taken("two solvers on an assignment, over constraints nested deep", ask_assignment);
@@ -172,6 +207,6 @@ int main(void) {
     size_t many = bracketed("reading 30,000 brackets", BRACKETS);
     size_t read = nested();
     size_t write = taken("writing blocks and an expression nested deep", write_text);
-    int asking = once < RUNNING && set < RUNNING;
-    return deepest < RUNNING && list < RUNNING && asking && read < READING && write < RUNNING && many == one ? 0 : 1;
+    int running = deepest < RUNNING && class < RUNNING && list < LISTING && once < ASKING && set < ASKING;
+    return running && read < READING && write < WRITING && many == one ? 0 : 1;
 }

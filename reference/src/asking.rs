@@ -1,5 +1,6 @@
 //! Both solvers on one statement: document 02, W6.
 
+use crate::classes::Moves;
 use crate::outcome::Outcome;
 use crate::program::{Always, Program, Statement};
 use crate::proposal::{Source, Whole};
@@ -115,6 +116,7 @@ impl<'a> Asked<'a> {
             budget: 1,
             steps: 0,
             accepted: 0,
+            moves: Moves::default(),
         }
     }
 

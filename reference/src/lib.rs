@@ -10,6 +10,7 @@
 pub mod asking;
 pub mod batch;
 pub mod causes;
+pub mod classes;
 pub mod constraints;
 pub mod counts;
 pub mod entries;

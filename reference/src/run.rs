@@ -1,5 +1,6 @@
 //! A whole run: what is tried before the first statement, and the answer.
 
+use crate::classes::Moves;
 use crate::constraints;
 use crate::identity;
 use crate::outcome::Outcome;
@@ -66,6 +67,7 @@ pub fn begin(
         budget: ready.budget,
         steps: 0,
         accepted: 0,
+        moves: Moves::default(),
     };
     let (outcome, place) = work(&mut machine, &ready.program);
     let (environment, heap, constraints) = lent;

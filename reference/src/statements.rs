@@ -1,5 +1,6 @@
 //! What each statement does, and the tally it carries.
 
+use crate::classes::Moves;
 use crate::constraints;
 use crate::evaluate;
 use crate::identity;
@@ -25,6 +26,7 @@ pub struct Machine<'a, S> {
     pub budget: u32,
     pub steps: u32,
     pub accepted: u32,
+    pub moves: Moves,
 }
 
 impl<'a, S: Source> Machine<'a, S> {
@@ -102,11 +104,16 @@ impl<'a, S: Source> Machine<'a, S> {
     ) -> Result<(), Fault> {
         let kept = self.kept_identities();
         let class = identity::class_to_move(&self.tables, &kept, target, prefix, value)?;
-        for cell in class {
-            after.set(cell, value);
+        for cell in &class {
+            after.set(*cell, value);
         }
-        self.reads_on(&after)?;
-        self.value_phase(after, None, Some(target))
+        let read = self.reads_on(&after);
+        let done = read.and_then(|()| self.value_phase(after, None, Some(target)));
+        match done {
+            Ok(()) => self.moves.largest = self.moves.largest.max(class.len()),
+            Err(_) => self.moves.taken_back = class.len(),
+        }
+        done
     }
 
     /// 15 has the word that 7 or 8 has in the first kept constraint that does

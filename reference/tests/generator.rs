@@ -22,6 +22,8 @@ fn every_outcome_comes_up() {
     assert!(places.are_met(100), "{places}");
     assert!(places.sorts.iter().all(|count| *count >= 50), "{places}");
     assert!(counts.unlike.are_met(300, 50), "{}", counts.unlike);
+    let classes = &counts.classes;
+    assert!(classes.are_met(400, 10, 100), "{classes}");
 }
 
 /// Unlike kinds and two references, by 8.

@@ -54,8 +54,7 @@ fn tell_weighed(answer: &mut [i32], w: Weighed)
 pub extern "C" fn compared_path(environment: &[i32], heap: &[i32], p: &[i32], answer: &mut [i32])
     ensures { λ _. ⌜ now (answer .exit) ≡ stored (now (answer .entry)) (namedWords (namedOf (wayAt (cells (now (environment .entry)) (now (heap .entry))) (now (p .entry))))) ⌝ }
 {
-    let mut on: [i32; program::MOST_STEPS] = [0; program::MOST_STEPS];
-    match expressions::paths::follow_on(environment, heap, p, &mut on) {
+    match expressions::paths::cell_at(environment, heap, p) {
         Named::Cell(l, left) => tell(answer, 0, words::word_of(l), words::word_of(left), 0),
         Named::Lost(number, word) => refuse(answer, number, word),
     }

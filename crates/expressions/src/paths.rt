@@ -6,12 +6,12 @@ use tables::Slot;
 use tables::Value;
 ghost use mathlib.Core.Path.{_≡_};
 ghost use Rattle.tables.specs.Cells.{cells};
-ghost use Rattle.rules.specs.Paths.{valueAt};
-ghost use Rattle.expressions.specs.Told.{evaluatedOf};
-ghost use Rattle.expressions.specs.Following.{stepTo, Lands, Traces};
+ghost use Rattle.rules.specs.Paths.{valueAt, wayAt};
+ghost use Rattle.expressions.specs.Told.{evaluatedOf, namedOf};
+ghost use Rattle.expressions.specs.Following.{stepTo, landed};
 
 // The cell that one label leads to from the cell l.
-fn step(environment: &[i32], heap: &[i32], l: usize, label: usize) -> Found
+pub fn step(environment: &[i32], heap: &[i32], l: usize, label: usize) -> Found
     ensures { λ r. ⌜ r ≡ stepTo (cells (now (environment .entry)) (now (heap .entry))) l label ⌝ }
 {
     let slot = tables::cells::slot_of(tables::cells::read_cell(environment, heap, l));
@@ -26,21 +26,13 @@ fn step(environment: &[i32], heap: &[i32], l: usize, label: usize) -> Found
     }
 }
 
-// The cell that n labels, at p, lead to from the cell l; the cells on the way are written to `on`.
-fn land_on(
-    environment: &[i32],
-    heap: &[i32],
-    n: usize,
-    l: usize,
-    p: &[i32],
-    on: &mut [i32],
-) -> Found
-    ensures { λ r. ⌜ Lands (cells (now (environment .entry)) (now (heap .entry))) n l (now (p .entry)) (now (on .entry)) (now (on .exit)) r ⌝ }
+// The cell that n labels, at p, lead to from the cell l.
+fn land(environment: &[i32], heap: &[i32], n: usize, l: usize, p: &[i32]) -> Found
+    ensures { λ r. ⌜ r ≡ landed (cells (now (environment .entry)) (now (heap .entry))) n l (now (p .entry)) ⌝ }
 {
     let mut at = l;
     let mut i: usize = 0;
     while i < n {
-        words::store(on, i, words::word_of(at));
         match step(environment, heap, at, words::number_at(p, i)) {
             Found::Nothing => {
                 return Found::Nothing;
@@ -54,9 +46,9 @@ fn land_on(
     Found::At(at)
 }
 
-// The cell that the L at p names, and the words left after it; its prefix cells are written to `on`, the first first.
-pub fn follow_on(environment: &[i32], heap: &[i32], p: &[i32], on: &mut [i32]) -> Named
-    ensures { λ r. ⌜ Traces (cells (now (environment .entry)) (now (heap .entry))) (now (p .entry)) (now (on .entry)) (now (on .exit)) r ⌝ }
+// The cell that the L at p names, and the words left after it.
+pub fn cell_at(environment: &[i32], heap: &[i32], p: &[i32]) -> Named
+    ensures { λ r. ⌜ r ≡ namedOf (wayAt (cells (now (environment .entry)) (now (heap .entry))) (now (p .entry))) ⌝ }
 {
     let x = words::number_at(p, 0);
     if tables::VARIABLES <= x {
@@ -68,7 +60,7 @@ pub fn follow_on(environment: &[i32], heap: &[i32], p: &[i32], on: &mut [i32]) -
         return Named::Lost(2, q.len());
     }
     let r = words::part_from(q, 1);
-    match land_on(environment, heap, n, x, r, on) {
+    match land(environment, heap, n, x, r) {
         Found::At(l) => Named::Cell(l, words::less(r.len(), n)),
         Found::Nothing => Named::Lost(7, p.len()),
     }
@@ -78,8 +70,7 @@ pub fn follow_on(environment: &[i32], heap: &[i32], p: &[i32], on: &mut [i32]) -
 pub fn value_at(environment: &[i32], heap: &[i32], p: &[i32]) -> Evaluated
     ensures { λ r. ⌜ r ≡ evaluatedOf (valueAt (cells (now (environment .entry)) (now (heap .entry))) (now (p .entry))) ⌝ }
 {
-    let mut on: [i32; program::MOST_STEPS] = [0; program::MOST_STEPS];
-    match follow_on(environment, heap, p, &mut on) {
+    match cell_at(environment, heap, p) {
         Named::Cell(l, left) => {
             let slot = tables::cells::slot_of(tables::cells::read_cell(environment, heap, l));
             match slot {

@@ -1,263 +1,186 @@
--- The target's class: its cells listed, what the code asks of them, and what it answers. Assumes nothing.
-use mathlib.Core.Path.{_≡_, refl, sym, ap, _∙_}
-use mathlib.Core.Bool.{Bool, true, false, not, cond, _&&_, _||_}
-use mathlib.Core.List.{List, [], _∷_, _++_, append-assoc, List·Memᴰ·head, List·Memᴰ·tail, List·Memᴰ as OneOf}
-use Prim.Native.Nat.{ℕ, zero, suc, _+_, _-_, _*_, _≤_, _<_}
+-- The marked cells are the target's class, and what the code answers of it. Assumes nothing.
+use mathlib.Core.Path.{_≡_, refl, sym, _∙_}
+use mathlib.Core.Bool.{Bool, true, false, not, _&&_, _||_}
+use mathlib.Core.List.{List, List·Memᴰ as OneOf}
+use mathlib.Core.Logic.{inl, inr}
+use Prim.Native.Nat.{ℕ, _<_}
 use native.Mathlib.Omega.{arith}
-use native.Mathlib.Numerals.{add-one}
-use borrow.Author.Tests.{eqb-true, eqb-false, eq-eqb, ne-eqb}
+use borrow.Author.Tests.{eqb-true, eq-eqb}
 use lib.Dec.{eqb}
 use lib.IntN.{ℤ}
-use lib.ListN.{length, set, length-set}
-use Rattle.words.specs.Words.{numberAt, wordOf}
+use lib.ListN.{length, replicate, length-replicate}
+use Rattle.words.specs.Answer.{got, stop}
+use Rattle.words.specs.Bits.{marked, withMark}
+use Rattle.words.proofs.BitLaws.{none-marked}
+use Rattle.tables.specs.declared.Sort.the-variants.{Identities}
 use Rattle.tables.specs.declared.Value.{Value}
 use Rattle.tables.specs.Sizes.{locations}
 use Rattle.tables.specs.Cells.{Cells}
+use Rattle.tables.specs.Kept.{keptCount}
+use Rattle.tables.proofs.FindLaws.{kept-in}
 use Rattle.tables.proofs.SearchLaws.{cases}
-use Rattle.rules.specs.State.{listed, slotAt}
-use Rattle.rules.specs.Identities.{Tie, member, grown, grownBy, classOf, names, is, clashFree}
-use Rattle.rules.specs.Rules.Identities.{by-tie, backwards, onwards}
-use Rattle.rules.proofs.ConstraintClauses.{listed-none, listed-more}
-use Rattle.rules.proofs.IdentityClauses.{not-member, member-more, grown-more, grown-by-none, grown-by-more, names-none, names-more, clash-none, clash-more}
-use Rattle.rules.proofs.ClassLaws.{member-head, member-tail, member-cons, member-none, class-all, class-target, class-iff}
-use Rattle.rules.proofs.PhaseLaws.{clash-iff}
-use Rattle.phases.specs.Sizes.{classCells, classWords}
-use Rattle.phases.specs.Taking.{cellsIn}
-use Rattle.phases.specs.Tying.{tieIn, tiesIn, tie, bare, firstCells, marked, Marks, ClashFree, endsOf, ListsTie, Lists}
-use Rattle.phases.proofs.RowLaws.{append-none, listed-last, listed-same, number-put, number-other}
-use Rattle.phases.proofs.MarkLaws.{Alike}
+use Rattle.rules.specs.State.{Res}
+use Rattle.rules.specs.Identities.{Tie, isNode, ties, member, frozenBy, classOf, names, clashFree}
+use Rattle.rules.specs.Rules.Identities.{IsNamed, by-tie, backwards, onwards}
+use Rattle.rules.proofs.ClassLaws.{or-left, or-right, or-cases, false≢true, class-all, class-target, class-iff}
+use Rattle.rules.proofs.PhaseLaws.{names-iff}
+use Rattle.proposals.proofs.FormLaws.{unlike}
+use Rattle.phases.specs.declared.Passed.{Passed}
+use Rattle.phases.specs.declared.Passed.the-variants.{Over, Lost as Astray}
+use Rattle.phases.specs.declared.Classed.the-variants.{May, Refuses}
+use Rattle.phases.specs.Sizes.{marksWords}
+use Rattle.phases.specs.Tying.{identityAt, tieNo, joins, namedBy, Found, Even, Grows, Walked, Passes, PassesOn}
+use Rattle.phases.specs.Freezing.{freeTies}
+use Rattle.phases.specs.Classing.{classFor, Unmarked, Finds, Classes}
+use Rattle.phases.proofs.CountLaws.{many-least}
+use Rattle.phases.proofs.MarkLaws.{both-ways, mark-long, cells-size, cells-member, first-only, first-there, first-size, grows-none, grows-then}
+use Rattle.phases.proofs.TieLaws.{ties-found, ties-lost, ties-have, ties-number}
+use Rattle.phases.proofs.FreeLaws.{free-clash, ties-free, ties-none-free}
 
-eqb-sym : (a b : ℕ) → eqb a b ≡ eqb b a
-eqb-sym a b = cases (eqb a b) (λ e. rw (e, eq-eqb b a (sym (eqb-true a b e)))) (λ e. rw (e, ne-eqb b a (λ q. eqb-false a b e (sym q))))
+-- marks as they are made
+pub unmarked-none : Unmarked (replicate marksWords 0)
+unmarked-none = record { long = length-replicate {A = ℕ} marksWords 0; none = none-marked marksWords }
 
--- ---- whether a number is among the first n words: the loop has seen i of them
+classed-refuses : {class : List ℕ} {a w : ℕ} {m : Res (List ℕ)} → m ≡ stop (record { number = a; word = w }) → Classes class (Refuses a w) m
+classed-refuses {a = a} {w = w} e = record {
+  refuses = λ b x h. let u : a ≡ b = cc in let v : w ≡ x = cc in rw (← u, ← v) e;
+  finds = λ h. unlike (cc);
+}
 
-pub record Among (s : List ℤ) (n l i : ℕ) : Type 0 where
-  pub inside : i ≤ n
-  pub rest : member l (listed (numberAt s) i (n - i)) ≡ member l (firstCells s n)
+classed-finds : {class : List ℕ} {m : Res (List ℕ)} → Finds class m → Classes class May m
+classed-finds f = record { refuses = λ b x h. unlike (cc); finds = λ h. f }
 
-pub among-starts : {s : List ℤ} {n l : ℕ} → Among s n l 0
-among-starts {n = n} = record { inside = omega arith; rest = let z : n - 0 ≡ n = omega arith in rw z }
+module _ (program kept : List ℤ) (S : Cells) (word : List ℤ) (target : ℕ) (v : Value) where
+  abbrev T : ℕ → Res Tie
+  T = tieNo program kept S
 
-module _ {s : List ℤ} {n l i : ℕ} (inv : Among s n l i) where
-  among-turn : i < n → eqb l (numberAt s i) || member l (listed (numberAt s) (i + 1) (n - (i + 1))) ≡ member l (firstCells s n)
-  among-turn h =
-      let z : n - i ≡ suc (n - (i + 1)) = omega arith in
-      let y : suc i ≡ i + 1 = sym (add-one i) in
-      rw (z, listed-more (numberAt s) i (n - (i + 1)), member-more l (numberAt s i) (listed (numberAt s) (suc i) (n - (i + 1))), y) at (inv .rest)
+  abbrev n : ℕ
+  n = keptCount kept Identities
 
-  pub among-hits : i < n → numberAt s i ≡ l → true ≡ member l (firstCells s n)
-  among-hits h e = rw (eq-eqb l (numberAt s i) (sym e)) at (among-turn h)
+  -- ---- what the ties name
 
-  pub among-goes-on : i < n → (numberAt s i ≡ l → ⊥) → Among s n l (i + 1)
-  among-goes-on h e = record { inside = omega arith; rest = rw (ne-eqb l (numberAt s i) (λ q. e (sym q))) at (among-turn h) }
+  module _ (ts : List Tie) (followed : ties program kept S ≡ got ts) where
+    named-here : (m : Res Tie) (t : Tie) → m ≡ got t → namedBy target m ≡ true → OneOf t ts → IsNamed ts target
+    named-here m t e q o = or-cases (eqb (t .one) target) (eqb (t .two) target) (rw e at q)
+        (λ w. (t, (o, inl (eqb-true (t .one) target w)))) (λ w. (t, (o, inr (eqb-true (t .two) target w))))
 
-  pub among-ends : n ≤ i → false ≡ member l (firstCells s n)
-  among-ends h = let z : n - i ≡ 0 = omega arith in rw (z, listed-none (numberAt s) i, not-member l) at (inv .rest)
+    names-are : {class class′ : List ℕ} {named again : Bool} → Walked T n target class class′ named again → named ≡ names ts target
+    names-are {named = named} w = both-ways named (names ts target)
+        (λ e. let k = w .named e in let t = w .found (k .0) (k .1 .0) in
+        names-iff ts target .1 (named-here (T (k .0)) (t .0) (t .1) (k .1 .1) (ties-have program kept S ts followed (k .0) (k .1 .0) (t .0) (t .1))))
+        (λ e. cases named (λ q. q) (λ q. no-name q (names-iff ts target .0 e)))
+      where
+        no-name : named ≡ false → IsNamed ts target → named ≡ true
+        no-name q (t, (o, x)) =
+            let k = ties-number program kept S ts followed t o in
+            let z : namedBy target (T (k .0)) ≡ false = w .unnamed q (k .0) (k .1 .0) in
+            let y : eqb (t .one) target || eqb (t .two) target ≡ false = rw (k .1 .1) at z in
+            elim x [
+              | inl e ↦ false≢true (sym y ∙ or-left (eqb (t .one) target) (eqb (t .two) target) (eq-eqb (t .one) target e))
+              | inr e ↦ false≢true (sym y ∙ or-right (eqb (t .one) target) (eqb (t .two) target) (eq-eqb (t .two) target e))
+            ]
 
--- ---- no frozen cell that is marked holds anything else: the loop has seen i of n
+    -- ---- marks that grew from the target's, as far as ties reach
 
-pub record Clashing (S : Cells) (frozen : List ℤ) (n : ℕ) (marks : List ℤ) (v : Value) (i : ℕ) : Type 0 where
-  pub inside : i ≤ n
-  pub rest : (c : List ℕ) → Marks marks c → clashFree S c v (listed (numberAt frozen) i (n - i)) ≡ clashFree S c v (firstCells frozen n)
+    module _ {clear : List ℕ} (u : Unmarked clear) (low : target < locations) {class : List ℕ} (g : Grows T n (withMark clear target) class) (closed : Even T n (marked class)) where
+      abbrev inside : ℕ → Bool
+      inside l = member l (classOf ts target)
 
-pub clashing-starts : {S : Cells} {frozen : List ℤ} {n : ℕ} {marks : List ℤ} {v : Value} → Clashing S frozen n marks v 0
-clashing-starts {n = n} = record { inside = omega arith; rest = λ c k. let z : n - 0 ≡ n = omega arith in rw z }
+      class-even : Even T n inside
+      class-even k b t e =
+          let o = ties-have program kept S ts followed k b t e in
+          both-ways (inside (t .one)) (inside (t .two))
+          (λ q. class-iff ts target (t .two) .1 (onwards (class-iff ts target (t .one) .0 q) (by-tie t o)))
+          (λ q. class-iff ts target (t .one) .1 (onwards (class-iff ts target (t .two) .0 q) (backwards (by-tie t o))))
 
-module _ {S : Cells} {frozen : List ℤ} {n : ℕ} {marks : List ℤ} {v : Value} {i : ℕ} (inv : Clashing S frozen n marks v i) where
-  module _ (h : i < n) {l : ℕ} {r : Bool} (a : l ≡ numberAt frozen i) (e : r ≡ (not (marked marks l) || is (slotAt S l) v)) where
-    clash-turn : (c : List ℕ) → Marks marks c → r && clashFree S c v (listed (numberAt frozen) (i + 1) (n - (i + 1))) ≡ clashFree S c v (firstCells frozen n)
-    clash-turn c k =
-        let z : n - i ≡ suc (n - (i + 1)) = omega arith in
-        let y : suc i ≡ i + 1 = sym (add-one i) in
-        let q : not (member (numberAt frozen i) c) || is (slotAt S (numberAt frozen i)) v ≡ r = rw (← a, ← k .is l) (sym e) in
-        rw (z, listed-more (numberAt frozen) i (n - (i + 1)), clash-more S c v (numberAt frozen i) (listed (numberAt frozen) (suc i) (n - (i + 1))), y, q) at (inv .rest c k)
+      pub class-marks : (l : ℕ) → marked class l ≡ inside l
+      class-marks l = both-ways (marked class l) (inside l)
+          (g .within inside class-even (λ k e. rw (first-only clear (u .long) (u .none) target k e) (class-target ts target)) l)
+          (class-all (λ k. marked class k ≡ true) ts target
+          (λ t o. let k = ties-number program kept S ts followed t o in let q = closed (k .0) (k .1 .0) t (k .1 .1) in (λ e. sym q ∙ e, λ e. q ∙ e))
+          (g .keeps target (first-there clear (u .long) (u .none) target low)) l)
 
-    pub clashing-fails : r ≡ false → ClashFree S (firstCells frozen n) marks v false
-    clashing-fails f c k = rw f at (clash-turn c k)
+      class-long : length class ≡ marksWords
+      class-long = g .long ∙ mark-long clear (u .long) target
 
-    pub clashing-goes-on : r ≡ true → Clashing S frozen n marks v (i + 1)
-    clashing-goes-on t = record { inside = omega arith; rest = λ c k. rw t at (clash-turn c k) }
-
-  pub clashing-ends : n ≤ i → ClashFree S (firstCells frozen n) marks v true
-  clashing-ends h c k = let z : n - i ≡ 0 = omega arith in rw (z, listed-none (numberAt frozen) i, clash-none S c v) at (inv .rest c k)
-
--- ---- the class listed as pairs
-
-module _ (class : List ℤ) (count : ℕ) (l : ℕ) (h : 2 * count < length class) (small : l < locations) where
-  pub cells-more : cellsIn (set class (2 * count) (wordOf l)) (count + 1) ≡ cellsIn class count ++ (l ∷ [])
-  cells-more =
-      let f : ℕ → ℕ = λ i. numberAt (set class (2 * count) (wordOf l)) (2 * i) in
-      listed-last f count
-      ∙ rw (number-put class (2 * count) l h (omega arith), listed-same f (λ i. numberAt class (2 * i)) 0 count (λ j a b. number-other class (2 * count) (2 * j) (wordOf l) (λ e. omega arith)))
-
-ends-one : (t : ℕ → Bool) (one two : ℕ) → endsOf t (tie one two ∷ []) ≡ cond (t one) (one ∷ two ∷ []) []
-unfolding endsOf
-ends-one t one two = refl
-
-module _ {one two : ℕ} {marks class : List ℤ} {count : ℕ} where
-  pub tie-unlisted : (numberAt marks one ≡ 1 → ⊥) → ListsTie one two marks class class count count
-  tie-unlisted h = record {
-    few = omega arith;
-    is = rw (ends-one (marked marks) one two, ne-eqb (numberAt marks one) 1 h, append-none (cellsIn class count));
-  }
-
-  pub tie-listed : {middle class′ : List ℤ} {w x : ℤ} → numberAt marks one ≡ 1 → one < locations → two < locations → count + 2 ≤ classCells → classWords ≤ length class
-      → w ≡ wordOf one → middle ≡ set class (2 * count) w → x ≡ wordOf two → class′ ≡ set middle (2 * count + 2) x
-      → ListsTie one two marks class class′ count (count + 2)
-  tie-listed h a b c d p e q f = record {
-    few = omega arith;
-    is = let z : count + 2 ≡ (count + 1) + 1 = omega arith in
-        let y : 2 * count + 2 ≡ 2 * (count + 1) = omega arith in
-        rw (f, e, p, q, z, y, ends-one (marked marks) one two, h, cells-more (set class (2 * count) (wordOf one)) (count + 1) two (simp length-set (omega arith)) b, cells-more class count one (omega arith) a)
-        (append-assoc (cellsIn class count) (one ∷ []) (two ∷ []));
-  }
-
-ends-first : (t : ℕ → Bool) (x : Tie) (ts : List Tie) → endsOf t (x ∷ ts) ≡ endsOf t (x ∷ []) ++ endsOf t ts
-unfolding endsOf
-ends-first t x ts = cases (t (x .one)) (λ e. rw e) (λ e. rw e)
-
--- the loop over n ties: i are walked
-pub record Listing (target : ℕ) (ends : List ℤ) (n : ℕ) (marks class₀ class : List ℤ) (count i : ℕ) : Type 0 where
-  pub inside : i ≤ n
-  pub long : length class ≡ length class₀
-  pub few : count ≤ 1 + 2 * i
-  pub rest : cellsIn class count ++ endsOf (marked marks) (listed (tieIn ends) i (n - i)) ≡ target ∷ endsOf (marked marks) (tiesIn ends n)
-
-pub listing-starts : (before : List ℤ) {target : ℕ} {ends : List ℤ} {n : ℕ} {marks class : List ℤ} {w : ℤ} → target < locations → classWords ≤ length before → w ≡ wordOf target → class ≡ set before 0 w
-    → Listing target ends n marks class class 1 0
-listing-starts before {target} {ends} {n} {marks} {class} small long p e =
-    let z : n - 0 ≡ n = omega arith in
-    let w : cellsIn (set before 0 (wordOf target)) 1 ≡ target ∷ [] = cells-more before 0 target (omega arith) small ∙ rw (listed-none (λ (i : ℕ). numberAt before (2 * i)) 0) in
-    record { inside = omega arith; long = refl; few = omega arith; rest = rw (z, e, p, w) }
-
-module _ {target : ℕ} {ends : List ℤ} {n : ℕ} {marks class₀ class : List ℤ} {count i : ℕ} (inv : Listing target ends n marks class₀ class count i) where
-  pub listing-goes-on : {one two r : ℕ} {class′ : List ℤ} → i < n → one ≡ numberAt ends (2 * i) → two ≡ numberAt ends (2 * i + 1) → length class′ ≡ length class
-      → ListsTie one two marks class class′ count r → Listing target ends n marks class₀ class′ r (i + 1)
-  unfolding tieIn
-  listing-goes-on {one} {two} {r} {class′} h a b l g =
-      let z : n - i ≡ suc (n - (i + 1)) = omega arith in
-      let y : suc i ≡ i + 1 = sym (add-one i) in
-      let t = tie (numberAt ends (2 * i)) (numberAt ends (2 * i + 1)) in
-      let more = listed (tieIn ends) (i + 1) (n - (i + 1)) in
-      let whole : cellsIn class count ++ endsOf (marked marks) (t ∷ more) ≡ target ∷ endsOf (marked marks) (tiesIn ends n) = rw (z, listed-more (tieIn ends) i (n - (i + 1)), y) at (inv .rest) in
-      record {
-        inside = omega arith;
-        long = l ∙ inv .long;
-        few = omega (arith, g .few, inv .few);
-        rest = rw (g .is, a, b) (append-assoc (cellsIn class count) (endsOf (marked marks) (t ∷ [])) (endsOf (marked marks) more) ∙ rw (← ends-first (marked marks) t more) whole);
+      class-finds : {m : Res (List ℕ)} → m ≡ got (classOf ts target) → Finds class m
+      class-finds e = record {
+        list = classOf ts target;
+        is = e;
+        long = class-long;
+        few = omega (arith, cells-size class, g .few, first-size clear (u .long) (u .none) target, many-least (λ k. joins class (T k)) 0 n, kept-in kept Identities);
+        marks = class-marks;
+        same = λ l. cells-member class class-long l ∙ class-marks l;
       }
 
-  pub listing-ends : n ≤ i → Lists target ends n marks class count
-  unfolding endsOf
-  listing-ends h =
-      let z : n - i ≡ 0 = omega arith in
-      record { few = omega (arith, inv .few, inv .inside); is = rw (z, listed-none (tieIn ends) i, append-none (cellsIn class count)) at (inv .rest) }
+  -- ---- where no tie is kept
 
--- ---- ties without what they freeze
+  pub class-alone : {clear class : List ℕ} → Unmarked clear → target < locations → class ≡ withMark clear target → n ≡ 0 → Classes class May (classFor program kept S word target v)
+  unfolding classFor
+  class-alone {clear = clear} {class = class} u low e none =
+      let no-tie : (X : ℕ → Type 0) (k : ℕ) → k < n → X k = λ X k b. let z : ⊥ = omega arith in absurd z in
+      let w = ties-found program kept S (no-tie (λ k. (t : Tie) × (T k ≡ got t))) in
+      let g : Grows T n (withMark clear target) class = rw e (grows-none (withMark clear target)) in
+      let c : Even T n (marked class) = no-tie (λ k. (t : Tie) → T k ≡ got t → marked class (t .one) ≡ marked class (t .two)) in
+      let unnamed : names (w .0) target ≡ false = cases (names (w .0) target)
+      (λ q. let x = names-iff (w .0) target .0 q in let k = ties-number program kept S (w .0) (w .1) (x .0) (x .1 .0) in no-tie (λ j. names (w .0) target ≡ false) (k .0) (k .1 .0)) (λ q. q) in
+      let free : clashFree S (frozenBy (w .0)) v (classOf (w .0) target) ≡ true =
+      sym (free-clash S (marked class) v (classOf (w .0) target) (class-marks (w .0) (w .1) u low g c) (frozenBy (w .0))) ∙ sym (ties-free S (marked class) v program kept (w .0) (w .1)) ∙ (rw none (ties-none-free S (marked class) v (identityAt program kept) 0)) in
+      classed-finds (class-finds (w .0) (w .1) u low g c (rw (w .1, unnamed, free)))
 
-grown-bare : (ts : List Tie) (c : List ℕ) → grown (bare ts) c ≡ grown ts c
-unfolding bare
-grown-bare [] c = refl
-grown-bare (t ∷ ts) c = rw (grown-more (tie (t .one) (t .two)) (bare ts) c, grown-more t ts c, grown-bare ts (t .one ∷ t .two ∷ c), grown-bare ts c)
+  -- ---- where ties are kept
 
-pub grown-by-bare : (more ts : List Tie) (c : List ℕ) → grownBy (bare more) (bare ts) c ≡ grownBy more ts c
-unfolding bare
-grown-by-bare [] ts c = rw (grown-by-none (bare ts) c, grown-by-none ts c)
-grown-by-bare (t ∷ more) ts c = rw (grown-by-more (tie (t .one) (t .two)) (bare more) (bare ts) c, grown-by-more t more ts c, grown-bare ts c) (grown-by-bare more ts (grown ts c))
+  module _ {count : ℕ} (kept-so-many : count ≡ n) {clear first class : List ℕ} (u : Unmarked clear) (low : target < locations) (start : first ≡ withMark clear target) {r : Passed} (p : Passes T count false target first class r) where
+    pub class-lost : {class′ : List ℕ} {a w : ℕ} → r ≡ Astray a w → Classes class′ (Refuses a w) (classFor program kept S word target v)
+    unfolding classFor
+    class-lost {a = a} {w = w} e =
+        let s = p .lost a w e in
+        classed-refuses (rw (ties-lost program kept S (record { number = a; word = w }) (s .at) (omega (arith, s .inside)) (s .is) (s .first refl)))
 
-pub names-bare : (ts : List Tie) (l : ℕ) → names (bare ts) l ≡ names ts l
-unfolding bare
-names-bare [] l = refl
-names-bare (t ∷ ts) l = rw (names-more (tie (t .one) (t .two)) (bare ts) l, names-more t ts l, names-bare ts l)
+    module _ {named again : Bool} (e : r ≡ Over named again) where
+      pub walked-over : Walked T n target first class named again
+      walked-over = rw kept-so-many at (p .over named again e)
 
-pub ends-bare : (f : ℕ → Bool) (ts : List Tie) → endsOf f (bare ts) ≡ endsOf f ts
-unfolding bare endsOf
-ends-bare f [] = refl
-ends-bare f (t ∷ ts) = rw (ends-bare f ts)
+      pub leads-on : Found T count
+      leads-on = p .over named again e .found
 
-pub ends-same : (f g : ℕ → Bool) → ((l : ℕ) → f l ≡ g l) → (ts : List Tie) → endsOf f ts ≡ endsOf g ts
-unfolding endsOf
-ends-same f g h [] = refl
-ends-same f g h (t ∷ ts) = rw (h (t .one), ends-same f g h ts)
+      abbrev list : List Tie
+      list = ties-found program kept S (walked-over .found) .0
 
--- the words that tell the ends tell what is named
-or-assoc : (a b c : Bool) → a || (b || c) ≡ (a || b) || c
-or-assoc true b c = refl
-or-assoc false b c = refl
+      followed : ties program kept S ≡ got list
+      followed = ties-found program kept S (walked-over .found) .1
 
-pub named-ends : (ends : List ℤ) (l i n : ℕ) → member l (listed (numberAt ends) (2 * i) (2 * n)) ≡ names (listed (tieIn ends) i n) l
-unfolding tieIn
-named-ends ends l i zero = let z : 2 * 0 ≡ 0 = omega arith in rw (z, listed-none (numberAt ends) (2 * i), listed-none (tieIn ends) i, not-member l, names-none l)
-named-ends ends l i (suc n) =
-    let z : 2 * suc n ≡ suc (suc (2 * n)) = omega arith in
-    let y : suc (2 * i) ≡ 2 * i + 1 = omega arith in
-    let x : suc (2 * i + 1) ≡ 2 * suc i = omega arith in
-    rw (z, listed-more (numberAt ends) (2 * i) (suc (2 * n)), y, listed-more (numberAt ends) (2 * i + 1) (2 * n), x, listed-more (tieIn ends) i n)
-    (rw (
-      member-more l (numberAt ends (2 * i)) (numberAt ends (2 * i + 1) ∷ listed (numberAt ends) (2 * suc i) (2 * n)),
-      member-more l (numberAt ends (2 * i + 1)) (listed (numberAt ends) (2 * suc i) (2 * n)),
-      names-more (tie (numberAt ends (2 * i)) (numberAt ends (2 * i + 1))) (listed (tieIn ends) (suc i) n) l,
-      named-ends ends l (suc i) n,
-      eqb-sym l (numberAt ends (2 * i)),
-      eqb-sym l (numberAt ends (2 * i + 1)),
-    ) (or-assoc (eqb (numberAt ends (2 * i)) l) (eqb (numberAt ends (2 * i + 1)) l) (names (listed (tieIn ends) (suc i) n) l)))
+      abbrev node : Bool
+      node = not (names list target) || isNode v
 
--- ---- the class is the target, and both ends of each tie in it
+      module _ {is : Bool} (what : is ≡ isNode v) where
+        node-is : node ≡ not (named && not is)
+        node-is = rw (← (names-are list followed walked-over), ← what) (by named is)
+          where
+            by : (a b : Bool) → (not a || b) ≡ not (a && not b)
+            by true true = refl
+            by true false = refl
+            by false b = refl
 
-ends-within : (f : ℕ → Bool) (Q : ℕ → Type 0) (ts : List Tie) → ((t : Tie) → OneOf t ts → f (t .one) ≡ true → Q (t .one) × Q (t .two)) → (l : ℕ) → member l (endsOf f ts) ≡ true → Q l
-unfolding endsOf
-ends-within f Q [] h l e = member-none l e
-ends-within f Q (t ∷ ts) h l e = cases (f (t .one))
-    (λ q. let w = h t (List·Memᴰ·head refl) q in
-    member-cons l (t .one) (t .two ∷ endsOf f ts) (rw q at e) (λ a. rw a (w .0)) (λ b. member-cons l (t .two) (endsOf f ts) b (λ a. rw a (w .1)) (λ d. ends-within f Q ts (λ u m. h u (List·Memᴰ·tail m)) l d)))
-    (λ q. ends-within f Q ts (λ u m. h u (List·Memᴰ·tail m)) l (rw q at e))
+        pub class-unfit : {class′ : List ℕ} → named && not is ≡ true → Classes class′ (Refuses 13 (length word)) (classFor program kept S word target v)
+        unfolding classFor
+        class-unfit q = classed-refuses (rw (followed, node-is, q))
 
-ends-has : (f : ℕ → Bool) {ts : List Tie} (t : Tie) → OneOf t ts → f (t .one) ≡ true → (member (t .one) (endsOf f ts) ≡ true) × (member (t .two) (endsOf f ts) ≡ true)
-unfolding endsOf
-ends-has f t (List·Memᴰ·head {x = u} {xs = ts} q) e =
-    rw (sym (ap (λ (x : Tie). f (x .one)) q) ∙ e)
-    (member-head (t .one) (u .one) (u .two ∷ endsOf f ts) (ap (λ (x : Tie). x .one) q), member-tail (t .two) (u .one) (u .two ∷ endsOf f ts) (member-head (t .two) (u .two) (endsOf f ts) (ap (λ (x : Tie). x .two) q)))
-ends-has f t (List·Memᴰ·tail {x = u} {xs = ts} m) e =
-    let w = ends-has f t m e in
-    cases (f (u .one))
-    (λ q. rw q (
-      member-tail (t .one) (u .one) (u .two ∷ endsOf f ts) (member-tail (t .one) (u .two) (endsOf f ts) (w .0)),
-      member-tail (t .two) (u .one) (u .two ∷ endsOf f ts) (member-tail (t .two) (u .two) (endsOf f ts) (w .1)),
-    ))
-    (λ q. rw q w)
+        module _ (fits : named && not is ≡ false) {class′ : List ℕ} (o : PassesOn T count again class class′) {free : Bool} (f : free ≡ freeTies S (marked class′) v (identityAt program kept) 0 count) where
+          all-grows : Grows T n (withMark clear target) class′
+          all-grows = rw start at (grows-then (walked-over .grows) (rw kept-so-many at (o .grows)))
 
-both-ways : (a b : Bool) → (a ≡ true → b ≡ true) → (b ≡ true → a ≡ true) → a ≡ b
-both-ways true b f g = sym (f refl)
-both-ways false true f g = g refl
-both-ways false false f g = refl
+          all-closed : Even T n (marked class′)
+          all-closed = rw kept-so-many at (o .closed (rw (← kept-so-many) at (walked-over .closed)))
 
-module _ (ts : List Tie) (target : ℕ) where
-  abbrev class : List ℕ
-  class = classOf ts target
+          free-is : clashFree S (frozenBy list) v (classOf list target) ≡ free
+          free-is = sym (free-clash S (marked class′) v (classOf list target) (class-marks list followed u low all-grows all-closed) (frozenBy list))
+              ∙ sym (ties-free S (marked class′) v program kept list followed) ∙ sym (rw kept-so-many at f)
 
-  abbrev inside : ℕ → Bool
-  inside l = member l class
+          pub class-clashes : free ≡ false → Classes class′ (Refuses 12 (length word)) (classFor program kept S word target v)
+          unfolding classFor
+          class-clashes q = classed-refuses (rw (followed, node-is, fits, free-is, q))
 
-  class-onwards : (t : Tie) → OneOf t ts → inside (t .one) ≡ true → inside (t .two) ≡ true
-  class-onwards t m e = class-iff ts target (t .two) .1 (onwards (class-iff ts target (t .one) .0 e) (by-tie t m))
-
-  class-backwards : (t : Tie) → OneOf t ts → inside (t .two) ≡ true → inside (t .one) ≡ true
-  class-backwards t m e = class-iff ts target (t .one) .1 (onwards (class-iff ts target (t .two) .0 e) (backwards (by-tie t m)))
-
-  pub class-ends : Alike (target ∷ endsOf inside ts) class
-  class-ends l = both-ways (member l (target ∷ endsOf inside ts)) (member l class) (into l)
-      (class-all (λ k. member k (target ∷ endsOf inside ts) ≡ true) ts target (λ t m. (
-        λ e. member-tail (t .two) target (endsOf inside ts) (ends-has inside t m (into (t .one) e) .1),
-        λ e. member-tail (t .one) target (endsOf inside ts) (ends-has inside t m (class-backwards t m (into (t .two) e)) .0),
-      )) (member-head target target (endsOf inside ts) refl) l)
-    where
-      into : (l : ℕ) → member l (target ∷ endsOf inside ts) ≡ true → member l class ≡ true
-      into l e = member-cons l target (endsOf inside ts) e (λ q. rw q (class-target ts target))
-          (λ b. ends-within inside (λ k. member k class ≡ true) ts (λ t m q. (q, class-onwards t m q)) l b)
-
--- a clash is one whichever of the two lists is walked
-pub clash-turned : (S : Cells) (a b c : List ℕ) (v : Value) → Alike a c → clashFree S a v b ≡ clashFree S b v c
-clash-turned S a b c v h = both-ways (clashFree S a v b) (clashFree S b v c)
-    (λ e. clash-iff S b v c .1 (λ l x y. clash-iff S a v b .0 e l y (h l ∙ x)))
-    (λ e. clash-iff S a v b .1 (λ l x y. clash-iff S b v c .0 e l (sym (h l) ∙ y) x))
+          pub class-found : free ≡ true → Classes class′ May (classFor program kept S word target v)
+          unfolding classFor
+          class-found q = classed-finds (class-finds list followed u low all-grows all-closed (rw (followed, node-is, fits, free-is, q)))

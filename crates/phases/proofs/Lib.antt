@@ -1,7 +1,9 @@
 pub mod RowLaws
-pub mod TieLaws
+pub mod CountLaws
 pub mod MarkLaws
+pub mod WalkLaws
+pub mod TieLaws
+pub mod FreeLaws
 pub mod ClassLaws
-pub mod ClassedLaws
 pub mod PutLaws
 pub mod PhaseLaws

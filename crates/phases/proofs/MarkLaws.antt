@@ -1,258 +1,187 @@
 -- Marks of cells, and how they grow with the ties. Assumes nothing.
 use mathlib.Core.Path.{_≡_, refl, sym, _∙_}
-use mathlib.Core.Bool.{Bool, true, false, cond, _||_, Bool·beq}
-use mathlib.Core.List.{List, [], _∷_}
-use Prim.Native.Nat.{ℕ, suc, _+_, _-_, _*_, _≤_, _<_}
+use mathlib.Core.Bool.{Bool, true, false, not, cond, _||_}
+use mathlib.Core.List.{List, _∷_}
+use Prim.Native.Nat.{ℕ, zero, suc, _+_, _-_, _≤_, _<_}
 use native.Mathlib.Omega.{arith}
-use native.Mathlib.Decide.{decLt}
-use native.Mathlib.Numerals.{add-one}
-use borrow.Author.Tests.{eqb-true, eqb-false, ne-eqb}
+use native.Mathlib.Decide.{decLt, ℕ-discrete}
+use borrow.Author.Tests.{eqb-true, eq-eqb, ne-eqb}
 use lib.Dec.{eqb}
-use lib.IntN.{ℤ, pos}
-use lib.ListN.{length, set, replicate, length-set, length-replicate, getD-replicate}
-use lib.Seq.{getD-set-same}
-use Rattle.words.specs.Words.{numberAt}
-use Rattle.words.proofs.Laws.{number-past}
+use lib.ListN.{length}
+use Rattle.words.specs.Answer.{got, stop}
+use Rattle.words.specs.Bits.{marked, withMark, markedFrom}
+use Rattle.words.proofs.BitLaws.{mark-length, mark-is, marked-past, from-zero, from-suc}
 use Rattle.tables.specs.Sizes.{locations}
-use Rattle.tables.proofs.SearchLaws.{cases}
-use Rattle.tables.proofs.WordLaws.{number-of}
-use Rattle.rules.specs.State.{listed}
-use Rattle.rules.specs.Identities.{Tie, member, grown, grownBy}
-use Rattle.rules.proofs.ConstraintClauses.{listed-none, listed-more}
-use Rattle.rules.proofs.IdentityClauses.{not-member, member-more, grown-none, grown-more, grown-by-none, grown-by-more}
-use Rattle.phases.specs.Tying.{tieIn, tiesIn, tie, marked, Marks, GrowsTie, Grows, GrowsAll}
-use Rattle.proposals.proofs.FormLaws.{unlike}
-use Rattle.phases.proofs.RowLaws.{number-other}
+use Rattle.tables.proofs.SearchLaws.{cases, and-left, and-right, and-true}
+use Rattle.rules.specs.State.{Res}
+use Rattle.rules.specs.Identities.{Tie, member}
+use Rattle.rules.proofs.IdentityClauses.{not-member, member-more}
+use Rattle.rules.proofs.ClassLaws.{or-left, or-right, or-cases, false≢true}
+use Rattle.phases.specs.Sizes.{marksWords}
+use Rattle.phases.specs.Taking.{cellsOf}
+use Rattle.phases.specs.Tying.{howMany, size, joins, Even, joined, Grows}
+use Rattle.phases.proofs.CountLaws.{many-strict, many-one, many-none}
 
--- two lists with the same members
-abbrev pub Alike : List ℕ → List ℕ → Type 0
-Alike c d = (l : ℕ) → member l c ≡ member l d
+pub both-ways : (a b : Bool) → (a ≡ true → b ≡ true) → (b ≡ true → a ≡ true) → a ≡ b
+both-ways true b f g = sym (f refl)
+both-ways false true f g = g refl
+both-ways false false f g = refl
 
-pub alike-more : (x : ℕ) (c d : List ℕ) → Alike c d → Alike (x ∷ c) (x ∷ d)
-alike-more x c d h l = rw (member-more l x c, member-more l x d, h l)
+-- ---- marks of all locations
 
-alike-swap : (x y : ℕ) (c : List ℕ) → Alike (x ∷ y ∷ c) (y ∷ x ∷ c)
-alike-swap x y c l = rw (member-more l x (y ∷ c), member-more l y c, member-more l y (x ∷ c), member-more l x c) (by (eqb l x) (eqb l y) (member l c))
-  where
-    by : (a b d : Bool) → a || (b || d) ≡ b || (a || d)
-    by true true d = refl
-    by true false d = refl
-    by false b d = refl
+module _ (s : List ℕ) (long : length s ≡ marksWords) where
+  pub mark-in : (l k : ℕ) → k < locations → marked (withMark s l) k ≡ (eqb k l || marked s k)
+  mark-in l k h = mark-is s l k (omega (arith, long))
 
--- what has the members that it already had
-alike-again : (x : ℕ) (c : List ℕ) → member x c ≡ true → Alike (x ∷ c) c
-alike-again x c h l = rw (member-more l x c) (cases (eqb l x) (λ e. rw (e, eqb-true l x e, h)) (λ e. rw e))
+  pub none-past : (k : ℕ) → locations ≤ k → marked s k ≡ false
+  none-past k h = marked-past s k (omega (arith, long))
 
-pub marks-alike : {m : List ℤ} {c d : List ℕ} → Alike c d → Marks m c → Marks m d
-marks-alike h k = record { long = k .long; is = λ l. k .is l ∙ h l }
-
--- ---- a mark
-
-number-one : (m : List ℤ) (l : ℕ) → l < length m → numberAt (set m l (pos 1)) l ≡ 1
-number-one m l h = number-of (set m l (pos 1)) l (pos 1) (simp length-set h) (getD-set-same m l (pos 1) (pos 0) h)
-
-pub mark-more : {m : List ℤ} {c : List ℕ} (l : ℕ) → l < locations → Marks m c → Marks (set m l (pos 1)) (l ∷ c)
-mark-more {m} {c} l h k = record {
-  long = length-set m l (pos 1) ∙ k .long;
-  is = λ j. rw (member-more j l c) (cases (eqb j l)
-      (λ e. rw (e, eqb-true j l e, number-one m l (omega (arith, k .long))))
-      (λ e. rw (e, number-other m l j (pos 1) (eqb-false j l e)) (k .is j)));
-}
-
--- no cell is marked
-marks-none : Marks (replicate locations (pos 0)) []
-marks-none = record {
-  long = length-replicate locations (pos 0);
-  is = λ l. rw (not-member l) (ne-eqb (numberAt (replicate locations (pos 0)) l) 1 (λ e. zero-word l e));
-}
-  where
-    zero-word : (l : ℕ) → numberAt (replicate locations (pos 0)) l ≡ 1 → ⊥
-    zero-word l e = go (decLt l locations)
-      where
-        go : Dec (l < locations) → ⊥
-        go (yes y) = let z : numberAt (replicate locations (pos 0)) l ≡ 0 = number-of (replicate locations (pos 0)) l (pos 0) (rw (length-replicate locations (pos 0)) y) (getD-replicate locations l (pos 0) (pos 0) y) in omega arith
-        go (no n) = let z : 2147483648 ≡ numberAt (replicate locations (pos 0)) l = number-past (replicate locations (pos 0)) l (rw (length-replicate locations (pos 0)) (omega arith)) in omega arith
-
-pub mark-start : (target : ℕ) → target < locations → Marks (set (replicate locations (pos 0)) target (pos 1)) (target ∷ [])
-mark-start target h = mark-more target h marks-none
-
--- ---- a tie
-
-grown-one : (t : Tie) (c : List ℕ) → grown (t ∷ []) c ≡ cond (member (t .one) c || member (t .two) c) (t .one ∷ t .two ∷ c) c
-grown-one t c = rw (grown-more t [] c, grown-none (t .one ∷ t .two ∷ c), grown-none c)
-
-pub grown-first : (t : Tie) (ts : List Tie) (c : List ℕ) → grown (t ∷ ts) c ≡ grown ts (grown (t ∷ []) c)
-grown-first t ts c = rw (grown-more t ts c, grown-one t c) (by (member (t .one) c || member (t .two) c))
-  where
-    by : (b : Bool) → cond b (grown ts (t .one ∷ t .two ∷ c)) (grown ts c) ≡ grown ts (cond b (t .one ∷ t .two ∷ c) c)
-    by true = refl
-    by false = refl
-
-module _ {one two : ℕ} {m : List ℤ} where
-  pub tie-same : marked m one ≡ marked m two → GrowsTie one two m m false
-  tie-same e = record {
-    same = λ r. refl;
-    grows = λ c k. rw (grown-one (tie one two) c) (by c k (member one c) (member two c) refl refl);
-  }
+  pub marked-low : (k : ℕ) → marked s k ≡ true → k < locations
+  marked-low k e = go (decLt k locations)
     where
-      by : (c : List ℕ) → Marks m c → (a b : Bool) → member one c ≡ a → member two c ≡ b → Marks m (cond (a || b) (one ∷ two ∷ c) c)
-      by c k true true p q = marks-alike (λ l. sym (alike-more one (two ∷ c) c (alike-again two c q) l ∙ alike-again one c p l)) k
-      by c k true false p q = let z : true ≡ false = sym p ∙ sym (k .is one) ∙ e ∙ k .is two ∙ q in unlike (cc)
-      by c k false true p q = let z : false ≡ true = sym p ∙ sym (k .is one) ∙ e ∙ k .is two ∙ q in unlike (cc)
-      by c k false false p q = k
+      go : Dec (k < locations) → k < locations
+      go (yes y) = y
+      go (no n) = false≢true (sym (none-past k (omega arith)) ∙ e)
 
-  pub tie-new : {m′ : List ℤ} → (marked m one ≡ marked m two → ⊥) → one < locations → two < locations → m′ ≡ set (set m one (pos 1)) two (pos 1) → GrowsTie one two m m′ true
-  tie-new n a b e = record {
-    same = λ r. unlike (cc);
-    grows = λ c k. rw (grown-one (tie one two) c, e) (by c k (member one c) (member two c) refl refl);
-  }
-    where
-      by : (c : List ℕ) → Marks m c → (x y : Bool) → member one c ≡ x → member two c ≡ y → Marks (set (set m one (pos 1)) two (pos 1)) (cond (x || y) (one ∷ two ∷ c) c)
-      by c k true y p q = marks-alike (alike-swap two one c) (mark-more two b (mark-more one a k))
-      by c k false true p q = marks-alike (alike-swap two one c) (mark-more two b (mark-more one a k))
-      by c k false false p q = absurd (n (k .is one ∙ p ∙ sym q ∙ sym (k .is two)))
+  pub mark-long : (l : ℕ) → length (withMark s l) ≡ marksWords
+  mark-long l = mark-length s l ∙ long
 
--- ---- the loop over n ties: i are walked, and the rest gives the whole's growth
+  mark-here : (l : ℕ) → l < locations → marked (withMark s l) l ≡ true
+  mark-here l h = mark-in l l h ∙ or-left (eqb l l) (marked s l) (eq-eqb l l refl)
 
-pub record GrownTo (ends : List ℤ) (n : ℕ) (m : List ℤ) (i : ℕ) (whole : List ℕ) : Type 0 where
-  pub cells : List ℕ
-  pub are : Marks m cells
-  pub rest : grown (listed (tieIn ends) i (n - i)) cells ≡ whole
+  mark-keeps : (l k : ℕ) → marked s k ≡ true → marked (withMark s l) k ≡ true
+  mark-keeps l k e = mark-in l k (marked-low k e) ∙ or-right (eqb k l) (marked s k) e
 
-pub record Growing (ends : List ℤ) (n : ℕ) (m₀ m : List ℤ) (i : ℕ) (more : Bool) : Type 0 where
-  pub inside : i ≤ n
-  pub long : length m ≡ length m₀
-  pub same : more ≡ false → m ≡ m₀
-  pub to : (c : List ℕ) → Marks m₀ c → GrownTo ends n m i (grown (tiesIn ends n) c)
+-- what is marked was marked, or is marked now
+mark-from {ℓ} : {X : Type ℓ} (s : List ℕ) → length s ≡ marksWords → (l k : ℕ) → marked (withMark s l) k ≡ true → (k ≡ l → X) → (marked s k ≡ true → X) → X
+mark-from s long l k e f g =
+    or-cases (eqb k l) (marked s k) (sym (mark-in s long l k (marked-low (withMark s l) (mark-long s long l) k e)) ∙ e) (λ q. f (eqb-true k l q)) g
 
-pub growing-starts : {ends : List ℤ} {n : ℕ} {m : List ℤ} → Growing ends n m m 0 false
-growing-starts {n = n} = record {
-  inside = omega arith;
-  long = refl;
-  same = λ e. refl;
-  to = λ c k. record { cells = c; are = k; rest = let z : n - 0 ≡ n = omega arith in rw z };
-}
+-- ---- how many are marked
 
-or-false-left : (a b : Bool) → a || b ≡ false → a ≡ false
-or-false-left true b e = e
-or-false-left false b e = refl
+from-size : (s : List ℕ) (i n : ℕ) → length (markedFrom s i n) ≡ howMany (marked s) i n
+unfolding howMany
+from-size s i zero = rw (from-zero s i)
+from-size s i (suc n) =
+    let one : suc (length (markedFrom s (suc i) n)) ≡ 1 + howMany (marked s) (suc i) n = omega (arith, from-size s (suc i) n) in
+    let none : length (markedFrom s (suc i) n) ≡ 0 + howMany (marked s) (suc i) n = omega (arith, from-size s (suc i) n) in
+    rw (from-suc s i n) (cases (marked s i) (λ e. rw e one) (λ e. rw e none))
 
-or-false-right : (a b : Bool) → a || b ≡ false → b ≡ false
-or-false-right true b e = cc
-or-false-right false b e = e
+pub cells-size : (class : List ℕ) → length (cellsOf class) ≡ size class
+cells-size class = from-size class 0 locations
 
-module _ {ends : List ℤ} {n : ℕ} {m₀ m : List ℤ} {i : ℕ} {more : Bool} (inv : Growing ends n m₀ m i more) where
-  pub growing-goes-on : {m′ : List ℤ} {one two : ℕ} {r : Bool} → i < n → one ≡ numberAt ends (2 * i) → two ≡ numberAt ends (2 * i + 1) → length m′ ≡ length m
-      → GrowsTie one two m m′ r → Growing ends n m₀ m′ (i + 1) (more || r)
-  unfolding tieIn
-  growing-goes-on {m′} {one} {two} {r} h a b l g = record {
-    inside = omega arith;
-    long = l ∙ inv .long;
-    same = λ e. g .same (or-false-right more r e) ∙ inv .same (or-false-left more r e);
-    to = λ c k. let t = inv .to c k in
-        record {
-          cells = grown (tie one two ∷ []) (t .cells);
-          are = g .grows (t .cells) (t .are);
-          rest = turn (t .cells) ∙ t .rest;
-        };
-  }
-    where
-      turn : (c : List ℕ) → grown (listed (tieIn ends) (i + 1) (n - (i + 1))) (grown (tie one two ∷ []) c) ≡ grown (listed (tieIn ends) i (n - i)) c
-      turn c =
-          let z : n - i ≡ suc (n - (i + 1)) = omega arith in
-          rw (z, listed-more (tieIn ends) i (n - (i + 1)), add-one i, a, b) (sym (grown-first (tie (numberAt ends (2 * i)) (numberAt ends (2 * i + 1))) (listed (tieIn ends) (suc i) (n - suc i)) c))
+from-below : (s : List ℕ) (l i n : ℕ) → l < i → member l (markedFrom s i n) ≡ false
+from-below s l i zero h = rw (from-zero s i) (not-member l)
+from-below s l i (suc n) h = rw (from-suc s i n) (cases (marked s i)
+    (λ e. rw (e, member-more l i (markedFrom s (suc i) n), ne-eqb l i (λ q. omega arith)) (from-below s l (suc i) n (omega arith)))
+    (λ e. rw e (from-below s l (suc i) n (omega arith))))
 
-  pub growing-ends : n ≤ i → Grows ends n m₀ m more
-  growing-ends h = record {
-    same = inv .same;
-    grows = λ c k. let t = inv .to c k in let z : n - i ≡ 0 = omega arith in
-        let e : t .cells ≡ grown (tiesIn ends n) c = rw (z, listed-none (tieIn ends) i, grown-none (t .cells)) at (t .rest) in
-        rw e at (t .are);
-  }
-
--- ---- passes until none is new
-
-grown-alike : (ts : List Tie) (c d : List ℕ) → Alike c d → Alike (grown ts c) (grown ts d)
-grown-alike [] c d h = rw (grown-none c, grown-none d) h
-grown-alike (t ∷ ts) c d h = rw (grown-more t ts c, grown-more t ts d, h (t .one), h (t .two)) (by (member (t .one) d || member (t .two) d)
-    (grown-alike ts (t .one ∷ t .two ∷ c) (t .one ∷ t .two ∷ d) (alike-more (t .one) (t .two ∷ c) (t .two ∷ d) (alike-more (t .two) c d h)))
-    (grown-alike ts c d h))
+from-member : (s : List ℕ) (l i n : ℕ) → i ≤ l → l < i + n → member l (markedFrom s i n) ≡ marked s l
+from-member s l i zero a b = let z : ⊥ = omega arith in absurd z
+from-member s l i (suc n) a b = rw (from-suc s i n) (go (ℕ-discrete l i) (λ m. from-member s l (suc i) n m (omega arith)))
   where
-    by : (b : Bool) → Alike (grown ts (t .one ∷ t .two ∷ c)) (grown ts (t .one ∷ t .two ∷ d)) → Alike (grown ts c) (grown ts d)
-        → Alike (cond b (grown ts (t .one ∷ t .two ∷ c)) (grown ts c)) (cond b (grown ts (t .one ∷ t .two ∷ d)) (grown ts d))
-    by true f g = f
-    by false f g = g
+    go : Dec (l ≡ i) → (suc i ≤ l → member l (markedFrom s (suc i) n) ≡ marked s l) → member l (cond (marked s i) (i ∷ markedFrom s (suc i) n) (markedFrom s (suc i) n)) ≡ marked s l
+    go (yes e) r = rw e (cases (marked s i) (λ q. rw (q, member-more i i (markedFrom s (suc i) n), eq-eqb i i refl)) (λ q. rw q (from-below s i (suc i) n (omega arith))))
+    go (no e) r = cases (marked s i)
+        (λ q. rw (q, member-more l i (markedFrom s (suc i) n), ne-eqb l i e) (r (omega arith)))
+        (λ q. rw q (r (omega arith)))
 
--- what one pass leaves as it is, every pass does
-passes-alike : (ts : List Tie) (d : List ℕ) → Alike (grown ts d) d → (more : List Tie) (c : List ℕ) → Alike c d → Alike (grownBy more ts c) d
-passes-alike ts d f [] c h = rw (grown-by-none ts c) h
-passes-alike ts d f (t ∷ more) c h = rw (grown-by-more t more ts c) (passes-alike ts d f more (grown ts c) (λ l. grown-alike ts c d h l ∙ f l))
+from-past : (s : List ℕ) (l i n : ℕ) → i + n ≤ l → member l (markedFrom s i n) ≡ false
+from-past s l i zero h = rw (from-zero s i) (not-member l)
+from-past s l i (suc n) h = rw (from-suc s i n) (cases (marked s i)
+    (λ e. rw (e, member-more l i (markedFrom s (suc i) n), ne-eqb l i (λ q. omega arith)) (from-past s l (suc i) n (omega arith)))
+    (λ e. rw e (from-past s l (suc i) n (omega arith))))
 
-pub record PassedTo (ends : List ℤ) (n : ℕ) (m : List ℤ) (i : ℕ) (whole : List ℕ) : Type 0 where
-  pub cells : List ℕ
-  pub are : Marks m cells
-  pub rest : grownBy (listed (tieIn ends) i (n - i)) (tiesIn ends n) cells ≡ whole
+pub cells-member : (class : List ℕ) → length class ≡ marksWords → (l : ℕ) → member l (cellsOf class) ≡ marked class l
+cells-member class long l = go (decLt l locations)
+  where
+    go : Dec (l < locations) → member l (cellsOf class) ≡ marked class l
+    go (yes y) = from-member class l 0 locations (omega arith) (omega arith)
+    go (no n) = from-past class l 0 locations (omega arith) ∙ sym (none-past class long l (omega arith))
 
-pub record Passing (ends : List ℤ) (n : ℕ) (m₀ m : List ℤ) (i : ℕ) : Type 0 where
-  pub inside : i ≤ n
-  pub long : length m ≡ length m₀
-  pub to : (c : List ℕ) → Marks m₀ c → PassedTo ends n m i (grownBy (tiesIn ends n) (tiesIn ends n) c)
+-- ---- one mark alone
 
-pub passing-starts : {ends : List ℤ} {n : ℕ} {m : List ℤ} → Passing ends n m m 0
-passing-starts {n = n} = record {
-  inside = omega arith;
-  long = refl;
-  to = λ c k. record { cells = c; are = k; rest = let z : n - 0 ≡ n = omega arith in rw z };
-}
+module _ (s : List ℕ) (long : length s ≡ marksWords) (none : (l : ℕ) → marked s l ≡ false) (target : ℕ) where
+  pub first-only : (l : ℕ) → marked (withMark s target) l ≡ true → l ≡ target
+  first-only l e = mark-from s long target l e (λ q. q) (λ q. false≢true (sym (none l) ∙ q))
 
-module _ {ends : List ℤ} {n : ℕ} {m₀ m : List ℤ} {i : ℕ} (inv : Passing ends n m₀ m i) where
-  module _ {m′ : List ℤ} {r : Bool} (h : i < n) (g : Grows ends n m m′ r) where
-    pub passing-goes-on : length m′ ≡ length m → Passing ends n m₀ m′ (i + 1)
-    passing-goes-on l = record {
-      inside = omega arith;
-      long = l ∙ inv .long;
-      to = λ c k. let t = inv .to c k in
-          record {
-            cells = grown (tiesIn ends n) (t .cells);
-            are = g .grows (t .cells) (t .are);
-            rest = turn (t .cells) ∙ t .rest;
-          };
+  pub first-there : target < locations → marked (withMark s target) target ≡ true
+  first-there h = mark-here s long target h
+
+  pub first-size : size (withMark s target) ≤ 1
+  first-size = omega (arith, many-one (λ (l : ℕ). false) (marked (withMark s target)) target (λ l n e. absurd (n (first-only l e))) 0 locations, many-none (λ (l : ℕ). false) (λ l. refl) 0 locations)
+
+-- ---- growing
+
+pub joins-most : (a b : List ℕ) → ((l : ℕ) → marked a l ≡ true → marked b l ≡ true) → (m : Res Tie) → joins a m ≡ true → joins b m ≡ true
+joins-most a b h (got t) e = and-true (marked b (t .one)) (marked b (t .two)) (h (t .one) (and-left (marked a (t .one)) (marked a (t .two)) e)) (h (t .two) (and-right (marked a (t .one)) (marked a (t .two)) e))
+joins-most a b h (stop f) e = e
+
+module _ {T : ℕ → Res Tie} {n : ℕ} where
+  pub grows-none : (class : List ℕ) → Grows T n class class
+  grows-none class = record { long = refl; keeps = λ l e. e; within = λ f h k. k; few = omega arith; most = omega arith }
+
+  pub grows-then : {a b c : List ℕ} → Grows T n a b → Grows T n b c → Grows T n a c
+  grows-then g h = record {
+    long = h .long ∙ g .long;
+    keeps = λ l e. h .keeps l (g .keeps l e);
+    within = λ f k m. h .within f k (g .within f k m);
+    few = omega (arith, g .few, h .few);
+    most = omega (arith, g .most, h .most);
+  }
+
+module _ (T : ℕ → Res Tie) (n : ℕ) where
+  -- ---- a tie with one end marked
+
+  module _ (class : List ℕ) (long : length class ≡ marksWords) {k : ℕ} (inside : k < n) (t : Tie) (is : T k ≡ got t)
+      (low-one : t .one < locations) (low-two : t .two < locations) (odd : marked class (t .one) ≡ not (marked class (t .two))) where
+    abbrev first : List ℕ
+    first = withMark class (t .one)
+
+    abbrev both : List ℕ
+    both = withMark first (t .two)
+
+    first-long : length first ≡ marksWords
+    first-long = mark-long class long (t .one)
+
+    tie-keeps : (l : ℕ) → marked class l ≡ true → marked both l ≡ true
+    tie-keeps l e = mark-keeps first first-long (t .two) l (mark-keeps class long (t .one) l e)
+
+    tie-from {ℓ} : {X : Type ℓ} (l : ℕ) → marked both l ≡ true → (l ≡ t .one → X) → (l ≡ t .two → X) → (marked class l ≡ true → X) → X
+    tie-from l e f g h = mark-from first first-long (t .two) l e g (λ q. mark-from class long (t .one) l q f h)
+
+    pub tie-one : marked both (t .one) ≡ true
+    tie-one = mark-keeps first first-long (t .two) (t .one) (mark-here class long (t .one) low-one)
+
+    pub tie-two : marked both (t .two) ≡ true
+    tie-two = mark-here first first-long (t .two) low-two
+
+    tie-within : (f : ℕ → Bool) → Even T n f → ((l : ℕ) → marked class l ≡ true → f l ≡ true) → (l : ℕ) → marked both l ≡ true → f l ≡ true
+    tie-within f h m l e =
+        let both-pass : (f (t .one) ≡ true) × (f (t .two) ≡ true) = cases (marked class (t .two))
+        (λ q. (h k inside t is ∙ m (t .two) q, m (t .two) q))
+        (λ q. let p : marked class (t .one) ≡ true = odd ∙ rw q in (m (t .one) p, sym (h k inside t is) ∙ m (t .one) p)) in
+        tie-from l e (λ q. rw q (both-pass .0)) (λ q. rw q (both-pass .1)) (m l)
+
+    tie-size : size both ≤ suc (size class)
+    tie-size = cases (marked class (t .two))
+        (λ q. many-one (marked class) (marked both) (t .one) (λ l d e. tie-from l e (λ x. absurd (d x)) (λ x. rw x q) (λ x. x)) 0 locations)
+        (λ q. many-one (marked class) (marked both) (t .two) (λ l d e. tie-from l e (λ x. rw x (odd ∙ rw q)) (λ x. absurd (d x)) (λ x. x)) 0 locations)
+
+    not-joined : joins class (T k) ≡ false
+    not-joined = rw is (cases (marked class (t .two)) (λ q. rw (odd, q)) (λ q. rw (odd, q)))
+
+    now-joined : joins both (T k) ≡ true
+    now-joined = rw is (and-true (marked both (t .one)) (marked both (t .two)) tie-one tie-two)
+
+    pub tie-more : joined T n class < joined T n both
+    tie-more = many-strict (λ j. joins class (T j)) (λ j. joins both (T j)) (λ j. joins-most class both tie-keeps (T j)) k not-joined now-joined 0 n (omega arith) (omega arith)
+
+    pub tie-grows : Grows T n class both
+    tie-grows = record {
+      long = mark-length first (t .two) ∙ mark-length class (t .one);
+      keeps = tie-keeps;
+      within = tie-within;
+      few = omega (arith, tie-size, tie-more);
+      most = omega (arith, tie-more);
     }
-      where
-        turn : (c : List ℕ) → grownBy (listed (tieIn ends) (i + 1) (n - (i + 1))) (tiesIn ends n) (grown (tiesIn ends n) c) ≡ grownBy (listed (tieIn ends) i (n - i)) (tiesIn ends n) c
-        turn c =
-            let z : n - i ≡ suc (n - (i + 1)) = omega arith in
-            rw (z, listed-more (tieIn ends) i (n - (i + 1)), add-one i) (sym (grown-by-more (tieIn ends i) (listed (tieIn ends) (suc i) (n - suc i)) (tiesIn ends n) c))
-
-    pub passing-stops : r ≡ false → GrowsAll ends n m₀ m′
-    passing-stops e c k =
-        let t = inv .to c k in
-        let q : m′ ≡ m = g .same e in
-        let a : Marks m′ (t .cells) = rw q (t .are) in
-        let b : Marks m′ (grown (tiesIn ends n) (t .cells)) = g .grows (t .cells) (t .are) in
-        record {
-          cells = t .cells;
-          are = a;
-          same = λ l. sym (passes-alike (tiesIn ends n) (t .cells) (λ j. sym (b .is j) ∙ a .is j) (listed (tieIn ends) i (n - i)) (t .cells) (λ j. refl) l) ∙ rw (t .rest);
-        }
-
-  pub passing-ends : n ≤ i → GrowsAll ends n m₀ m
-  passing-ends h c k =
-      let t = inv .to c k in
-      let z : n - i ≡ 0 = omega arith in
-      let e : t .cells ≡ grownBy (tiesIn ends n) (tiesIn ends n) c = rw (z, listed-none (tieIn ends) i, grown-by-none (tiesIn ends n) (t .cells)) at (t .rest) in
-      record { cells = t .cells; are = t .are; same = λ l. rw e }
-
--- ---- two tests compared
-
-pub alike-tests : (a b : Bool) → Bool·beq a b ≡ true → a ≡ b
-alike-tests true true e = refl
-alike-tests true false e = sym e
-alike-tests false true e = e
-alike-tests false false e = refl
-
-pub unlike-tests : (a b : Bool) → Bool·beq a b ≡ false → a ≡ b → ⊥
-unlike-tests true true e q = unlike (cc)
-unlike-tests true false e q = unlike (cc)
-unlike-tests false true e q = unlike (cc)
-unlike-tests false false e q = unlike (cc)

@@ -1,11 +1,12 @@
 -- The identity phase, nearer to the code: the class first, and then the cells that take the value. Assumes nothing: these are definitions.
 use Prim.Native.Nat.{ℕ, _≤_}
 use mathlib.Core.Path.{_≡_}
-use mathlib.Core.Bool.{not, _||_}
-use mathlib.Core.List.{List, [], _++_}
+use mathlib.Core.Bool.{false, not, _||_}
+use mathlib.Core.List.{List, []}
 use lib.Dec.{ltb}
 use lib.IntN.{ℤ}
-use lib.ListN.{drop}
+use lib.ListN.{length, drop}
+use Rattle.words.specs.Bits.{marked}
 use Rattle.words.specs.Answer.{got, stop, _>>=_, _>>_, want}
 use Rattle.tables.specs.declared.Value.{Value}
 use Rattle.tables.specs.declared.Value.the-variants.{Ref}
@@ -17,28 +18,35 @@ use Rattle.rules.specs.Paths.{wayAt}
 use Rattle.rules.specs.Identities.{isNode, ties, frozenBy, classOf, names, clashFree, member, identityPhase}
 use Rattle.rules.specs.Statements.{Left, valuePhase}
 use Rattle.phases.specs.declared.Classed.{Classed}
-use Rattle.phases.specs.declared.Classed.the-variants.{Cells as Found, Refuses}
-use Rattle.phases.specs.Sizes.{classCells}
-use Rattle.phases.specs.Taking.{cellsIn}
+use Rattle.phases.specs.declared.Classed.the-variants.{May, Refuses}
+use Rattle.phases.specs.Sizes.{marksWords, classCells}
+use Rattle.phases.specs.Taking.{cellsOf}
 
--- the class of the target, reached through its prefix, that is to take v: 13, then 12, at the statement's word
-unfoldable pub classFor : List ℤ → List ℤ → Cells → List ℤ → ℕ → List ℕ → Value → Res (List ℕ)
-classFor program kept before word target prefix v = do
+-- the class of the target, reached through no cells, that is to take v: 13, then 12, at the statement's word
+unfoldable pub classFor : List ℤ → List ℤ → Cells → List ℤ → ℕ → Value → Res (List ℕ)
+classFor program kept before word target v = do
   ts ← ties program kept before
   want (refused 13 word) (not (names ts target) || isNode v)
-  want (refused 12 word) (clashFree before (prefix ++ frozenBy ts) v (classOf ts target))
+  want (refused 12 word) (clashFree before (frozenBy ts) v (classOf ts target))
   got (classOf ts target)
 
--- the first words of n pairs are the cells of the class, in any order and any number of times
-pub record Finds (class : List ℤ) (n : ℕ) (m : Res (List ℕ)) : Type 0 where
+-- no cell is marked
+pub record Unmarked (class : List ℕ) : Type 0 where
+  pub long : length class ≡ marksWords
+  pub none : (l : ℕ) → marked class l ≡ false
+
+-- the cells of the class are marked, and no others
+pub record Finds (class : List ℕ) (m : Res (List ℕ)) : Type 0 where
   pub list : List ℕ
   pub is : m ≡ got list
-  pub few : n ≤ classCells
-  pub same : (l : ℕ) → member l (cellsIn class n) ≡ member l list
+  pub long : length class ≡ marksWords
+  pub few : length (cellsOf class) ≤ classCells
+  pub marks : (l : ℕ) → marked class l ≡ member l list
+  pub same : (l : ℕ) → member l (cellsOf class) ≡ member l list
 
-pub record Classes (class : List ℤ) (r : Classed) (m : Res (List ℕ)) : Type 0 where
+pub record Classes (class : List ℕ) (r : Classed) (m : Res (List ℕ)) : Type 0 where
   pub refuses : (a w : ℕ) → r ≡ Refuses a w → m ≡ stop (record { number = a; word = w })
-  pub finds : (n : ℕ) → r ≡ Found n → Finds class n m
+  pub finds : r ≡ May → Finds class m
 
 -- the L of the assignment at p takes the value v, and then the value phase
 unfoldable pub gives : List ℤ → List ℤ → State → List ℤ → Value → Res Left

@@ -2,4 +2,5 @@ pub mod Sizes
 pub mod Told
 pub mod Taking
 pub mod Tying
+pub mod Freezing
 pub mod Classing

@@ -1,139 +1,110 @@
--- Kept identities as words: the two ends of each tie, the frozen cells, and the cells that are marked. Assumes nothing: these are definitions.
-use Prim.Native.Nat.{ℕ, _+_, _*_, _≤_, _<_}
+-- Kept identities as ties in a row, and marks that grow with them. Assumes nothing: these are definitions.
+use Prim.Native.Nat.{ℕ, zero, suc, _+_, _-_, _≤_, _<_}
 use mathlib.Core.Path.{_≡_}
-use mathlib.Core.Bool.{Bool, false, cond}
-use mathlib.Core.List.{List, [], _∷_, _++_}
+use mathlib.Core.Bool.{Bool, true, false, not, cond, _&&_, _||_}
+use mathlib.Core.List.{List}
 use lib.Dec.{eqb}
 use lib.IntN.{ℤ}
-use lib.ListN.{length, set}
-use Rattle.words.specs.Words.{numberAt, wordOf}
+use lib.ListN.{length, drop}
 use Rattle.words.specs.Answer.{got, stop}
-use Rattle.tables.specs.declared.Value.{Value}
+use Rattle.words.specs.Bits.{marked, withMark}
 use Rattle.tables.specs.declared.Sort.the-variants.{Identities}
 use Rattle.tables.specs.Sizes.{locations}
 use Rattle.tables.specs.Cells.{Cells}
-use Rattle.tables.specs.Kept.{keptCount}
-use Rattle.program.specs.Forms.{mostSteps}
-use Rattle.rules.specs.State.{listed}
-use Rattle.rules.specs.Paths.{Way, wayAt}
-use Rattle.rules.specs.Identities.{Tie, tieAt, ties, member, frozenBy, grown, grownBy, clashFree}
-use Rattle.phases.specs.declared.Side.{Side}
-use Rattle.phases.specs.declared.Side.the-variants.{At, Lost as Astray}
+use Rattle.tables.specs.Kept.{positionAt}
+use Rattle.rules.specs.State.{Res}
+use Rattle.rules.specs.Identities.{Tie, tieAt}
 use Rattle.phases.specs.declared.Tied.{Tied}
-use Rattle.phases.specs.declared.Tied.the-variants.{Upto, Lost}
-use Rattle.phases.specs.Sizes.{frozenWords}
-use Rattle.phases.specs.Taking.{cellsIn}
+use Rattle.phases.specs.declared.Tied.the-variants.{Ends, Lost}
+use Rattle.phases.specs.declared.Grown.{Grown}
+use Rattle.phases.specs.declared.Passed.{Passed}
+use Rattle.phases.specs.declared.Passed.the-variants.{Over, Lost as Astray}
 
--- ---- ties as words
+-- ---- ties
 
--- a tie by its two ends; what it freezes is told elsewhere
-abbrev pub tie : ℕ → ℕ → Tie
-tie one two = record { one = one; two = two; prefix = [] }
+-- kept identity number k, from its first side on, and followed in the tables
+abbrev pub identityAt : List ℤ → List ℤ → ℕ → List ℤ
+identityAt program kept k = drop 1 (drop (positionAt kept Identities k) program)
 
--- tie number i, whose ends are told by two words, and n ties
-unfoldable pub tieIn : List ℤ → ℕ → Tie
-tieIn ends i = tie (numberAt ends (2 * i)) (numberAt ends (2 * i + 1))
+abbrev pub tieNo : List ℤ → List ℤ → Cells → ℕ → Res Tie
+tieNo program kept S k = tieAt S (identityAt program kept k)
 
-abbrev pub tiesIn : List ℤ → ℕ → List Tie
-tiesIn ends n = listed (tieIn ends) 0 n
+-- its two cells
+abbrev pub tiedOf : Res Tie → Tied
+tiedOf (got t) = Ends (t .one) (t .two)
+tiedOf (stop f) = Lost (f .number) (f .word)
 
--- ties without what they freeze
-unfoldable pub bare : List Tie → List Tie
-bare [] = []
-bare (t ∷ ts) = tie (t .one) (t .two) ∷ bare ts
+-- the i-th of n, from the first on or back from the last
+abbrev pub turnOf : ℕ → ℕ → Bool → ℕ
+turnOf n i back = cond back (n - i - 1) i
 
--- the cells told by the first n words
-abbrev pub firstCells : List ℤ → ℕ → List ℕ
-firstCells s n = listed (numberAt s) 0 n
+-- ---- marks and ties
 
--- all of 2 * n ends are locations
-abbrev pub EndsLow : List ℤ → ℕ → Type 0
-EndsLow ends n = (j : ℕ) → j < 2 * n → numberAt ends j < locations
+-- how many of n numbers, from i on, pass
+unfoldable pub howMany : (ℕ → Bool) → ℕ → ℕ → ℕ
+howMany f i zero = 0
+howMany f i (suc n) = cond (f i) 1 0 + howMany f (suc i) n
 
--- ---- one side of an identity, an identity, and all that are kept: where each is followed, and what is written of it
+-- how many cells are marked
+abbrev pub size : List ℕ → ℕ
+size class = howMany (marked class) 0 locations
 
-pub record SideAt (S : Cells) (p ends ends′ : List ℤ) (j : ℕ) (frozen frozen′ : List ℤ) (k used left : ℕ) : Type 0 where
-  pub way : Way
-  pub is : wayAt S p ≡ got way
-  pub rest : left ≡ length (way .rest)
-  pub writes : ends′ ≡ set ends j (wordOf (way .cell))
-  pub few : used ≤ k + mostSteps
-  pub freezes : firstCells frozen′ used ≡ firstCells frozen k ++ way .prefix
+-- a tie whose two ends are marked, and one that names the target
+abbrev pub joins : List ℕ → Res Tie → Bool
+joins class (got t) = marked class (t .one) && marked class (t .two)
+joins class (stop f) = false
 
-pub record Sides (S : Cells) (p ends ends′ : List ℤ) (j : ℕ) (frozen frozen′ : List ℤ) (k : ℕ) (r : Side) : Type 0 where
-  pub lost : (a w : ℕ) → r ≡ Astray a w → wayAt S p ≡ stop (record { number = a; word = w })
-  pub at : (used left : ℕ) → r ≡ At used left → SideAt S p ends ends′ j frozen frozen′ k used left
+abbrev pub namedBy : ℕ → Res Tie → Bool
+namedBy target (got t) = eqb (t .one) target || eqb (t .two) target
+namedBy target (stop f) = false
 
-pub record TieAt (S : Cells) (p ends ends′ : List ℤ) (i : ℕ) (frozen frozen′ : List ℤ) (k used : ℕ) : Type 0 where
-  pub tie : Tie
-  pub is : tieAt S p ≡ got tie
-  pub low-one : tie .one < locations
-  pub low-two : tie .two < locations
-  pub writes : ends′ ≡ set (set ends (2 * i) (wordOf (tie .one))) (2 * i + 1) (wordOf (tie .two))
-  pub few : used ≤ k + 2 * mostSteps
-  pub freezes : firstCells frozen′ used ≡ firstCells frozen k ++ tie .prefix
+-- both ends of a tie that has one end marked are marked
+pub record GrowsTie (one two : ℕ) (class class′ : List ℕ) (r : Grown) : Type 0 where
+  pub same : r .new ≡ false → (class′ ≡ class) × (marked class one ≡ marked class two)
+  pub grows : r .new ≡ true → (class′ ≡ withMark (withMark class one) two) × (marked class one ≡ not (marked class two))
+  pub apart : r .apart ≡ (not (marked class one) && not (marked class two))
 
-pub record Ties (S : Cells) (p ends ends′ : List ℤ) (i : ℕ) (frozen frozen′ : List ℤ) (k : ℕ) (r : Tied) : Type 0 where
-  pub lost : (a w : ℕ) → r ≡ Lost a w → tieAt S p ≡ stop (record { number = a; word = w })
-  pub upto : (used : ℕ) → r ≡ Upto used → TieAt S p ends ends′ i frozen frozen′ k used
+module _ (T : ℕ → Res Tie) (n : ℕ) where
+  -- each of n ties leads somewhere
+  abbrev pub Found : Type 0
+  Found = (k : ℕ) → k < n → (t : Tie) × (T k ≡ got t)
 
-pub record AllTies (program kept : List ℤ) (S : Cells) (ends frozen frozen′ : List ℤ) (k used : ℕ) : Type 0 where
-  pub list : List Tie
-  pub is : ties program kept S ≡ got list
-  pub written : tiesIn ends (keptCount kept Identities) ≡ bare list
-  pub low : EndsLow ends (keptCount kept Identities)
-  pub few : used ≤ frozenWords
-  pub freezes : firstCells frozen′ used ≡ firstCells frozen k ++ frozenBy list
+  -- both ends of each pass, or neither
+  abbrev pub Even : (ℕ → Bool) → Type 0
+  Even f = (k : ℕ) → k < n → (t : Tie) → T k ≡ got t → f (t .one) ≡ f (t .two)
 
-pub record Followed (program kept : List ℤ) (S : Cells) (ends frozen frozen′ : List ℤ) (k : ℕ) (r : Tied) : Type 0 where
-  pub lost : (a w : ℕ) → r ≡ Lost a w → ties program kept S ≡ stop (record { number = a; word = w })
-  pub upto : (used : ℕ) → r ≡ Upto used → AllTies program kept S ends frozen frozen′ k used
+  abbrev pub joined : List ℕ → ℕ
+  joined class = howMany (λ k. joins class (T k)) 0 n
 
--- ---- marks
+  -- the marks grow, by ties alone; with each mark one tie more has both ends marked
+  pub record Grows (class class′ : List ℕ) : Type 0 where
+    pub long : length class′ ≡ length class
+    pub keeps : (l : ℕ) → marked class l ≡ true → marked class′ l ≡ true
+    pub within : (f : ℕ → Bool) → Even f → ((l : ℕ) → marked class l ≡ true → f l ≡ true) → (l : ℕ) → marked class′ l ≡ true → f l ≡ true
+    pub few : size class′ + joined class ≤ size class + joined class′
+    pub most : joined class ≤ joined class′
 
--- the cell l is marked
-abbrev pub marked : List ℤ → ℕ → Bool
-marked marks l = eqb (numberAt marks l) 1
+  -- one walk over all ties
+  pub record Walked (target : ℕ) (class class′ : List ℕ) (names again : Bool) : Type 0 where
+    pub found : Found
+    pub grows : Grows class class′
+    pub closed : again ≡ false → Even (marked class′)
+    pub more : again ≡ true → joined class < joined class′
+    pub named : names ≡ true → (k : ℕ) × ((k < n) × (namedBy target (T k) ≡ true))
+    pub unnamed : names ≡ false → (k : ℕ) → k < n → namedBy target (T k) ≡ false
 
--- the cells of c are marked, and no others
-pub record Marks (marks : List ℤ) (c : List ℕ) : Type 0 where
-  pub long : length marks ≡ locations
-  pub is : (l : ℕ) → marked marks l ≡ member l c
+  -- tie number k leads nowhere; those before it do, where they are walked in their order
+  pub record Strays (back : Bool) (a w : ℕ) : Type 0 where
+    pub at : ℕ
+    pub inside : at < n
+    pub is : T at ≡ stop (record { number = a; word = w })
+    pub first : back ≡ false → (k : ℕ) → k < at → (t : Tie) × (T k ≡ got t)
 
--- the marks of the cells c become those of the cells grown by one tie; they are as they were where none is new
-pub record GrowsTie (one two : ℕ) (marks marks′ : List ℤ) (r : Bool) : Type 0 where
-  pub same : r ≡ false → marks′ ≡ marks
-  pub grows : (c : List ℕ) → Marks marks c → Marks marks′ (grown (tie one two ∷ []) c)
+  pub record Passes (back : Bool) (target : ℕ) (class class′ : List ℕ) (r : Passed) : Type 0 where
+    pub lost : (a w : ℕ) → r ≡ Astray a w → Strays back a w
+    pub over : (names again : Bool) → r ≡ Over names again → Walked target class class′ names again
 
--- the same for n ties
-pub record Grows (ends : List ℤ) (n : ℕ) (marks marks′ : List ℤ) (r : Bool) : Type 0 where
-  pub same : r ≡ false → marks′ ≡ marks
-  pub grows : (c : List ℕ) → Marks marks c → Marks marks′ (grown (tiesIn ends n) c)
-
--- the marks of the cells c become those of the cells grown as often as there are ties
-pub record GrownAll (ends : List ℤ) (n : ℕ) (marks : List ℤ) (c : List ℕ) : Type 0 where
-  pub cells : List ℕ
-  pub are : Marks marks cells
-  pub same : (l : ℕ) → member l cells ≡ member l (grownBy (tiesIn ends n) (tiesIn ends n) c)
-
-abbrev pub GrowsAll : List ℤ → ℕ → List ℤ → List ℤ → Type 0
-GrowsAll ends n marks marks′ = (c : List ℕ) → Marks marks c → GrownAll ends n marks′ c
-
--- no frozen cell that is marked holds anything but v
-abbrev pub ClashFree : Cells → List ℕ → List ℤ → Value → Bool → Type 0
-ClashFree S frozen marks v r = (c : List ℕ) → Marks marks c → r ≡ clashFree S c v frozen
-
--- both ends of each tie whose first end passes
-unfoldable pub endsOf : (ℕ → Bool) → List Tie → List ℕ
-endsOf t [] = []
-endsOf t (x ∷ ts) = cond (t (x .one)) (x .one ∷ x .two ∷ endsOf t ts) (endsOf t ts)
-
--- so many cells are listed, and then both ends of the tie if it is marked
-pub record ListsTie (one two : ℕ) (marks class class′ : List ℤ) (count r : ℕ) : Type 0 where
-  pub few : r ≤ count + 2
-  pub is : cellsIn class′ r ≡ cellsIn class count ++ endsOf (marked marks) (tie one two ∷ [])
-
--- the cells listed are the target, and both ends of each tie that is marked
-pub record Lists (target : ℕ) (ends : List ℤ) (n : ℕ) (marks class : List ℤ) (r : ℕ) : Type 0 where
-  pub few : r ≤ 1 + 2 * n
-  pub is : cellsIn class r ≡ target ∷ endsOf (marked marks) (tiesIn ends n)
+  -- walks until no mark is new
+  pub record PassesOn (again : Bool) (class class′ : List ℕ) : Type 0 where
+    pub grows : Grows class class′
+    pub closed : (again ≡ false → Even (marked class)) → Even (marked class′)

@@ -1,141 +1,53 @@
-// The ties of kept identities, followed in the tables, and the class of a target.
+// The ties of kept identities, followed in the tables as often as they are asked for, and the class of a target as marks.
 use crate::Classed;
-use crate::ENDS_WORDS;
-use crate::FROZEN_WORDS;
-use crate::Side;
+use crate::Grown;
+use crate::Passed;
 use crate::Tied;
 use expressions::Named;
-use expressions::paths::follow_on;
+use expressions::paths::cell_at;
+use expressions::paths::step;
+use tables::Found;
 use tables::Slot;
 use tables::Sort;
 use tables::Value;
+use words::bits::is_marked;
+use words::bits::mark;
 ghost use mathlib.Core.Path.{_≡_};
 ghost use mathlib.Core.Bool.{not, _||_};
-ghost use Prim.Native.Nat.{_<_, _≤_, _+_, _*_};
+ghost use Prim.Native.Nat.{_<_, _≤_};
 ghost use lib.ListN.{length};
+ghost use Rattle.words.specs.Bits.{marked};
 ghost use Rattle.tables.specs.Sizes.{locations};
 ghost use Rattle.tables.specs.Cells.{cells};
-ghost use Rattle.program.specs.Forms.{mostSteps};
 ghost use Rattle.rules.specs.State.{slotAt};
-ghost use Rattle.rules.specs.Identities.{isNode, member, is};
-ghost use Rattle.phases.specs.Sizes.{mostTies, endsWords, frozenWords, classCells, classWords};
-ghost use Rattle.phases.specs.Tying.{firstCells, EndsLow, Sides, Ties, Followed, marked, GrowsTie, Grows, GrowsAll, ClashFree, ListsTie, Lists};
-ghost use Rattle.phases.specs.Classing.{classFor, Classes};
+ghost use Rattle.rules.specs.Identities.{tieAt, isNode, is};
+ghost use Rattle.phases.specs.Sizes.{mostTies, marksWords};
+ghost use Rattle.phases.specs.Tying.{identityAt, tiedOf, tieNo, turnOf, Found as Leads, GrowsTie, Passes, PassesOn};
+ghost use Rattle.phases.specs.Freezing.{freeWay, freeTie, freeTies};
+ghost use Rattle.phases.specs.Classing.{classFor, Unmarked, Classes};
 
-// The L at p, as end number j of the ties; its prefix cells are written from the word k of `frozen` on.
-fn side_at(
-    environment: &[i32],
-    heap: &[i32],
-    p: &[i32],
-    ends: &mut [i32],
-    j: usize,
-    frozen: &mut [i32],
-    k: usize,
-) -> Side
-    requires { ⌜ k + mostSteps ≤ frozenWords ⌝ }
-    requires { ⌜ length (now frozen) ≡ frozenWords ⌝ }
-    ensures { λ r. ⌜ Sides (cells (now (environment .entry)) (now (heap .entry))) (now (p .entry)) (now (ends .entry)) (now (ends .exit)) j (now (frozen .entry)) (now (frozen .exit)) k r ⌝ }
+// The two cells that the identity at p names.
+fn tie_at(environment: &[i32], heap: &[i32], p: &[i32]) -> Tied
+    ensures { λ r. ⌜ r ≡ tiedOf (tieAt (cells (now (environment .entry)) (now (heap .entry))) (now (p .entry))) ⌝ }
 {
-    let mut on = [0i32; program::MOST_STEPS];
-    match follow_on(environment, heap, p, &mut on) {
-        Named::Lost(a, w) => Side::Lost(a, w),
-        Named::Cell(l, left) => {
-            let m = words::number_at(p, 1);
-            words::store(ends, j, words::word_of(l));
-            words::copy(frozen, k, &on, m);
-            Side::At(k + m, left)
-        }
-    }
-}
-
-// Both sides of the identity at p, as tie number i: its two cells, and its prefix cells from the word k of `frozen` on.
-fn tie_at(
-    environment: &[i32],
-    heap: &[i32],
-    p: &[i32],
-    ends: &mut [i32],
-    i: usize,
-    frozen: &mut [i32],
-    k: usize,
-) -> Tied
-    requires { ⌜ i < mostTies ⌝ }
-    requires { ⌜ k + 2 * mostSteps ≤ frozenWords ⌝ }
-    requires { ⌜ length (now frozen) ≡ frozenWords ⌝ }
-    ensures { λ r. ⌜ Ties (cells (now (environment .entry)) (now (heap .entry))) (now (p .entry)) (now (ends .entry)) (now (ends .exit)) i (now (frozen .entry)) (now (frozen .exit)) k r ⌝ }
-{
-    match side_at(environment, heap, p, ends, 2 * i, frozen, k) {
-        Side::Lost(a, w) => Tied::Lost(a, w),
-        Side::At(used, left) => match side_at(
-            environment,
-            heap,
-            words::part_last(p, left),
-            ends,
-            2 * i + 1,
-            frozen,
-            used,
-        ) {
-            Side::Lost(b, x) => Tied::Lost(b, x),
-            Side::At(more, _) => Tied::Upto(more),
+    match cell_at(environment, heap, p) {
+        Named::Lost(a, w) => Tied::Lost(a, w),
+        Named::Cell(one, left) => match cell_at(environment, heap, words::part_last(p, left)) {
+            Named::Lost(b, x) => Tied::Lost(b, x),
+            Named::Cell(two, _) => Tied::Ends(one, two),
         },
     }
 }
 
-// Every kept identity, in kept order.
-fn tie_all(
-    program: &[i32],
-    environment: &[i32],
-    heap: &[i32],
-    constraints: &[i32],
-    ends: &mut [i32],
-    frozen: &mut [i32],
-    k: usize,
-) -> Tied
-    requires { ⌜ k ≤ mostSteps ⌝ }
-    requires { ⌜ length (now ends) ≡ endsWords ⌝ }
-    requires { ⌜ length (now frozen) ≡ frozenWords ⌝ }
-    ensures { λ r. ⌜ Followed (now (program .entry)) (now (constraints .entry)) (cells (now (environment .entry)) (now (heap .entry))) (now (ends .exit)) (now (frozen .entry)) (now (frozen .exit)) k r ⌝ }
+// Kept identity number k, from its first side on.
+fn identity_at<'a>(program: &'a [i32], constraints: &[i32], k: usize) -> &'a [i32]
+    ensures { λ r. ⌜ now r ≡ identityAt (now (program .entry)) (now (constraints .entry)) k ⌝ }
 {
-    let n = tables::kept::kept_count(constraints, Sort::Identities);
-    let mut used = k;
-    let mut i: usize = 0;
-    while i < n {
-        let statement = words::part_from(
-            program,
-            tables::kept::position_at(constraints, Sort::Identities, i),
-        );
-        match tie_at(
-            environment,
-            heap,
-            words::part_from(statement, 1),
-            ends,
-            i,
-            frozen,
-            used,
-        ) {
-            Tied::Lost(a, w) => {
-                return Tied::Lost(a, w);
-            }
-            Tied::Upto(next) => {
-                used = next;
-            }
-        }
-        i += 1;
-    }
-    Tied::Upto(used)
-}
-
-// Whether a number is among the first n words.
-fn is_among(s: &[i32], n: usize, l: usize) -> bool
-    ensures { λ r. ⌜ r ≡ member l (firstCells (now (s .entry)) n) ⌝ }
-{
-    let mut i: usize = 0;
-    while i < n {
-        if words::number_at(s, i) == l {
-            return true;
-        }
-        i += 1;
-    }
-    false
+    let statement = words::part_from(
+        program,
+        tables::kept::position_at(constraints, Sort::Identities, k),
+    );
+    words::part_from(statement, 1)
 }
 
 // References and nil.
@@ -161,79 +73,184 @@ fn holds(environment: &[i32], heap: &[i32], l: usize, v: Value) -> bool
     }
 }
 
-// Both ends of a tie that has one end marked are marked; whether a mark is new.
-fn grow_tie(one: usize, two: usize, marks: &mut [i32]) -> bool
-    requires { ⌜ one < locations ⌝ }
-    requires { ⌜ two < locations ⌝ }
-    ensures { λ r. ⌜ GrowsTie one two (now (marks .entry)) (now (marks .exit)) r ⌝ }
+// Both ends of a tie that has one end marked are marked.
+fn grow_tie(one: usize, two: usize, class: &mut [u64]) -> Grown
+    ensures { λ r. ⌜ GrowsTie one two (now (class .entry)) (now (class .exit)) r ⌝ }
 {
-    let a = words::number_at(marks, one) == 1;
-    let b = words::number_at(marks, two) == 1;
+    let a = is_marked(class, one);
+    let b = is_marked(class, two);
     if a == b {
-        return false;
+        return Grown {
+            new: false,
+            apart: !a,
+        };
     }
-    words::store(marks, one, 1);
-    words::store(marks, two, 1);
-    true
+    mark(class, one);
+    mark(class, two);
+    Grown {
+        new: true,
+        apart: false,
+    }
 }
 
-// Both ends of each of n ties that has an end marked are marked; whether any mark is new.
-fn grow(ends: &[i32], n: usize, marks: &mut [i32]) -> bool
-    requires { ⌜ n ≤ mostTies ⌝ }
-    requires { ⌜ EndsLow (now ends) n ⌝ }
-    ensures { λ r. ⌜ Grows (now (ends .entry)) n (now (marks .entry)) (now (marks .exit)) r ⌝ }
+// The i-th of n, from the first on or back from the last.
+fn turn(n: usize, i: usize, back: bool) -> usize
+    ensures { λ r. ⌜ r ≡ turnOf n i back ⌝ }
 {
-    let mut more = false;
-    let mut i: usize = 0;
-    while i < n {
-        let one = words::number_at(ends, 2 * i);
-        let two = words::number_at(ends, 2 * i + 1);
-        let new = grow_tie(one, two, marks);
-        more = more | new;
-        i += 1;
+    if back {
+        return words::less(words::less(n, i), 1);
     }
-    more
+    i
 }
 
-// The marks grow until none is new.
-fn grow_all(ends: &[i32], n: usize, marks: &mut [i32])
+// One walk over the n ties, in kept order or back: each that has an end marked has both marked then. Another is due where a mark is new after a tie that stayed apart.
+fn pass(
+    program: &[i32],
+    environment: &[i32],
+    heap: &[i32],
+    constraints: &[i32],
+    n: usize,
+    back: bool,
+    target: usize,
+    class: &mut [u64],
+) -> Passed
     requires { ⌜ n ≤ mostTies ⌝ }
-    requires { ⌜ EndsLow (now ends) n ⌝ }
-    ensures { λ _. ⌜ GrowsAll (now (ends .entry)) n (now (marks .entry)) (now (marks .exit)) ⌝ }
+    requires { ⌜ length (now class) ≡ marksWords ⌝ }
+    ensures { λ r. ⌜ Passes (tieNo (now (program .entry)) (now (constraints .entry)) (cells (now (environment .entry)) (now (heap .entry)))) n back target (now (class .entry)) (now (class .exit)) r ⌝ }
 {
+    let mut names = false;
+    let mut apart = false;
+    let mut again = false;
     let mut i: usize = 0;
     while i < n {
-        if !grow(ends, n, marks) {
-            return;
+        let p = identity_at(program, constraints, turn(n, i, back));
+        match tie_at(environment, heap, p) {
+            Tied::Lost(a, w) => {
+                return Passed::Lost(a, w);
+            }
+            Tied::Ends(one, two) => {
+                let g = grow_tie(one, two, class);
+                names = names | (one == target) | (two == target);
+                again = again | (apart & g.new);
+                apart = apart | g.apart;
+            }
         }
         i += 1;
+    }
+    Passed::Over(names, again)
+}
+
+// Passes back and forth, after the first, as long as another is due.
+fn pass_on(
+    program: &[i32],
+    environment: &[i32],
+    heap: &[i32],
+    constraints: &[i32],
+    n: usize,
+    again: bool,
+    target: usize,
+    class: &mut [u64],
+)
+    requires { ⌜ n ≤ mostTies ⌝ }
+    requires { ⌜ length (now class) ≡ marksWords ⌝ }
+    requires { ⌜ Leads (tieNo (now program) (now constraints) (cells (now environment) (now heap))) n ⌝ }
+    ensures { λ _. ⌜ PassesOn (tieNo (now (program .entry)) (now (constraints .entry)) (cells (now (environment .entry)) (now (heap .entry)))) n again (now (class .entry)) (now (class .exit)) ⌝ }
+{
+    let mut back = true;
+    let mut due = again;
+    while due {
+        match pass(
+            program,
+            environment,
+            heap,
+            constraints,
+            n,
+            back,
+            target,
+            class,
+        ) {
+            Passed::Lost(_, _) => {
+                return;
+            }
+            Passed::Over(_, more) => {
+                due = more;
+            }
+        }
+        back = !back;
     }
 }
 
 // The cell at l is not marked, or holds v.
-fn may_take(environment: &[i32], heap: &[i32], l: usize, marks: &[i32], v: Value) -> bool
-    ensures { λ r. ⌜ r ≡ (not (marked (now (marks .entry)) l) || is (slotAt (cells (now (environment .entry)) (now (heap .entry))) l) v) ⌝ }
+fn may_take(environment: &[i32], heap: &[i32], l: usize, class: &[u64], v: Value) -> bool
+    ensures { λ r. ⌜ r ≡ (not (marked (now (class .entry)) l) || is (slotAt (cells (now (environment .entry)) (now (heap .entry))) l) v) ⌝ }
 {
-    if words::number_at(marks, l) != 1 {
+    if !is_marked(class, l) {
         return true;
     }
     holds(environment, heap, l, v)
 }
 
-// No frozen cell that is marked holds anything but v.
-fn is_clash_free(
+// No prefix cell of the L at p is marked and holds anything but v.
+pub(crate) fn is_way_free(
     environment: &[i32],
     heap: &[i32],
-    frozen: &[i32],
-    n: usize,
-    marks: &[i32],
+    p: &[i32],
+    class: &[u64],
     v: Value,
 ) -> bool
-    ensures { λ r. ⌜ ClashFree (cells (now (environment .entry)) (now (heap .entry))) (firstCells (now (frozen .entry)) n) (now (marks .entry)) v r ⌝ }
+    ensures { λ r. ⌜ r ≡ freeWay (cells (now (environment .entry)) (now (heap .entry))) (marked (now (class .entry))) v (now (p .entry)) ⌝ }
+{
+    let n = words::number_at(p, 1);
+    let labels = words::part_from(p, 2);
+    let mut at = words::number_at(p, 0);
+    let mut i: usize = 0;
+    while i < n {
+        if !may_take(environment, heap, at, class, v) {
+            return false;
+        }
+        if i + 1 == n {
+            return true;
+        }
+        match step(environment, heap, at, words::number_at(labels, i)) {
+            Found::Nothing => {
+                return true;
+            }
+            Found::At(next) => {
+                at = next;
+            }
+        }
+        i += 1;
+    }
+    true
+}
+
+// The same of both sides of the identity at p.
+fn is_tie_free(environment: &[i32], heap: &[i32], p: &[i32], class: &[u64], v: Value) -> bool
+    ensures { λ r. ⌜ r ≡ freeTie (cells (now (environment .entry)) (now (heap .entry))) (marked (now (class .entry))) v (now (p .entry)) ⌝ }
+{
+    if !is_way_free(environment, heap, p, class, v) {
+        return false;
+    }
+    let q = words::part_from(words::part_from(p, 2), words::number_at(p, 1));
+    is_way_free(environment, heap, q, class, v)
+}
+
+// The same of n kept identities.
+fn is_clash_free(
+    program: &[i32],
+    environment: &[i32],
+    heap: &[i32],
+    constraints: &[i32],
+    n: usize,
+    class: &[u64],
+    v: Value,
+) -> bool
+    ensures { λ r. ⌜ r ≡ freeTies (cells (now (environment .entry)) (now (heap .entry))) (marked (now (class .entry))) v (identityAt (now (program .entry)) (now (constraints .entry))) 0 n ⌝ }
 {
     let mut i: usize = 0;
     while i < n {
-        if !may_take(environment, heap, words::number_at(frozen, i), marks, v) {
+        let p = identity_at(program, constraints, i);
+        if !is_tie_free(environment, heap, p, class, v) {
             return false;
         }
         i += 1;
@@ -241,114 +258,55 @@ fn is_clash_free(
     true
 }
 
-// Both ends of a tie that is marked, as the first words of the pairs from number `count` on. How many pairs there are then.
-fn list_tie(one: usize, two: usize, marks: &[i32], class: &mut [i32], count: usize) -> usize
-    requires { ⌜ one < locations ⌝ }
-    requires { ⌜ two < locations ⌝ }
-    requires { ⌜ count + 2 ≤ classCells ⌝ }
-    requires { ⌜ classWords ≤ length (now class) ⌝ }
-    ensures { λ r. ⌜ ListsTie one two (now (marks .entry)) (now (class .entry)) (now (class .exit)) count r ⌝ }
-{
-    if words::number_at(marks, one) != 1 {
-        return count;
-    }
-    words::store(class, 2 * count, words::word_of(one));
-    words::store(class, 2 * count + 2, words::word_of(two));
-    count + 2
-}
-
-// The marked cells, as the first words of pairs: the target, and both ends of each tie that is marked. How many they are.
-fn list_class(target: usize, ends: &[i32], n: usize, marks: &[i32], class: &mut [i32]) -> usize
-    requires { ⌜ n ≤ mostTies ⌝ }
-    requires { ⌜ target < locations ⌝ }
-    requires { ⌜ EndsLow (now ends) n ⌝ }
-    requires { ⌜ classWords ≤ length (now class) ⌝ }
-    ensures { λ r. ⌜ Lists target (now (ends .entry)) n (now (marks .entry)) (now (class .exit)) r ⌝ }
-{
-    words::store(class, 0, words::word_of(target));
-    let mut count: usize = 1;
-    let mut i: usize = 0;
-    while i < n {
-        let one = words::number_at(ends, 2 * i);
-        let two = words::number_at(ends, 2 * i + 1);
-        count = list_tie(one, two, marks, class, count);
-        i += 1;
-    }
-    count
-}
-
-// No tie among n names the target, or v is a reference or nil.
-fn is_fit(ends: &[i32], n: usize, target: usize, v: Value) -> bool
-    requires { ⌜ n ≤ mostTies ⌝ }
-    ensures { λ r. ⌜ r ≡ (not (member target (firstCells (now (ends .entry)) (2 * n))) || isNode v) ⌝ }
-{
-    if !is_among(ends, 2 * n, target) {
-        return true;
-    }
-    is_node(v)
-}
-
-// The target is not one of its m prefix cells, or holds v.
-fn is_free(environment: &[i32], heap: &[i32], on: &[i32], m: usize, target: usize, v: Value) -> bool
-    ensures { λ r. ⌜ r ≡ (not (member target (firstCells (now (on .entry)) m)) || is (slotAt (cells (now (environment .entry)) (now (heap .entry))) target) v) ⌝ }
-{
-    if !is_among(on, m, target) {
-        return true;
-    }
-    holds(environment, heap, target, v)
-}
-
-// The class of the target, whose m prefix cells `on` has: 13, then 12. Where no identity is kept it is the target alone, and only its own prefix can clash.
-pub(crate) fn class_of(
+// The class of the target is marked: 13, and then 12 for the cells that kept identities freeze. Where none is kept, the class is the target.
+pub(crate) fn mark_class(
     program: &[i32],
     environment: &[i32],
     heap: &[i32],
     constraints: &[i32],
-    on: &[i32],
-    m: usize,
     target: usize,
     v: Value,
-    class: &mut [i32],
+    class: &mut [u64],
     p: &[i32],
 ) -> Classed
-    requires { ⌜ m ≤ mostSteps ⌝ }
-    requires { ⌜ m ≤ length (now on) ⌝ }
     requires { ⌜ target < locations ⌝ }
-    requires { ⌜ classWords ≤ length (now class) ⌝ }
-    ensures { λ r. ⌜ Classes (now (class .exit)) r (classFor (now (program .entry)) (now (constraints .entry)) (cells (now (environment .entry)) (now (heap .entry))) (now (p .entry)) target (firstCells (now (on .entry)) m) v) ⌝ }
+    requires { ⌜ Unmarked (now class) ⌝ }
+    ensures { λ r. ⌜ Classes (now (class .exit)) r (classFor (now (program .entry)) (now (constraints .entry)) (cells (now (environment .entry)) (now (heap .entry))) (now (p .entry)) target v) ⌝ }
 {
     let n = tables::kept::kept_count(constraints, Sort::Identities);
+    mark(class, target);
     if n == 0 {
-        if !is_free(environment, heap, on, m, target, v) {
-            return Classed::Refuses(12, p.len());
-        }
-        words::store(class, 0, words::word_of(target));
-        return Classed::Cells(1);
+        return Classed::May;
     }
-    let mut ends = [0i32; ENDS_WORDS];
-    let mut frozen = [0i32; FROZEN_WORDS];
-    words::copy(&mut frozen, 0, on, m);
-    match tie_all(
+    match pass(
         program,
         environment,
         heap,
         constraints,
-        &mut ends,
-        &mut frozen,
-        m,
+        n,
+        false,
+        target,
+        class,
     ) {
-        Tied::Lost(a, w) => Classed::Refuses(a, w),
-        Tied::Upto(used) => {
-            if !is_fit(&ends, n, target, v) {
+        Passed::Lost(a, w) => Classed::Refuses(a, w),
+        Passed::Over(names, again) => {
+            if names & !is_node(v) {
                 return Classed::Refuses(13, p.len());
             }
-            let mut marks = [0i32; tables::LOCATIONS];
-            words::store(&mut marks, target, 1);
-            grow_all(&ends, n, &mut marks);
-            if !is_clash_free(environment, heap, &frozen, used, &marks, v) {
+            pass_on(
+                program,
+                environment,
+                heap,
+                constraints,
+                n,
+                again,
+                target,
+                class,
+            );
+            if !is_clash_free(program, environment, heap, constraints, n, class, v) {
                 return Classed::Refuses(12, p.len());
             }
-            Classed::Cells(list_class(target, &ends, n, &marks, class))
+            Classed::May
         }
     }
 }

@@ -1,73 +1,114 @@
 // A target's class takes a value, and then one proposal is read. A refusal leaves every word as it was.
-use super::classes::class_of;
+use super::classes::is_way_free;
+use super::classes::mark_class;
 use crate::CLASS_WORDS;
 use crate::Classed;
 use crate::Done;
+use crate::MARKS_WORDS;
 use crate::ROOM_WORDS;
 use expressions::Named;
+use expressions::paths::cell_at;
 use proposals::Asked;
 use proposals::Settled;
 use proposals::settling::settle;
-use proposals::undoing::put_back;
-use proposals::undoing::put_saved;
 use tables::Value;
 ghost use mathlib.Core.Path.{_≡_};
 ghost use Prim.Native.Nat.{_≤_, _*_};
 ghost use lib.ListN.{length};
+ghost use Rattle.words.specs.Bits.{nextMarked};
 ghost use Rattle.tables.specs.declared.Value.the-variants.{Ref};
-ghost use Rattle.tables.specs.Cells.{cells};
+ghost use Rattle.tables.specs.Cells.{cells, putPair};
 ghost use Rattle.tables.specs.Records.{recordCount, withRecord};
 ghost use Rattle.rules.specs.Identities.{putAll};
 ghost use Rattle.rules.specs.Statements.{valuePhase};
-ghost use Rattle.phases.specs.Sizes.{classCells};
+ghost use Rattle.phases.specs.Sizes.{marksWords, classCells};
 ghost use Rattle.phases.specs.Told.{tables, Does};
-ghost use Rattle.phases.specs.Taking.{cellsIn, Gives};
+ghost use Rattle.phases.specs.Taking.{cellsOf, heldAgain, Gives};
 ghost use Rattle.phases.specs.Classing.{gives, givesNew};
 
-// The n cells of a class take the value; what was there is laid by.
-fn put_class(
-    environment: &mut [i32],
-    heap: &mut [i32],
-    class: &[i32],
-    n: usize,
-    v: Value,
-    saved: &mut [i32],
-)
-    requires { ⌜ 2 * n ≤ length (now saved) ⌝ }
-    ensures { λ _. ⌜ Gives (cells (now (environment .entry)) (now (heap .entry))) (cells (now (environment .exit)) (now (heap .exit))) (now (class .entry)) (now (saved .exit)) n v ⌝ }
+// The first marked cell from l on; no location where none is.
+fn next_marked(class: &[u64], l: usize) -> usize
+    requires { ⌜ length (now class) ≡ marksWords ⌝ }
+    ensures { λ r. ⌜ r ≡ nextMarked (now (class .entry)) l ⌝ }
+{
+    let mut i = l / 64;
+    if class.len() <= i {
+        return l;
+    }
+    let rest = class[i] >> (l % 64);
+    if rest != 0 {
+        return l + u64::trailing_zeros(rest) as usize;
+    }
+    i += 1;
+    while i < class.len() {
+        let word = class[i];
+        if word != 0 {
+            return 64 * i + u64::trailing_zeros(word) as usize;
+        }
+        i += 1;
+    }
+    64 * i
+}
+
+// The cell c is laid by as number i of the saved ones; nothing is stored where there are no such words.
+fn lay_by(saved: &mut [i32], i: usize, c: tables::Cell)
+    ensures { λ _. ⌜ now (saved .exit) ≡ putPair (now (saved .entry)) (2 * i) c ⌝ }
+{
+    if saved.len() <= i {
+        return;
+    }
+    words::store(saved, 2 * i, c.kind);
+    words::store(saved, 2 * i + 1, c.payload);
+}
+
+// The marked cells take the value; what was there is laid by, in their order.
+fn put_class(environment: &mut [i32], heap: &mut [i32], class: &[u64], v: Value, saved: &mut [i32])
+    requires { ⌜ length (now class) ≡ marksWords ⌝ }
+    requires { ⌜ 2 * length (cellsOf (now class)) ≤ length (now saved) ⌝ }
+    ensures { λ _. ⌜ Gives (cells (now (environment .entry)) (now (heap .entry))) (cells (now (environment .exit)) (now (heap .exit))) (now (class .entry)) (now (saved .exit)) v ⌝ }
 {
     let mut i: usize = 0;
-    while i < n {
-        put_saved(
-            environment,
-            heap,
-            words::number_at(class, 2 * i),
-            tables::cells::cell_of(v),
-            saved,
-            i,
-        );
+    let mut l = next_marked(class, 0);
+    while l < tables::LOCATIONS {
+        lay_by(saved, i, tables::cells::read_cell(environment, heap, l));
+        tables::cells::write_cell(environment, heap, l, tables::cells::cell_of(v));
         i += 1;
+        l = next_marked(class, l + 1);
     }
 }
 
-// The n cells of a class take the value, and then the value phase; the first of the class is the target.
+// The marked cells hold again what was laid by.
+fn take_back(environment: &mut [i32], heap: &mut [i32], class: &[u64], saved: &[i32])
+    requires { ⌜ length (now class) ≡ marksWords ⌝ }
+    ensures { λ _. ⌜ cells (now (environment .exit)) (now (heap .exit)) ≡ heldAgain (now (saved .entry)) (cellsOf (now (class .entry))) 0 (cells (now (environment .entry)) (now (heap .entry))) ⌝ }
+{
+    let mut i: usize = 0;
+    let mut at = next_marked(class, 0);
+    while at < tables::LOCATIONS {
+        tables::cells::write_cell(environment, heap, at, tables::cells::pair_at(saved, 2 * i));
+        i += 1;
+        at = next_marked(class, at + 1);
+    }
+}
+
+// The marked cells, the target among them, take the value, and then the value phase.
 fn move_class(
     program: &[i32],
     environment: &mut [i32],
     heap: &mut [i32],
     constraints: &[i32],
     proposals: &[i32],
-    class: &[i32],
-    n: usize,
+    class: &[u64],
     target: usize,
     v: Value,
     p: &[i32],
 ) -> Done
-    requires { ⌜ n ≤ classCells ⌝ }
-    ensures { λ r. ⌜ Does (tables (now (environment .entry)) (now (heap .entry)) (now (constraints .entry))) (tables (now (environment .exit)) (now (heap .exit)) (now (constraints .entry))) r (valuePhase (now (program .entry)) (now (constraints .entry)) (now (p .entry)) target (putAll (cells (now (environment .entry)) (now (heap .entry))) (cellsIn (now (class .entry)) n) v) (now (proposals .entry))) ⌝ }
+    requires { ⌜ length (now class) ≡ marksWords ⌝ }
+    requires { ⌜ length (cellsOf (now class)) ≤ classCells ⌝ }
+    ensures { λ r. ⌜ Does (tables (now (environment .entry)) (now (heap .entry)) (now (constraints .entry))) (tables (now (environment .exit)) (now (heap .exit)) (now (constraints .entry))) r (valuePhase (now (program .entry)) (now (constraints .entry)) (now (p .entry)) target (putAll (cells (now (environment .entry)) (now (heap .entry))) (cellsOf (now (class .entry))) v) (now (proposals .entry))) ⌝ }
 {
     let mut saved = [0i32; CLASS_WORDS];
-    put_class(environment, heap, class, n, v, &mut saved);
+    put_class(environment, heap, class, v, &mut saved);
     let asked = Asked {
         owns: false,
         aims: true,
@@ -77,7 +118,7 @@ fn move_class(
     match settle(program, environment, heap, constraints, proposals, p, asked) {
         Settled::Takes(left) => Done::Accepted(left, 1),
         Settled::Refuses(number, word) => {
-            put_back(environment, heap, class, n, &saved);
+            take_back(environment, heap, class, &saved);
             Done::Refused(number, word)
         }
     }
@@ -95,38 +136,38 @@ pub fn give(
 ) -> Done
     ensures { λ r. ⌜ Does (tables (now (environment .entry)) (now (heap .entry)) (now (constraints .entry))) (tables (now (environment .exit)) (now (heap .exit)) (now (constraints .entry))) r (gives (now (program .entry)) (now (p .entry)) (tables (now (environment .entry)) (now (heap .entry)) (now (constraints .entry))) (now (proposals .entry)) v) ⌝ }
 {
-    let mut on = [0i32; program::MOST_STEPS];
     let q = words::part_from(p, 1);
-    match expressions::paths::follow_on(environment, heap, q, &mut on) {
+    match cell_at(environment, heap, q) {
         Named::Lost(number, word) => Done::Refused(number, word),
         Named::Cell(target, _) => {
-            let m = words::number_at(q, 1);
-            let mut class = [0i32; CLASS_WORDS];
-            match class_of(
+            let mut class = [0u64; MARKS_WORDS];
+            match mark_class(
                 program,
                 environment,
                 heap,
                 constraints,
-                &on,
-                m,
                 target,
                 v,
                 &mut class,
                 p,
             ) {
                 Classed::Refuses(a, w) => Done::Refused(a, w),
-                Classed::Cells(n) => move_class(
-                    program,
-                    environment,
-                    heap,
-                    constraints,
-                    proposals,
-                    &class,
-                    n,
-                    target,
-                    v,
-                    p,
-                ),
+                Classed::May => {
+                    if !is_way_free(environment, heap, q, &class, v) {
+                        return Done::Refused(12, p.len());
+                    }
+                    move_class(
+                        program,
+                        environment,
+                        heap,
+                        constraints,
+                        proposals,
+                        &class,
+                        target,
+                        v,
+                        p,
+                    )
+                }
             }
         }
     }
@@ -139,15 +180,15 @@ fn move_new(
     heap: &mut [i32],
     constraints: &[i32],
     proposals: &[i32],
-    class: &[i32],
-    count: usize,
+    class: &[u64],
     x: usize,
     fields: &[i32],
     n: usize,
     p: &[i32],
 ) -> Done
-    requires { ⌜ count ≤ classCells ⌝ }
-    ensures { λ r. ⌜ Does (tables (now (environment .entry)) (now (heap .entry)) (now (constraints .entry))) (tables (now (environment .exit)) (now (heap .exit)) (now (constraints .entry))) r (valuePhase (now (program .entry)) (now (constraints .entry)) (now (p .entry)) x (putAll (cells (now (environment .entry)) (withRecord (now (heap .entry)) (now (fields .entry)) n)) (cellsIn (now (class .entry)) count) (Ref (recordCount (now (heap .entry))))) (now (proposals .entry))) ⌝ }
+    requires { ⌜ length (now class) ≡ marksWords ⌝ }
+    requires { ⌜ length (cellsOf (now class)) ≤ classCells ⌝ }
+    ensures { λ r. ⌜ Does (tables (now (environment .entry)) (now (heap .entry)) (now (constraints .entry))) (tables (now (environment .exit)) (now (heap .exit)) (now (constraints .entry))) r (valuePhase (now (program .entry)) (now (constraints .entry)) (now (p .entry)) x (putAll (cells (now (environment .entry)) (withRecord (now (heap .entry)) (now (fields .entry)) n)) (cellsOf (now (class .entry))) (Ref (recordCount (now (heap .entry))))) (now (proposals .entry))) ⌝ }
 {
     let v = Value::Ref(tables::records::record_count(heap));
     let mut room = [0i32; ROOM_WORDS];
@@ -160,7 +201,6 @@ fn move_new(
         constraints,
         proposals,
         class,
-        count,
         x,
         v,
         p,
@@ -194,29 +234,25 @@ pub fn give_new(
     if tables::RECORDS <= r {
         return Done::Refused(10, p.len());
     }
-    let on = [0i32; 1];
-    let mut class = [0i32; CLASS_WORDS];
-    match class_of(
+    let mut class = [0u64; MARKS_WORDS];
+    match mark_class(
         program,
         environment,
         heap,
         constraints,
-        &on,
-        0,
         x,
         Value::Ref(r),
         &mut class,
         p,
     ) {
         Classed::Refuses(a, w) => Done::Refused(a, w),
-        Classed::Cells(count) => move_new(
+        Classed::May => move_new(
             program,
             environment,
             heap,
             constraints,
             proposals,
             &class,
-            count,
             x,
             fields,
             n,

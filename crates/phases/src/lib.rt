@@ -2,34 +2,36 @@
 pub mod classes; // classes.rt: the ties of kept identities, and the class of a target
 pub mod giving; // giving.rt: a target's class takes a value, and then one proposal is read
 
-// Two words for each tie: its ends.
-pub const ENDS_WORDS: usize = 2 * tables::IDENTITY_POSITIONS;
+// A mark of one bit for each location.
+pub const MARKS_WORDS: usize = tables::LOCATIONS / 64;
 
-// The prefix cells of the target, and of both sides of each tie.
-pub const FROZEN_WORDS: usize = program::MOST_STEPS
-    + 2 * program::MOST_STEPS * tables::IDENTITY_POSITIONS;
-
-// Two words for each cell of a class: the target, and both ends of each tie.
-pub const CLASS_WORDS: usize = 2 + 4 * tables::IDENTITY_POSITIONS;
+// Two words for each cell of a class: the target, and one cell more for each tie.
+pub const CLASS_WORDS: usize = 2 + 2 * tables::IDENTITY_POSITIONS;
 
 // What a record more may change: its own words, and the count.
 pub const ROOM_WORDS: usize = 1 + tables::RECORD_WORDS;
 
-// One side of an identity: how many words its prefix cells and those before them fill, and the words left after it; or a refusal's number and word.
-pub enum Side {
-    At(usize, usize),
-    Lost(usize, usize),
-}
-
-// The prefix cells of kept identities fill so many words; or a refusal's number and word.
+// The two cells that an identity names; or a refusal's number and word.
 pub enum Tied {
-    Upto(usize),
+    Ends(usize, usize),
     Lost(usize, usize),
 }
 
-// A class of so many cells that may take the value; or a refusal's number and word.
+// A tie that is walked: whether a mark is new, and whether it stays apart, with no end marked.
+pub struct Grown {
+    pub new: bool,
+    pub apart: bool,
+}
+
+// All ties are walked: whether one names the target, and whether another pass is due; or a refusal's number and word.
+pub enum Passed {
+    Over(bool, bool),
+    Lost(usize, usize),
+}
+
+// The class is marked and may take the value; or a refusal's number and word.
 pub enum Classed {
-    Cells(usize),
+    May,
     Refuses(usize, usize),
 }
 

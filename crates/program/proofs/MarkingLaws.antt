@@ -2,16 +2,17 @@
 use mathlib.Core.Path.{_≡_, refl, sym, ap, _∙_}
 use mathlib.Core.Bool.{Bool, true, false, _&&_, _||_}
 use mathlib.Core.List.{List}
-use Prim.Native.Nat.{ℕ, zero, suc, _+_, _-_, _≤_, _<_}
+use Prim.Native.Nat.{ℕ, zero, suc, _+_, _-_, _*_, _≤_, _<_}
 use native.Mathlib.Omega.{arith}
 use native.Mathlib.Decide.{ℕ-discrete}
-use borrow.Author.Tests.{eqb-true}
+use borrow.Author.Tests.{eqb-true, eq-eqb, ne-eqb}
 use lib.Dec.{eqb, leb}
 use lib.IntN.{ℤ}
-use lib.ListN.{length, getD, set, drop, replicate, length-set, length-replicate, getD-replicate}
-use lib.Seq.{getD-set-same, getD-set-other}
+use lib.ListN.{length, drop, replicate, length-replicate}
 use Rattle.words.specs.Words.{numberAt, lastOf}
+use Rattle.words.specs.Bits.{marked, withMark}
 use Rattle.words.proofs.Laws.{number-drop}
+use Rattle.words.proofs.BitLaws.{mark-length, mark-is, none-marked}
 use Rattle.tables.specs.declared.Sort.{Sort}
 use Rattle.tables.proofs.SearchLaws.{cases}
 use Rattle.program.specs.Forms.{Verb, skip, assign, new, always, once, alwaysSame, onceSame, branch, loop, noVerb, verbOf}
@@ -52,20 +53,20 @@ module _ {q : List ℤ} {total : ℕ} (p : List ℤ) where
   last-short k e h = rw e (omega (arith, last-part k p .short, h))
 
 -- nothing more is marked
-pub marked-none : {total : ℕ} {marks : List Bool} → Marked total (λ left. Nowhere) marks marks
-marked-none {marks = marks} = record { at = λ i a b. sym (or-none (getD marks i false)) }
+pub marked-none : {total : ℕ} {marks : List ℕ} → Marked total (λ left. Nowhere) marks marks
+marked-none {marks = marks} = record { at = λ i a b. sym (or-none (marked marks i)) }
 
 -- marks after marks
-pub marked-both : {total : ℕ} {s t : ℕ → Spot} {before middle marks : List Bool}
+pub marked-both : {total : ℕ} {s t : ℕ → Spot} {before middle marks : List ℕ}
     → Marked total s before middle → length middle ≡ length before → Marked total t middle marks → Marked total (λ left. orElse (s left) (t left)) before marks
 marked-both {total} {s} {t} {before} m e n = record {
   at = λ i a b.
       n .at i a (rw e b) ∙ rw (m .at i a b, found-either (s (total - i)) (t (total - i)))
-      (or-both (getD before i false) (found (s (total - i))) (found (t (total - i))));
+      (or-both (marked before i) (found (s (total - i))) (found (t (total - i))));
 }
 
 -- the same statements, found another way
-pub marked-same : {total : ℕ} {s t : ℕ → Spot} {before marks : List Bool} → ((left : ℕ) → s left ≡ t left) → Marked total s before marks → Marked total t before marks
+pub marked-same : {total : ℕ} {s t : ℕ → Spot} {before marks : List ℕ} → ((left : ℕ) → s left ≡ t left) → Marked total s before marks → Marked total t before marks
 marked-same {total} {s} {t} f m = record { at = λ i a b. rw (← f (total - i)) (m .at i a b) }
 
 -- ---- the statement at p
@@ -74,46 +75,46 @@ module _ (d total : ℕ) (p : List ℤ) (short : length p ≤ total) where
   abbrev stated : ℕ → Spot
   stated left = spotStatement (λ q. spotBlock d left q) d left p
 
-  module _ (before : List Bool) {first : List Bool} (e : first ≡ set before (total - length p) true) where
-    self : (i : ℕ) → i < total → i < length before → length p ≡ total - i → getD first i false ≡ true
-    self i a b q = let z : i ≡ total - length p = omega arith in rw (e, z) (getD-set-same before (total - length p) true false (omega arith))
+  module _ (before : List ℕ) {first : List ℕ} (e : first ≡ withMark before (total - length p)) where
+    self : (i : ℕ) → i < total → i < 64 * length before → length p ≡ total - i → marked first i ≡ true
+    self i a b q = rw e (mark-is before (total - length p) i b ∙ rw (eq-eqb i (total - length p) (omega arith)))
 
-    other : (i : ℕ) → i < total → (length p ≡ total - i → ⊥) → getD first i false ≡ getD before i false
-    other i a ne = rw e (getD-set-other before (total - length p) i true false (λ q. ne (omega arith)))
+    other : (i : ℕ) → i < total → i < 64 * length before → (length p ≡ total - i → ⊥) → marked first i ≡ marked before i
+    other i a b ne = rw e (mark-is before (total - length p) i b ∙ rw (ne-eqb i (total - length p) (λ q. ne (omega arith))))
 
     -- the statement's own word is marked, then those inside it
-    inside : {inner : ℕ → Spot} {marks : List Bool} → ((left : ℕ) → (length p ≡ left → ⊥) → inner left ≡ stated left) → Marked total inner first marks → Marked total stated before marks
+    inside : {inner : ℕ → Spot} {marks : List ℕ} → ((left : ℕ) → (length p ≡ left → ⊥) → inner left ≡ stated left) → Marked total inner first marks → Marked total stated before marks
     inside {inner} {marks} f m = record { at = λ i a b. go i a b (ℕ-discrete (length p) (total - i)) }
       where
         long : length first ≡ length before
-        long = ap length e ∙ length-set before (total - length p) true
+        long = ap length e ∙ mark-length before (total - length p)
 
-        go : (i : ℕ) → i < total → i < length before → Dec (length p ≡ total - i) → getD marks i false ≡ (getD before i false || found (stated (total - i)))
-        go i a b (yes q) = m .at i a (rw long b) ∙ rw (self i a b q, ← spot-here d (total - i) p q) (sym (or-marked (getD before i false)))
-        go i a b (no q) = m .at i a (rw long b) ∙ rw (other i a q, f (total - i) q)
+        go : (i : ℕ) → i < total → i < 64 * length before → Dec (length p ≡ total - i) → marked marks i ≡ (marked before i || found (stated (total - i)))
+        go i a b (yes q) = m .at i a (rw long b) ∙ rw (self i a b q, ← spot-here d (total - i) p q) (sym (or-marked (marked before i)))
+        go i a b (no q) = m .at i a (rw long b) ∙ rw (other i a b q, f (total - i) q)
 
     pub mark-none : (numberAt p 0 ≡ 7 → ⊥) → (numberAt p 0 ≡ 8 → ⊥) → Marked total stated before first
     mark-none a b = inside (λ left ne. spot-none d left p ne a b) marked-none
 
-    pub mark-loop : {marks : List Bool} → numberAt p 0 ≡ 8 → Marked total (λ left. spotBlock d left (after (readExpression 16 false (drop 1 p)))) first marks → Marked total stated before marks
+    pub mark-loop : {marks : List ℕ} → numberAt p 0 ≡ 8 → Marked total (λ left. spotBlock d left (after (readExpression 16 false (drop 1 p)))) first marks → Marked total stated before marks
     mark-loop a m = inside (λ left ne. spot-loop d left p ne a) m
 
-    pub mark-branch : {middle marks : List Bool} → numberAt p 0 ≡ 7
+    pub mark-branch : {middle marks : List ℕ} → numberAt p 0 ≡ 7
         → Marked total (λ left. spotBlock d left (after (readExpression 16 false (drop 1 p)))) first middle → length middle ≡ length first
         → Marked total (λ left. spotBlock d left (after (readBlock d (after (readExpression 16 false (drop 1 p)))))) middle marks → Marked total stated before marks
     mark-branch a m l n = inside (λ left ne. spot-branch d left p ne a) (marked-both m l n)
 
 -- ---- the loop over the statements of a block
 
-pub record Marking (d total n : ℕ) (p : List ℤ) (i here : ℕ) (before marks : List Bool) : Type 0 where
+pub record Marking (d total n : ℕ) (p : List ℤ) (i here : ℕ) (before marks : List ℕ) : Type 0 where
   pub inside : i ≤ n
   pub short : here ≤ length p
   pub kept : length marks ≡ length before
-  pub rest : (k : ℕ) → k < total → k < length before
-      → (getD marks k false || found (spotStatements (λ q. spotBlock (d - 1) (total - k) q) (d - 1) (total - k) (n - i) (lastOf here p)))
-      ≡ (getD before k false || found (spotBlock d (total - k) p))
+  pub rest : (k : ℕ) → k < total → k < 64 * length before
+      → (marked marks k || found (spotStatements (λ q. spotBlock (d - 1) (total - k) q) (d - 1) (total - k) (n - i) (lastOf here p)))
+      ≡ (marked before k || found (spotBlock d (total - k) p))
 
-module _ (d total : ℕ) (p : List ℤ) {marks : List Bool} where
+module _ (d total : ℕ) (p : List ℤ) {marks : List ℕ} where
   pub mark-deep : d ≡ 0 → Marked total (λ left. spotBlock d left p) marks marks
   mark-deep e = marked-same (λ left. spot-deep d left p e) marked-none
 
@@ -125,7 +126,7 @@ module _ (d total : ℕ) (p : List ℤ) {marks : List Bool} where
       let z : numberAt p 0 - 0 ≡ numberAt p 0 = omega arith in
       record { inside = omega arith; short = omega arith; kept = refl; rest = λ k a b. rw (z, last-but-one p, opened d (total - k) p d ne h) }
 
-module _ {d total n i here : ℕ} {p q : List ℤ} {before marks next : List Bool} (inv : Marking d total n p i here before marks) (more : i < n) (is : q ≡ lastOf here p) where
+module _ {d total n i here : ℕ} {p q : List ℤ} {before marks next : List ℕ} (inv : Marking d total n p i here before marks) (more : i < n) (is : q ≡ lastOf here p) where
   pub marking-goes-on : {r : Piece} → Marked total (λ left. spotStatement (λ r. spotBlock (d - 1) left r) (d - 1) left q) marks next → length next ≡ length marks → r ≡ told (readStatement (d - 1) q)
       → Marking d total n p (i + 1) (r .left) before next
   unfolding spotStatements
@@ -141,12 +142,12 @@ module _ {d total n i here : ℕ} {p q : List ℤ} {before marks next : List Boo
         rest = λ k b e.
             let one = spotStatement (λ r. spotBlock (d - 1) (total - k) r) (d - 1) (total - k) q in
             let more = spotStatements (λ r. spotBlock (d - 1) (total - k) r) (d - 1) (total - k) (n - (i + 1)) (after (readStatement (d - 1) q)) in
-            rw (a, m .at k b (rw (inv .kept) e)) (or-both (getD marks k false) (found one) (found more) ∙ rw (← found-either one more) (rw (z, ← is) at (inv .rest k b e)));
+            rw (a, m .at k b (rw (inv .kept) e)) (or-both (marked marks k) (found one) (found more) ∙ rw (← found-either one more) (rw (z, ← is) at (inv .rest k b e)));
       }
 
-pub marking-ends : {d total n i here : ℕ} {p : List ℤ} {before marks : List Bool} → Marking d total n p i here before marks → n ≤ i → Marked total (λ left. spotBlock d left p) before marks
+pub marking-ends : {d total n i here : ℕ} {p : List ℤ} {before marks : List ℕ} → Marking d total n p i here before marks → n ≤ i → Marked total (λ left. spotBlock d left p) before marks
 unfolding spotStatements
-marking-ends {n = n} {i = i} {marks = marks} inv h = let z : n - i ≡ 0 = omega arith in record { at = λ k a b. sym (or-none (getD marks k false)) ∙ (rw z at (inv .rest k a b)) }
+marking-ends {n = n} {i = i} {marks = marks} inv h = let z : n - i ≡ 0 = omega arith in record { at = λ k a b. sym (or-none (marked marks k)) ∙ (rw z at (inv .rest k a b)) }
 
 -- ---- the verb of a statement is the number of its word
 
@@ -215,7 +216,7 @@ module _ (p : List ℤ) (s : Sort) (at : ℕ) where
   unfolding isAlways
   always-past h = rw (← statement-past p at h)
 
-  pub always-marked : {marks : List Bool} → MarksOf p marks → at < length p → isAlways p s at ≡ (getD marks at false && eqb (numberAt p at) (alwaysOf s))
+  pub always-marked : {marks : List ℕ} → MarksOf p marks → at < length p → isAlways p s at ≡ (marked marks at && eqb (numberAt p at) (alwaysOf s))
   unfolding isAlways
   always-marked m h =
       let z : length p - (length p - at) ≡ at = omega arith in
@@ -224,5 +225,5 @@ module _ (p : List ℤ) (s : Sort) (at : ℕ) where
       rw (← statement-in p at h, m .at at h, ← w) (verb-is _ (alwaysOf s) (spotBlock 8 (length p - at) p) (block-verb p (length p - at) 8 p (part-refl p)))
 
 -- the marks that a program's block leaves on words without marks
-pub marks-of : {p : List ℤ} {n : ℕ} {marks : List Bool} → length p ≤ n → Marked (length p) (λ left. spotBlock 8 left p) (replicate n false) marks → MarksOf p marks
-marks-of {p} {n} h m = record { at = λ i a. m .at i a (rw (length-replicate n false) (omega arith)) ∙ rw (getD-replicate n i false false (omega arith)) }
+pub marks-of : {p : List ℤ} (n : ℕ) {marks : List ℕ} → length p ≤ 64 * n → Marked (length p) (λ left. spotBlock 8 left p) (replicate n 0) marks → MarksOf p marks
+marks-of {p} n h m = record { at = λ i a. m .at i a (rw length-replicate (omega arith)) ∙ rw (none-marked n i) }

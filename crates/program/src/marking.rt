@@ -1,4 +1,4 @@
-// Marks on the words at which statements begin: the program is read once, however many positions are kept.
+// Marks on the words at which statements begin, a bit for each word: the program is read once, however many positions are kept.
 use super::blocks::read_block;
 use super::blocks::read_statement;
 use super::places::always_of;
@@ -8,29 +8,19 @@ use crate::EXPRESSION_DEPTH;
 use crate::MOST_STATEMENTS;
 use crate::MOST_WORDS;
 use tables::Sort;
+use words::bits::is_marked;
+use words::bits::mark;
 ghost use mathlib.Core.Path.{_≡_};
-ghost use mathlib.Core.Bool.{true, false};
 ghost use Prim.Native.Nat.{_≤_};
-ghost use lib.ListN.{length, getD, set};
+ghost use lib.ListN.{length};
 ghost use Rattle.program.specs.Where.{spotBlock, spotStatement, isAlways, positionsStand};
 ghost use Rattle.program.specs.Marking.{Marked, MarksOf, bothStand};
 
-fn mark(marks: &mut [bool], at: usize)
-    ensures { λ _. ⌜ now (marks .exit) ≡ set (now (marks .entry)) at true ⌝ }
-{
-    if at < marks.len() {
-        marks[at] = true;
-    }
-}
-
-fn is_marked(marks: &[bool], at: usize) -> bool
-    ensures { λ r. ⌜ r ≡ getD (now (marks .entry)) at false ⌝ }
-{
-    if at < marks.len() { marks[at] } else { false }
-}
+// A bit for each word of a program.
+const MARKS_WORDS: usize = MOST_WORDS / 64;
 
 // Marks the word of the statement at p, and of each inside it; `total` is the program's length.
-fn mark_statement(p: &[i32], d: usize, total: usize, marks: &mut [bool])
+fn mark_statement(p: &[i32], d: usize, total: usize, marks: &mut [u64])
     requires { ⌜ length (now p) ≤ total ⌝ }
     ensures { λ _. ⌜ Marked total (λ left. spotStatement (λ q. spotBlock d left q) d left (now (p .entry))) (now (marks .entry)) (now (marks .exit)) ⌝ }
 {
@@ -53,7 +43,7 @@ fn mark_statement(p: &[i32], d: usize, total: usize, marks: &mut [bool])
 }
 
 // Marks the words of the statements of the block at p, and of those inside them.
-fn mark_block(p: &[i32], d: usize, total: usize, marks: &mut [bool])
+fn mark_block(p: &[i32], d: usize, total: usize, marks: &mut [u64])
     requires { ⌜ length (now p) ≤ total ⌝ }
     ensures { λ _. ⌜ Marked total (λ left. spotBlock d left (now (p .entry))) (now (marks .entry)) (now (marks .exit)) ⌝ }
 {
@@ -76,7 +66,7 @@ fn mark_block(p: &[i32], d: usize, total: usize, marks: &mut [bool])
 }
 
 // Where the marks are the program's.
-fn is_always_marked(program: &[i32], s: Sort, at: usize, marks: &[bool]) -> bool
+fn is_always_marked(program: &[i32], s: Sort, at: usize, marks: &[u64]) -> bool
     requires { ⌜ MarksOf (now program) (now marks) ⌝ }
     ensures { λ r. ⌜ r ≡ isAlways (now (program .entry)) s at ⌝ }
 {
@@ -90,7 +80,7 @@ fn is_always_marked(program: &[i32], s: Sort, at: usize, marks: &[bool]) -> bool
 }
 
 // Every kept position of the sort is marked and has the sort's verb.
-fn positions_marked(program: &[i32], constraints: &[i32], s: Sort, marks: &[bool]) -> bool
+fn positions_marked(program: &[i32], constraints: &[i32], s: Sort, marks: &[u64]) -> bool
     requires { ⌜ MarksOf (now program) (now marks) ⌝ }
     ensures { λ r. ⌜ r ≡ positionsStand (now (program .entry)) (now (constraints .entry)) s ⌝ }
 {
@@ -111,7 +101,7 @@ pub(crate) fn marks_stand(program: &[i32], constraints: &[i32]) -> bool
     requires { ⌜ length (now program) ≤ 4096 ⌝ }
     ensures { λ r. ⌜ r ≡ bothStand (now (program .entry)) (now (constraints .entry)) ⌝ }
 {
-    let mut marks = [false; MOST_WORDS];
+    let mut marks = [0u64; MARKS_WORDS];
     mark_block(program, BLOCK_DEPTH, program.len(), &mut marks);
     if !positions_marked(program, constraints, Sort::Values, &marks) {
         return false;

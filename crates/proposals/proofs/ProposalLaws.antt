@@ -9,13 +9,13 @@ use native.Mathlib.Numerals.{add-one}
 use borrow.Author.Tests.{eq-eqb, ne-eqb}
 use lib.Dec.{eqb}
 use lib.IntN.{ℤ, pos}
-use lib.ListN.{length, drop, length-drop}
+use lib.ListN.{length, drop, set, length-drop, length-set}
 use Rattle.words.specs.Words.{wordAt, numberOf, numberAt, eqZ}
 use Rattle.words.specs.Answer.{Answer, got, stop, _>>=_, _>>_, want}
 use Rattle.tables.specs.declared.Cell.{Cell}
 use Rattle.tables.specs.Values.{cell}
 use Rattle.tables.specs.Cells.{Cells, cellAt}
-use Rattle.tables.proofs.CellLaws.{put-lengths, pair-length}
+use Rattle.tables.proofs.CellLaws.{put-lengths}
 use Rattle.rules.specs.State.{Res, refused, listed}
 use Rattle.rules.specs.Evaluation.{at}
 use Rattle.rules.specs.Constraints.{Part, counted, allHold, requiredHold}
@@ -31,7 +31,7 @@ use Rattle.proposals.specs.declared.Formed.the-variants.{Pairs, Not}
 use Rattle.proposals.specs.declared.Settled.{Settled}
 use Rattle.proposals.specs.declared.Settled.the-variants.{Takes, Refuses}
 use Rattle.proposals.specs.Told.{entryAt, entriesIn, formedOf, aimOf, tried, judged, Settles}
-use Rattle.proposals.specs.Undoing.{undone, Lays, Applies}
+use Rattle.proposals.specs.Undoing.{undone, Swaps, Applies}
 use Rattle.proposals.proofs.UndoLaws.{undone-none, laid-back}
 use Rattle.proposals.proofs.FormLaws.{unlike, proposed}
 
@@ -118,21 +118,21 @@ applying-starts {S = S} {pairs = pairs} {saved = saved} {n = n} =
     record { inside = omega arith; environment = refl; heap = refl; room = refl; rest = rw z; back = undone-none pairs saved S }
 
 module _ {S Z : Cells} {pairs before saved : List ℤ} {n i : ℕ} (inv : Applying S Z pairs before saved n i) where
-  pub applying-goes-on : {Y : Cells} {l : ℕ} {old c : Cell} {after : List ℤ}
-      → i < n → 2 * n ≤ length before → l ≡ numberAt pairs (2 * i) → old ≡ cellAt Z l → c ≡ cell (old .kind) (wordAt pairs (2 * i + 1)) → Lays Z Y l c saved after i
+  pub applying-goes-on : {Y : Cells} {l : ℕ} {new old : ℤ} {after : List ℤ}
+      → i < n → n ≤ length before → l ≡ numberAt pairs (2 * i) → new ≡ wordAt pairs (2 * i + 1) → Swaps Z Y l new old → after ≡ set saved i old
       → Applying S Y pairs before after n (i + 1)
   unfolding entryAt
-  applying-goes-on {Y = Y} {l = l} {c = c} more room e is new y =
+  applying-goes-on {Y = Y} {l = l} {new = new} {old = old} more room e w y s =
       let z : n - i ≡ suc (n - (i + 1)) = omega arith in
       let q : suc i ≡ i + 1 = sym (add-one i) in
-      let k : putEntry Z (entryAt pairs i) ≡ Y = put-entry-is Z (entryAt pairs i) ∙ (rw (← e, ← is, ← new) (sym (y .puts))) in
+      let k : putEntry Z (entryAt pairs i) ≡ Y = put-entry-is Z (entryAt pairs i) ∙ (rw (← e, ← w) (sym (y .puts))) in
       record {
         inside = omega arith;
-        environment = rw (y .puts) (put-lengths Z l c .0 ∙ inv .environment);
-        heap = rw (y .puts) (put-lengths Z l c .1 ∙ inv .heap);
-        room = rw (y .lays) (pair-length saved (2 * i) (cellAt Z l) ∙ inv .room);
+        environment = rw (y .puts) (put-lengths Z l (cell (cellAt Z l .kind) new) .0 ∙ inv .environment);
+        heap = rw (y .puts) (put-lengths Z l (cell (cellAt Z l .kind) new) .1 ∙ inv .heap);
+        room = rw s (length-set saved i old ∙ inv .room);
         rest = rw (z, listed-more (entryAt pairs) i (n - (i + 1)), applied-more Z (entryAt pairs i) (listed (entryAt pairs) (suc i) (n - (i + 1))), k, q) at (inv .rest);
-        back = laid-back pairs y e (omega (arith, inv .room)) ∙ inv .back;
+        back = laid-back pairs saved y s e (omega (arith, inv .room)) ∙ inv .back;
       }
 
   pub applying-ends : n ≤ i → Applies S Z pairs saved n

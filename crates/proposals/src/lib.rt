@@ -1,14 +1,12 @@
-// Proposals: cells that are put and can be put back, and the one judge. The tables are changed in place, and a refusal leaves every word as it was.
-pub mod undoing; // undoing.rt: cells put in a row, and put back
+// Proposals: payloads that are put and can be put back, and the one judge. The tables are changed in place, and a refusal leaves every word as it was.
+mod undoing; // undoing.rt: a payload put in a cell, and payloads put back
 pub mod settling; // settling.rt: the one judge of a proposal
 
-// The words of a saved cell for each location.
-pub const SAVED_WORDS: usize = 2 * tables::LOCATIONS;
+// The word of a saved payload for each location.
+pub const SAVED_WORDS: usize = tables::LOCATIONS;
 
-// So many pairs are few, and these are the words of their saved cells.
+// So many pairs are few; a word for each saves their payloads.
 pub const FEW_PAIRS: usize = 8;
-
-pub const FEW_WORDS: usize = 2 * FEW_PAIRS;
 
 // A proposal's form: n pairs, or a refusal's number.
 pub enum Formed {

@@ -1,9 +1,8 @@
 // The one judge of a proposal: 6, 16, 17, 18, 19.
 use super::undoing::put_back;
-use super::undoing::put_saved;
+use super::undoing::put_payload;
 use crate::Asked;
 use crate::FEW_PAIRS;
-use crate::FEW_WORDS;
 use crate::Formed;
 use crate::SAVED_WORDS;
 use crate::Settled;
@@ -106,21 +105,17 @@ fn entries_fit(
     true
 }
 
-// The cells of n pairs take their payloads; what was there is laid by.
+// The cells of n pairs take their payloads and keep their kinds; the payloads that were there are laid by.
 fn apply(environment: &mut [i32], heap: &mut [i32], pairs: &[i32], n: usize, saved: &mut [i32])
     requires { ⌜ n ≤ locations ⌝ }
-    requires { ⌜ 2 * n ≤ length (now saved) ⌝ }
+    requires { ⌜ n ≤ length (now saved) ⌝ }
     ensures { λ _. ⌜ Applies (cells (now (environment .entry)) (now (heap .entry))) (cells (now (environment .exit)) (now (heap .exit))) (now (pairs .entry)) (now (saved .exit)) n ⌝ }
 {
     let mut i: usize = 0;
     while i < n {
         let l = words::number_at(pairs, 2 * i);
-        let old = tables::cells::read_cell(environment, heap, l);
-        let c = tables::Cell {
-            kind: old.kind,
-            payload: words::word_at(pairs, 2 * i + 1),
-        };
-        put_saved(environment, heap, l, c, saved, i);
+        let old = put_payload(environment, heap, l, words::word_at(pairs, 2 * i + 1));
+        words::store(saved, i, old);
         i += 1;
     }
 }
@@ -138,7 +133,7 @@ fn try_saving(
     saved: &mut [i32],
 ) -> Settled
     requires { ⌜ n ≤ locations ⌝ }
-    requires { ⌜ 2 * n ≤ length (now saved) ⌝ }
+    requires { ⌜ n ≤ length (now saved) ⌝ }
     ensures { λ r. ⌜ Settles (cells (now (environment .entry)) (now (heap .entry))) (cells (now (environment .exit)) (now (heap .exit))) r (tried (now (program .entry)) (now (constraints .entry)) (ownOf owns (drop 1 (now (p .entry)))) (now (p .entry)) (cells (now (environment .entry)) (now (heap .entry))) (entriesIn (drop 1 (now (proposals .entry))) n) (drop (1 + 2 * n) (now (proposals .entry)))) ⌝ }
 {
     let pairs = words::part_from(proposals, 1);
@@ -165,7 +160,7 @@ fn try_saving(
     }
 }
 
-// As try_saving; the cells of a few pairs are laid by in a few words.
+// As try_saving; the payloads of a few pairs are laid by in a few words.
 fn try_pairs(
     program: &[i32],
     environment: &mut [i32],
@@ -180,7 +175,7 @@ fn try_pairs(
     ensures { λ r. ⌜ Settles (cells (now (environment .entry)) (now (heap .entry))) (cells (now (environment .exit)) (now (heap .exit))) r (tried (now (program .entry)) (now (constraints .entry)) (ownOf owns (drop 1 (now (p .entry)))) (now (p .entry)) (cells (now (environment .entry)) (now (heap .entry))) (entriesIn (drop 1 (now (proposals .entry))) n) (drop (1 + 2 * n) (now (proposals .entry)))) ⌝ }
 {
     if n <= FEW_PAIRS {
-        let mut few = [0i32; FEW_WORDS];
+        let mut few = [0i32; FEW_PAIRS];
         return try_saving(
             program,
             environment,

@@ -1,6 +1,6 @@
 -- Kept identities and the identity phase, clause by clause: the laws by which code knows them. Assumes nothing.
 use mathlib.Core.Path.{_≡_, refl}
-use mathlib.Core.Bool.{Bool, true, false, not, cond, _&&_, _||_}
+use mathlib.Core.Bool.{Bool, true, false, not, _||_}
 use mathlib.Core.List.{List, [], _∷_, _++_}
 use Prim.Native.Nat.{ℕ, zero, suc, _+_}
 use lib.Dec.{eqb}
@@ -12,10 +12,10 @@ use Rattle.tables.specs.declared.Value.the-variants.{Nil, Bool as Truth, Int, R
 use Rattle.tables.specs.declared.Sort.the-variants.{Identities}
 use Rattle.tables.specs.Values.{cellOf}
 use Rattle.tables.specs.Cells.{Cells, putCell}
-use Rattle.rules.specs.State.{refused, slotAt, positions}
+use Rattle.rules.specs.State.{refused, positions}
 use Rattle.rules.specs.Paths.{Way, wayAt, valueAt}
 use Rattle.rules.specs.Evaluation.{same}
-use Rattle.rules.specs.Identities.{isNode, sameNow, Tie, tieAt, tiesOf, ties, member, frozenBy, grown, grownBy, classOf, names, is, clashFree, putAll, identityPhase}
+use Rattle.rules.specs.Identities.{isNode, sameNow, Tie, tieAt, tiesOf, ties, member, frozenBy, classOf, names, clashFree, putAll, identityPhase}
 
 pub node-nil : isNode Nil ≡ true
 unfolding isNode
@@ -78,45 +78,7 @@ pub member-more : (x y : ℕ) (ys : List ℕ) → member x (y ∷ ys) ≡ (eqb x
 unfolding member
 member-more x y ys = refl
 
-pub grown-none : (c : List ℕ) → grown [] c ≡ c
-unfolding grown
-grown-none c = refl
-
-pub grown-more : (t : Tie) (ts : List Tie) (c : List ℕ)
-    → grown (t ∷ ts) c ≡ cond (member (t .one) c || member (t .two) c) (grown ts (t .one ∷ t .two ∷ c)) (grown ts c)
-unfolding grown
-grown-more t ts c = refl
-
-pub grown-by-none : (ts : List Tie) (c : List ℕ) → grownBy [] ts c ≡ c
-unfolding grownBy
-grown-by-none ts c = refl
-
-pub grown-by-more : (t : Tie) (more ts : List Tie) (c : List ℕ) → grownBy (t ∷ more) ts c ≡ grownBy more ts (grown ts c)
-unfolding grownBy
-grown-by-more t more ts c = refl
-
-pub class-is : (ts : List Tie) (target : ℕ) → classOf ts target ≡ grownBy ts ts (target ∷ [])
-unfolding classOf
-class-is ts target = refl
-
-pub names-none : (l : ℕ) → names [] l ≡ false
-unfolding names
-names-none l = refl
-
-pub names-more : (t : Tie) (ts : List Tie) (l : ℕ) → names (t ∷ ts) l ≡ (eqb (t .one) l || eqb (t .two) l || names ts l)
-unfolding names
-names-more t ts l = refl
-
 -- ---- the phase
-
-module _ (S : Cells) (frozen : List ℕ) (v : Value) where
-  pub clash-none : clashFree S frozen v [] ≡ true
-  unfolding clashFree
-  clash-none = refl
-
-  pub clash-more : (l : ℕ) (ls : List ℕ) → clashFree S frozen v (l ∷ ls) ≡ ((not (member l frozen) || is (slotAt S l) v) && clashFree S frozen v ls)
-  unfolding clashFree
-  clash-more l ls = refl
 
 pub put-all-none : (S : Cells) (v : Value) → putAll S [] v ≡ S
 unfolding putAll

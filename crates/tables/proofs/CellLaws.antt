@@ -12,7 +12,7 @@ use lib.ListN.{length, getD, set, length-set}
 use lib.Seq.{getD-set-same, getD-set-other, set-getD, set-set, set-comm}
 use Rattle.words.specs.Words.{wordAt, numberAt, numberOf}
 use Rattle.tables.specs.Sizes.{fieldLocation, fieldWord, countWord, labelWord}
-use Rattle.tables.specs.Values.{absent}
+use Rattle.tables.specs.Values.{cell, absent}
 use Rattle.tables.specs.Cells.{Cells, cells, Sized, pairAt, putPair, locationWord, cellAt, putCell}
 use Rattle.tables.specs.Records.{recordCount, countAt, fieldCount, labelAt, fieldAt, placeWith, fieldWith}
 use Rattle.tables.specs.declared.Cell.{Cell}
@@ -66,6 +66,10 @@ module _ (s : List ℤ) (i : ℕ) where
   pub pair-other : (c : Cell) (j : ℕ) → Clear i j → pairAt (putPair s i c) j ≡ pairAt s j
   pair-other c j k =
       rw (pair-word c j (pos 0) (k .starts) (k .after), pair-word c (j + 1) (pos 0) (λ e. k .before (sym e)) (λ e. k .starts (omega arith)))
+
+  -- a pair that takes another payload keeps its kind, past the end too
+  pair-kind : (w : ℤ) → wordAt (putPair s i (cell (wordAt s i) w)) i ≡ wordAt s i
+  pair-kind w = getD-set-other (set s i (wordAt s i)) (i + 1) i w (pos 0) (λ e. omega arith) ∙ ap (λ t. wordAt t i) (set-getD s i (pos 0))
 
   pub pair-back : putPair s i (pairAt s i) ≡ s
   pair-back = rw (set-getD s i (pos 0)) (set-getD s (i + 1) (pos 0))
@@ -216,6 +220,19 @@ module _ (S : Cells) (c : Cell) where
 
 pub read-other : (S : Cells) (l k : ℕ) (c : Cell) → (k ≡ l → ⊥) → cellAt (putCell S l c) k ≡ cellAt S k
 read-other S l k c n = other-cell S c (located l) (located k) n
+
+-- a cell that takes another payload keeps its kind, in tables of every length
+pub read-kind : (S : Cells) (l : ℕ) (w : ℤ) → cellAt (putCell S l (cell (cellAt S l .kind) w)) l .kind ≡ cellAt S l .kind
+read-kind S l w = go (located l)
+  where
+    go : {k : ℕ} → Located k → cellAt (putCell S k (cell (cellAt S k .kind) w)) k .kind ≡ cellAt S k .kind
+    go {k} (a-variable a) =
+        let c = cell (wordAt (S .environment) (2 * k)) w in
+        rw (variable-cell S k a, put-variable S k c a, variable-cell (cells (putPair (S .environment) (2 * k) c) (S .heap)) k a) (pair-kind (S .environment) (2 * k) w)
+    go (a-field r f a b) =
+        let c = cell (wordAt (S .heap) (fieldWord r f)) w in
+        rw (field-cell S r f a b, put-field S r f c a b, field-cell (cells (S .environment) (putPair (S .heap) (fieldWord r f) c)) r f a b) (pair-kind (S .heap) (fieldWord r f) w)
+    go {k} (nowhere a) = rw (put-nowhere S k (cell (cellAt S k .kind) w) a)
 
 -- ---- putting twice
 

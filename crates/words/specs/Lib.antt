@@ -1,3 +1,4 @@
 pub mod Words
 pub mod Range
 pub mod Answer
+pub mod Bits

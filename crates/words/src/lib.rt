@@ -1,4 +1,6 @@
 // Tables and programs as slices of 32-bit signed words. Nothing here asks anything of its caller.
+pub mod bits; // bits.rt: a mark of one bit for each number
+
 ghost use mathlib.Core.Path.{_≡_};
 ghost use mathlib.Core.List.{[], _∷_};
 ghost use Prim.Native.Nat.{_-_};

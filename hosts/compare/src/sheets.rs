@@ -12,12 +12,16 @@ use reference::run::Answer;
 use std::io;
 
 /// From so many sheets on, each of 7, 8, 9 and 15 must have a place inside a
-/// statement so often, and one sheet in so many must compare unlike kinds, in
-/// all and for each of 8, 15 and 4.
+/// statement so often, one sheet in so many must compare unlike kinds, in all
+/// and for each of 8, 15 and 4, and one in so many must move a large class,
+/// have one taken back, and be refused by each of 12 and 13.
 const LONG_RUN: u64 = 1_000_000;
 const LEAST_PLACES: u64 = 10_000;
 const UNLIKE_ONCE_IN: u64 = 100;
 const EACH_UNLIKE_ONCE_IN: u64 = 1000;
+const MOVED_ONCE_IN: u64 = 40;
+const TAKEN_BACK_ONCE_IN: u64 = 1000;
+const EACH_REFUSED_ONCE_IN: u64 = 400;
 
 pub type Tally = dealt::Tally<Sheet>;
 
@@ -31,13 +35,18 @@ pub fn compare(seed: u64, count: u64) -> Result<Tally, Stop> {
 
 /// What came up too seldom in a long run.
 pub fn rare(counts: &Counts, sheets: u64) -> Option<&'static str> {
-    let [all, each] = [UNLIKE_ONCE_IN, EACH_UNLIKE_ONCE_IN].map(|once| sheets.div_ceil(once));
+    let once_in = |once: u64| sheets.div_ceil(once);
+    let [all, each] = [UNLIKE_ONCE_IN, EACH_UNLIKE_ONCE_IN].map(once_in);
+    let [moved, taken_back, refused] =
+        [MOVED_ONCE_IN, TAKEN_BACK_ONCE_IN, EACH_REFUSED_ONCE_IN].map(once_in);
     if sheets < LONG_RUN {
         None
     } else if !counts.places.are_met(LEAST_PLACES) {
         Some("places inside")
     } else if !counts.unlike.are_met(all, each) {
         Some("comparisons of unlike kinds")
+    } else if !counts.classes.are_met(moved, taken_back, refused) {
+        Some("large classes")
     } else {
         None
     }

@@ -2,6 +2,7 @@
 
 use compare::sheets::{call, compare, rare};
 use reference::batch::{Finish, Sheet};
+use reference::classes::Classes;
 use reference::counts::Counts;
 use reference::run::Answer;
 use std::fs;
@@ -174,6 +175,34 @@ fn wrong_lengths_are_refused() {
     refused(2, 4096, &|sheet| sheet.program = vec![-1; 100_000]);
 }
 
+/// 33 variables that hold one record are tied in a chain, whose identities are
+/// kept in this order; then a target takes a new one.
+fn chain(order: impl Iterator<Item = i32>, target: i32, proposals: usize) -> Sheet {
+    let mut program = vec![66, 2, 0, 0];
+    program.extend((1..33).flat_map(|x| [1, x, 0, 24, x - 1, 0]));
+    program.extend(order.flat_map(|x| [5, x, 0, x + 1, 0]));
+    program.extend([2, target, 0]);
+    Sheet::fresh(program, vec![0; proposals], 100)
+}
+
+/// The whole class moves, or is taken back where a proposal is missing.
+#[test]
+fn a_class_is_the_same_whatever_the_order() {
+    for factor in (1..32).step_by(2) {
+        for (target, shift) in [(0, 0), (16, 7), (32, 31)] {
+            let order = || (0..32).map(move |x| (x * factor + shift) % 32);
+            for (proposals, outcome) in [(34, 0), (33, 6)] {
+                let sheet = chain(order(), target, proposals);
+                let finish = call(&sheet);
+                assert_eq!(finish, sheet.answer());
+                assert_eq!(finish.answer.outcome, outcome);
+                let record = i32::from(outcome == 0);
+                assert_eq!(finish.environment[..66], [[4, record]; 33].concat());
+            }
+        }
+    }
+}
+
 #[test]
 fn a_short_run_is_the_same() {
     let tally = compare(3, 4000).expect("no difference");
@@ -181,6 +210,7 @@ fn a_short_run_is_the_same() {
     assert!(tally.outcomes.iter().all(|sheets| *sheets > 20), "{tally}");
     assert!(tally.noted.places.are_met(50), "{tally}");
     assert!(tally.noted.unlike.are_met(80, 15), "{tally}");
+    assert!(tally.noted.classes.are_met(150, 4, 40), "{tally}");
 }
 
 #[test]
@@ -189,11 +219,23 @@ fn what_is_rare_in_a_long_run_is_told() {
     counts.places.sorts = [1; 5];
     counts.places.outcomes = [10_000; 4];
     counts.unlike.counts = [8000, 1000, 1000];
+    (counts.classes.moved, counts.classes.taken_back) = (25_000, 1000);
+    counts.classes.refused = [2500; 2];
     assert_eq!(rare(&counts, 1_000_000), None);
     assert_eq!(
         rare(&counts, 1_000_001),
         Some("comparisons of unlike kinds")
     );
+    for change in [
+        |classes: &mut Classes| classes.moved -= 1,
+        |classes: &mut Classes| classes.taken_back -= 1,
+        |classes: &mut Classes| classes.refused[0] -= 1,
+        |classes: &mut Classes| classes.refused[1] -= 1,
+    ] {
+        let mut fewer = counts.clone();
+        change(&mut fewer.classes);
+        assert_eq!(rare(&fewer, 1_000_000), Some("large classes"));
+    }
     counts.unlike.counts = [50_000, 50_000, 999];
     assert_eq!(
         rare(&counts, 1_000_000),

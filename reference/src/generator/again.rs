@@ -5,6 +5,7 @@ use super::numbers::Numbers;
 use super::search::Searcher;
 use super::states;
 use crate::batch::Sheet;
+use crate::classes::Moves;
 use crate::program::{Always, Program};
 use crate::run::unfit_at_start;
 use crate::statements::Machine;
@@ -81,6 +82,7 @@ fn search(numbers: &mut Numbers, program: &Program, tables: &Tables) -> Vec<i32>
         budget: MOST_STEPS,
         steps: 0,
         accepted: 0,
+        moves: Moves::default(),
     };
     let _ = machine.block(&program.block);
     machine.source.words

@@ -4,6 +4,7 @@ use super::compose::Composer;
 use super::numbers::Numbers;
 use super::search::Searcher;
 use crate::batch::Sheet;
+use crate::classes::Moves;
 use crate::outcome::Outcome;
 use crate::program::{Always, Path, Statement};
 use crate::statements::Machine;
@@ -78,6 +79,7 @@ impl Draft {
             budget: self.steps.saturating_add(MOST_STEPS),
             steps: self.steps,
             accepted: 0,
+            moves: Moves::default(),
         };
         let done = machine.statement(statement);
         self.tables = machine.tables;

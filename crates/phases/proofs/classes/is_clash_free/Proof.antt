@@ -1,52 +1,54 @@
 use borrow.Author.Needs.{needs}
 use Prim.Native.Nat.{_-_}
 use borrow.Author.Tests.{not-true, not-false}
+use Rattle.words.specs.Bits.{marked}
 use Rattle.tables.specs.Cells.{cells}
-use Rattle.phases.proofs.ClassLaws.{Clashing, clashing-starts, clashing-fails, clashing-goes-on, clashing-ends}
+use Rattle.phases.specs.Tying.{identityAt}
+use Rattle.phases.proofs.FreeLaws.{FreeingTies, freeing-ties-starts, freeing-ties-fails, freeing-ties-goes-on, freeing-ties-ends}
 use Rattle.phases.proofs.classes.is_clash_free.Statement.{statement}
 use Rattle.phases.proofs.classes.is_clash_free.Tie as tie
 use Rattle.phases.proofs.classes.is_clash_free.Reads as reads
 use Rattle.phases.proofs.classes.is_clash_free.Lts as lts
-use Rattle.phases.proofs.classes.may_take.Reads as may-take-reads
-use Rattle.words.proofs.number_at.Reads as number-at-reads
+use Rattle.phases.proofs.classes.identity_at.Reads as identity-at-reads
+use Rattle.phases.proofs.classes.is_tie_free.Reads as is-tie-free-reads
 
 abbrev Inv-loop : tie.InvT-loop
-Inv-loop environment heap frozen n marks v i₀ i = Clashing (cells environment heap) frozen n marks v i
+Inv-loop program environment heap constraints n class v i₀ i = FreeingTies (cells environment heap) (marked class) v (identityAt program constraints) n i
 
 abbrev μ-loop : tie.MeasureT-loop
-μ-loop environment heap frozen n marks v i₀ i = n - i
+μ-loop program environment heap constraints n class v i₀ i = n - i
 
--- src/classes.rt:231:5
+-- src/classes.rt:250:5
 loop-holds : tie.Need-loop-holds Inv-loop μ-loop
-loop-holds c = clashing-starts
+loop-holds c = freeing-ties-starts (cells (c .before .args .environment .now) (c .before .args .heap .now)) (marked (c .before .args .class .now)) (c .before .args .v) (identityAt (c .before .args .program .now) (c .before .args .constraints .now)) (c .before .args .n)
 
--- src/classes.rt:232:41
-number-at-requires : tie.Need-number-at-requires Inv-loop μ-loop
-number-at-requires c κs = search needs
+-- src/classes.rt:251:13
+identity-at-requires : tie.Need-identity-at-requires Inv-loop μ-loop
+identity-at-requires c κs = search needs
 
--- src/classes.rt:232:13
-may-take-requires : tie.Need-may-take-requires Inv-loop μ-loop
-may-take-requires c κs = search needs
+-- src/classes.rt:252:13
+is-tie-free-requires : tie.Need-is-tie-free-requires Inv-loop μ-loop
+is-tie-free-requires c κs = search needs
 
--- src/classes.rt:233:13
+-- src/classes.rt:253:13
 returns : tie.Need-returns Inv-loop μ-loop
-returns c = clashing-fails (c .before .before .before .before .loop .inv) (c .before .before .before .loop-test .taken) (c .before .before .number-at .ensures) (c .before .may-take .ensures) (not-true _ (c .if1 .taken))
+returns c = freeing-ties-fails (cells (c .before .before .before .before .before .before .args .environment .now) (c .before .before .before .before .before .before .args .heap .now)) (marked (c .before .before .before .before .before .before .args .class .now)) (c .before .before .before .before .before .before .args .v) (identityAt (c .before .before .before .before .before .before .args .program .now) (c .before .before .before .before .before .before .args .constraints .now)) (c .before .before .before .before .before .before .args .n) (c .before .before .before .before .loop .inv) (c .before .before .before .loop-test .taken) (c .before .before .identity-at .ensures) (c .before .is-tie-free .ensures) (not-true (c .before .is-tie-free .result) (c .if1 .taken))
 
--- src/classes.rt:235:9
+-- src/classes.rt:255:9
 add-i : tie.Need-add-i Inv-loop μ-loop
 add-i c = search needs
 
--- src/classes.rt:231:5
+-- src/classes.rt:250:5
 loop-less : tie.Need-loop-less Inv-loop μ-loop
 loop-less c = search needs
 
--- src/classes.rt:231:5
+-- src/classes.rt:250:5
 loop-again : tie.Need-loop-again Inv-loop μ-loop
-loop-again c = clashing-goes-on (c .before .before .before .before .loop .inv) (c .before .before .before .loop-test .taken) (c .before .before .number-at .ensures) (c .before .may-take .ensures) (not-false _ (c .if1 .left))
+loop-again c = freeing-ties-goes-on (cells (c .before .before .before .before .before .before .args .environment .now) (c .before .before .before .before .before .before .args .heap .now)) (marked (c .before .before .before .before .before .before .args .class .now)) (c .before .before .before .before .before .before .args .v) (identityAt (c .before .before .before .before .before .before .args .program .now) (c .before .before .before .before .before .before .args .constraints .now)) (c .before .before .before .before .before .before .args .n) (c .before .before .before .before .loop .inv) (c .before .before .before .loop-test .taken) (c .before .before .identity-at .ensures) (c .before .is-tie-free .ensures) (not-false (c .before .is-tie-free .result) (c .if1 .left))
 
--- src/classes.rt:220:1
+-- src/classes.rt:238:1
 returns-2 : tie.Need-returns-2 Inv-loop μ-loop
-returns-2 c = clashing-ends (c .before .loop .inv) (c .loop-test .left)
+returns-2 c = freeing-ties-ends (cells (c .before .before .before .args .environment .now) (c .before .before .before .args .heap .now)) (marked (c .before .before .before .args .class .now)) (c .before .before .before .args .v) (identityAt (c .before .before .before .args .program .now) (c .before .before .before .args .constraints .now)) (c .before .before .before .args .n) (c .before .loop .inv) (c .loop-test .left)
 
 pub is-clash-free-spec : {M : Type 1} → statement M
 is-clash-free-spec =
@@ -55,8 +57,8 @@ is-clash-free-spec =
     Inv-loop
     μ-loop
     loop-holds
-    number-at-requires
-    may-take-requires
+    identity-at-requires
+    is-tie-free-requires
     returns
     add-i
     loop-less

@@ -1,66 +1,82 @@
 use borrow.Author.Needs.{needs}
-use Prim.Native.Nat.{_-_}
+use native.Mathlib.Omega.{arith}
+use Prim.Native.Nat.{_-_, _+_}
+use Rattle.words.proofs.BitLaws.{next-least}
 use Rattle.tables.specs.Cells.{cells}
 use Rattle.phases.proofs.PutLaws.{Giving, giving-starts, giving-goes-on, giving-ends}
 use Rattle.phases.proofs.giving.put_class.Statement.{statement}
 use Rattle.phases.proofs.giving.put_class.Tie as tie
 use Rattle.phases.proofs.giving.put_class.Reads as reads
 use Rattle.phases.proofs.giving.put_class.Lts as lts
-use Rattle.proposals.proofs.undoing.put_saved.Reads as put-saved-reads
+use Rattle.phases.proofs.giving.lay_by.Reads as lay-by-reads
+use Rattle.phases.proofs.giving.next_marked.Reads as next-marked-reads
 use Rattle.tables.proofs.cells.cell_of.Reads as cell-of-reads
-use Rattle.words.proofs.number_at.Reads as number-at-reads
+use Rattle.tables.proofs.cells.read_cell.Reads as read-cell-reads
+use Rattle.tables.proofs.cells.write_cell.Reads as write-cell-reads
 
 abbrev Inv-loop : tie.InvT-loop
-Inv-loop environment₀ heap₀ class n v saved₀ i₀ environment heap saved i = Giving (cells environment₀ heap₀) (cells environment heap) class saved₀ saved n i v
+Inv-loop environment₀ heap₀ class v saved₀ i₀ l₀ environment heap saved i l = Giving (cells environment₀ heap₀) (cells environment heap) class saved₀ saved v i l
 
 abbrev μ-loop : tie.MeasureT-loop
-μ-loop environment₀ heap₀ class n v saved₀ i₀ environment heap saved i = n - i
+μ-loop environment₀ heap₀ class v saved₀ i₀ l₀ environment heap saved i l = 576 - l
 
--- src/giving.rt:40:5
+-- src/giving.rt:77:9
+next-marked-requires : tie.Need-next-marked-requires Inv-loop μ-loop
+next-marked-requires c κs = search needs
+
+-- src/giving.rt:78:5
 loop-holds : tie.Need-loop-holds Inv-loop μ-loop
-loop-holds c = giving-starts
+loop-holds c = giving-starts (c .before .before .pre .0) (c .next-marked .ensures)
 
--- src/giving.rt:44:37
-mul-number-at : tie.Need-mul-number-at Inv-loop μ-loop
-mul-number-at c = search needs
+-- src/giving.rt:79:26
+read-cell-requires : tie.Need-read-cell-requires Inv-loop μ-loop
+read-cell-requires c κs = search needs
 
--- src/giving.rt:44:13
-number-at-requires : tie.Need-number-at-requires Inv-loop μ-loop
-number-at-requires c κs = search needs
+-- src/giving.rt:79:9
+lay-by-requires : tie.Need-lay-by-requires Inv-loop μ-loop
+lay-by-requires c κs = search needs
 
--- src/giving.rt:45:13
+-- src/giving.rt:80:57
 cell-of-requires : tie.Need-cell-of-requires Inv-loop μ-loop
 cell-of-requires c κs = search needs
 
--- src/giving.rt:41:9
-put-saved-requires : tie.Need-put-saved-requires Inv-loop μ-loop
-put-saved-requires c κs = search needs
+-- src/giving.rt:80:9
+write-cell-requires : tie.Need-write-cell-requires Inv-loop μ-loop
+write-cell-requires c κs = search needs
 
--- src/giving.rt:49:9
+-- src/giving.rt:81:9
 add-i : tie.Need-add-i Inv-loop μ-loop
 add-i c = search needs
 
--- src/giving.rt:40:5
+-- src/giving.rt:82:32
+add-next-marked : tie.Need-add-next-marked Inv-loop μ-loop
+add-next-marked c = search needs
+
+-- src/giving.rt:82:9
+next-marked-requires-2 : tie.Need-next-marked-requires-2 Inv-loop μ-loop
+next-marked-requires-2 c κs = search needs
+
+-- src/giving.rt:78:5
 loop-less : tie.Need-loop-less Inv-loop μ-loop
-loop-less c = search needs
+loop-less c = omega (arith, c .next-marked2 .ensures, next-least (c .before .before .before .before .before .before .before .before .before .before .before .before .before .before .before .before .before .args .class .now) (c .before .before .before .before .before .before .before .before .before .before .before .before .before .before .loop .l + 1), c .before .before .before .before .before .before .before .before .before .before .before .before .before .loop-test .taken)
 
--- src/giving.rt:40:5
+-- src/giving.rt:78:5
 loop-again : tie.Need-loop-again Inv-loop μ-loop
-loop-again c = giving-goes-on (c .before .before .before .before .before .before .before .before .before .before .loop .inv) (c .before .before .before .before .before .before .before .before .before .loop-test .taken) (c .before .before .before .before .before .before .before .before .before .before .before .pre) (c .before .before .before .put-saved .ensures) (c .before .before .before .before .before .before .number-at .ensures) (c .before .before .before .before .before .cell-of .ensures)
+loop-again c = giving-goes-on (c .before .before .before .before .before .before .before .before .before .before .before .before .before .before .loop .inv) (c .before .before .before .before .before .before .before .before .before .before .before .before .before .loop-test .taken) (c .before .before .before .before .before .before .before .before .before .before .before .before .before .before .before .before .before .pre .0) (c .before .before .before .before .before .before .before .before .before .before .before .before .before .before .before .before .before .pre .1) (c .before .before .before .before .before .before .before .before .before .read-cell .ensures) (c .before .before .before .before .before .before .before .before .lay-by .ensures) (c .before .before .before .before .cell-of .ensures) (c .before .before .before .write-cell .ensures) (c .next-marked2 .ensures)
 
--- src/giving.rt:28:1
+-- src/giving.rt:65:1
 same-length : tie.Need-same-length Inv-loop μ-loop
-same-length c = c .before .loop .inv .environment
+same-length c = search needs
 
--- src/giving.rt:28:1
+-- src/giving.rt:65:1
 same-length-2 : tie.Need-same-length-2 Inv-loop μ-loop
-same-length-2 c = c .before .loop .inv .heap
+same-length-2 c = search needs
 
--- src/giving.rt:28:1
+-- src/giving.rt:65:1
 same-length-3 : tie.Need-same-length-3 Inv-loop μ-loop
-same-length-3 c = c .before .loop .inv .long
+same-length-3 c = search needs
 
--- src/giving.rt:28:1
+-- src/giving.rt:65:1
 returns : tie.Need-returns Inv-loop μ-loop
 returns c = giving-ends (c .before .loop .inv) (c .loop-test .left)
 
@@ -70,12 +86,15 @@ put-class-spec =
     (tie.spec
     Inv-loop
     μ-loop
+    next-marked-requires
     loop-holds
-    mul-number-at
-    number-at-requires
+    read-cell-requires
+    lay-by-requires
     cell-of-requires
-    put-saved-requires
+    write-cell-requires
     add-i
+    add-next-marked
+    next-marked-requires-2
     loop-less
     loop-again
     same-length

@@ -19,7 +19,7 @@ use Rattle.program.proofs.marking.mark_statement.Kinds as mark-statemen
 use Rattle.program.proofs.marking.+mark_block+mark_statement.Lts-mark_statement as mark-statement-lts
 use Rattle.program.proofs.blocks.read_block.Reads as read-block-reads
 use Rattle.program.proofs.blocks.read_statement.Reads as read-statement-reads
-use Rattle.program.proofs.marking.mark.Reads as mark-reads
+use Rattle.words.proofs.bits.mark.Reads as mark-reads
 use Rattle.program.proofs.reading.read_expression.Reads as read-expression-reads
 use Rattle.words.proofs.less.Reads as less-reads
 use Rattle.words.proofs.number_at.Reads as number-at-reads

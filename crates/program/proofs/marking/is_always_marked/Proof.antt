@@ -5,7 +5,7 @@ use Rattle.program.proofs.marking.is_always_marked.Statement.{statement
 use Rattle.program.proofs.marking.is_always_marked.Tie as tie
 use Rattle.program.proofs.marking.is_always_marked.Reads as reads
 use Rattle.program.proofs.marking.is_always_marked.Lts as lts
-use Rattle.program.proofs.marking.is_marked.Reads as is-marked-reads
+use Rattle.words.proofs.bits.is_marked.Reads as is-marked-reads
 use Rattle.program.proofs.places.always_of.Reads as always-of-reads
 use Rattle.words.proofs.number_at.Reads as number-at-reads
 

@@ -22,7 +22,7 @@ slice-aggregate-positions-marked c = search needs
 
 -- src/marking.rt:116:9
 positions-marked-requires : tie.Need-positions-marked-requires
-positions-marked-requires c κs = marks-of {n = 4096} (c .before .before .before .before .pre) (c .before .before .mark-block .ensures)
+positions-marked-requires c κs = marks-of 64 (c .before .before .before .before .pre) (c .before .before .mark-block .ensures)
 
 -- src/marking.rt:117:9
 returns : tie.Need-returns
@@ -34,7 +34,7 @@ slice-aggregate-positions-marked-2 c = search needs
 
 -- src/marking.rt:119:5
 positions-marked-requires-2 : tie.Need-positions-marked-requires-2
-positions-marked-requires-2 c κs = marks-of {n = 4096} (c .before .before .before .before .before .before .before .pre) (c .before .before .before .before .before .mark-block .ensures)
+positions-marked-requires-2 c κs = marks-of 64 (c .before .before .before .before .before .before .before .pre) (c .before .before .before .before .before .mark-block .ensures)
 
 -- src/marking.rt:110:1
 returns-2 : tie.Need-returns-2

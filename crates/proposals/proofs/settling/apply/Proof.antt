@@ -1,5 +1,7 @@
 use borrow.Author.Needs.{needs}
+use mathlib.Core.Path.{_∙_, ap}
 use Prim.Native.Nat.{_-_}
+use lib.ListN.{set}
 use Rattle.words.proofs.Signed.{back32}
 use Rattle.tables.specs.Cells.{cells}
 use Rattle.proposals.proofs.ProposalLaws.{Applying, applying-starts, applying-goes-on, applying-ends}
@@ -7,9 +9,9 @@ use Rattle.proposals.proofs.settling.apply.Statement.{statement}
 use Rattle.proposals.proofs.settling.apply.Tie as tie
 use Rattle.proposals.proofs.settling.apply.Reads as reads
 use Rattle.proposals.proofs.settling.apply.Lts as lts
-use Rattle.proposals.proofs.undoing.put_saved.Reads as put-saved-reads
-use Rattle.tables.proofs.cells.read_cell.Reads as read-cell-reads
+use Rattle.proposals.proofs.undoing.put_payload.Reads as put-payload-reads
 use Rattle.words.proofs.number_at.Reads as number-at-reads
+use Rattle.words.proofs.store.Reads as store-reads
 use Rattle.words.proofs.word_at.Reads as word-at-reads
 
 abbrev Inv-loop : tie.InvT-loop
@@ -18,66 +20,66 @@ Inv-loop environment₀ heap₀ pairs n saved₀ i₀ environment heap saved i =
 abbrev μ-loop : tie.MeasureT-loop
 μ-loop environment₀ heap₀ pairs n saved₀ i₀ environment heap saved i = n - i
 
--- src/settling.rt:112:5
+-- src/settling.rt:115:5
 loop-holds : tie.Need-loop-holds Inv-loop μ-loop
 loop-holds c = applying-starts
 
--- src/settling.rt:113:41
+-- src/settling.rt:116:41
 mul-number-at : tie.Need-mul-number-at Inv-loop μ-loop
 mul-number-at c = search needs
 
--- src/settling.rt:113:13
+-- src/settling.rt:116:13
 number-at-requires : tie.Need-number-at-requires Inv-loop μ-loop
 number-at-requires c κs = search needs
 
--- src/settling.rt:114:13
-read-cell-requires : tie.Need-read-cell-requires Inv-loop μ-loop
-read-cell-requires c κs = search needs
-
--- src/settling.rt:117:44
+-- src/settling.rt:117:75
 mul-word-at : tie.Need-mul-word-at Inv-loop μ-loop
 mul-word-at c = search needs
 
--- src/settling.rt:117:44
+-- src/settling.rt:117:75
 add-word-at : tie.Need-add-word-at Inv-loop μ-loop
 add-word-at c = search needs
 
--- src/settling.rt:117:22
+-- src/settling.rt:117:53
 word-at-requires : tie.Need-word-at-requires Inv-loop μ-loop
 word-at-requires c κs = search needs
 
--- src/settling.rt:119:9
-put-saved-requires : tie.Need-put-saved-requires Inv-loop μ-loop
-put-saved-requires c κs = search needs
+-- src/settling.rt:117:13
+put-payload-requires : tie.Need-put-payload-requires Inv-loop μ-loop
+put-payload-requires c κs = search needs
 
--- src/settling.rt:120:9
+-- src/settling.rt:118:9
+store-requires : tie.Need-store-requires Inv-loop μ-loop
+store-requires c κs = search needs
+
+-- src/settling.rt:119:9
 add-i : tie.Need-add-i Inv-loop μ-loop
 add-i c = search needs
 
--- src/settling.rt:112:5
+-- src/settling.rt:115:5
 loop-less : tie.Need-loop-less Inv-loop μ-loop
 loop-less c = search needs
 
--- src/settling.rt:112:5
+-- src/settling.rt:115:5
 loop-again : tie.Need-loop-again Inv-loop μ-loop
 loop-again c =
-    let k = back32 (c .before .before .before .before .before .before .before .before .before .read-cell .result .kind) (record { sfits = c .before .before .before .before .before .before .before .struct-told .given .0 .1 }) in
-    let w = back32 (c .before .before .before .before .before .before .before .before .word-at .result) (record { sfits = c .before .before .before .before .before .before .before .before .word-at .ok }) in
-    applying-goes-on (c .before .before .before .before .before .before .before .before .before .before .before .before .before .before .loop .inv) (c .before .before .before .before .before .before .before .before .before .before .before .before .before .loop-test .taken) (c .before .before .before .before .before .before .before .before .before .before .before .before .before .before .before .pre .1) (c .before .before .before .before .before .before .before .before .before .before .before .before .number-at .ensures) (c .before .before .before .before .before .before .before .before .before .read-cell .ensures) (rw (k, w, c .before .before .before .before .before .before .before .before .word-at .ensures)) (c .before .before .before .put-saved .ensures)
+    let w = back32 (c .before .before .before .before .before .before .word-at .result) (record { sfits = c .before .before .before .before .before .before .word-at .ok }) in
+    let o = back32 (c .before .before .before .before .before .put-payload .result) (record { sfits = c .before .before .before .before .before .put-payload .ok }) in
+    applying-goes-on (c .before .before .before .before .before .before .before .before .before .before .before .loop .inv) (c .before .before .before .before .before .before .before .before .before .before .loop-test .taken) (c .before .before .before .before .before .before .before .before .before .before .before .before .pre .1) (c .before .before .before .before .before .before .before .before .before .number-at .ensures) (w ∙ c .before .before .before .before .before .before .word-at .ensures) (c .before .before .before .before .before .put-payload .ensures) (c .before .store .ensures ∙ ap (λ x. set (c .before .before .before .before .before .before .before .before .before .before .before .loop .saved) (c .before .before .before .before .before .before .before .before .before .before .before .loop .i) x) o)
 
--- src/settling.rt:106:1
+-- src/settling.rt:109:1
 same-length : tie.Need-same-length Inv-loop μ-loop
 same-length c = c .before .loop .inv .environment
 
--- src/settling.rt:106:1
+-- src/settling.rt:109:1
 same-length-2 : tie.Need-same-length-2 Inv-loop μ-loop
 same-length-2 c = c .before .loop .inv .heap
 
--- src/settling.rt:106:1
+-- src/settling.rt:109:1
 same-length-3 : tie.Need-same-length-3 Inv-loop μ-loop
 same-length-3 c = c .before .loop .inv .room
 
--- src/settling.rt:106:1
+-- src/settling.rt:109:1
 returns : tie.Need-returns Inv-loop μ-loop
 returns c = applying-ends (c .before .loop .inv) (c .loop-test .left)
 
@@ -90,11 +92,11 @@ apply-spec =
     loop-holds
     mul-number-at
     number-at-requires
-    read-cell-requires
     mul-word-at
     add-word-at
     word-at-requires
-    put-saved-requires
+    put-payload-requires
+    store-requires
     add-i
     loop-less
     loop-again
