@@ -17,6 +17,7 @@ TYPED_ROW = re.compile(r"^\| `([^`]+)` \| (?:(\d\d, column \d+) \| )?.* \| `([a-
 HELD = re.compile(r"`sheets/([a-z0-9/-]+)` holds\n\n```\n(.*?)```", re.S)
 PRINTED = re.compile(r"`sheets/([a-z0-9/-]+)` is printed as\n\n```\n(.*?)```", re.S)
 PRINTED_ALIKE = re.compile(r"`sheets/([a-z]+)/([a-z0-9-]+)` to\s`sheets/\1/([a-z0-9-]+)` are printed as\s`sheets/([a-z0-9/-]+)`")
+DESKED = re.compile(r"`\./desk sheets/([a-z0-9/-]+)\.sheet` prints\n\n```\n(.*?)```", re.S)
 SHOWN_IN_TEXT = ["7", "8", "9", "15", "17", "19"]
 faults = []
 
@@ -87,6 +88,18 @@ def test_refused(text):
     if len(typed) != text.count("` types\n"):
         faults.append("a text is shown in another form")
     return sum(1 for _, _, told in typed if told)
+
+
+def test_desked(page):
+    """What a page tells of the desk is what the desk prints. How many sheets are shown is given back."""
+    shown = DESKED.findall(page)
+    for name, printed in shown:
+        file = SHEETS / f"{name}.shown"
+        if not file.is_file() or printed != file.read_text():
+            faults.append(f"{name}.shown is not as shown")
+    if len(shown) != page.count(".sheet` prints\n"):
+        faults.append("a sheet of the desk is shown in another form")
+    return len(shown)
 
 
 def test_outcomes(page):
@@ -198,7 +211,8 @@ def main():
     test_printed(readme)
     texts = test_notation((ROOT / "docs" / "NOTATION.md").read_text())
     test_named()
-    print("\n".join(faults) or f"{sections} outcomes explained, {sheets} sheets of them; {texts} texts of the notation")
+    desked = test_desked(readme) + test_desked((ROOT / "docs" / "DESK.md").read_text())
+    print("\n".join(faults) or f"{sections} outcomes explained, {sheets} sheets of them; {texts} texts of the notation; {desked} runs of the desk")
     sys.exit(1 if faults else 0)
 
 

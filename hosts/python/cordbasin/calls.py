@@ -38,18 +38,47 @@ def run_words(
 
 def assign(program: Program, tables: Tables, entries: Iterable[Entry], proposals: Words, budget: int) -> ListAnswer:
     """Sets cells by a list, up to the first entry that is refused. KeyError for a name that the program does not have."""
-    list_words = words_of([word for entry in entries for word in entry.words(program)])
-    words, answer = words_of(proposals), array("i", [-1] * 4)
-    unread = call("cordbasin_assign", *_state(program, tables), list_words, words, _word(budget), answer)
-    return ListAnswer(program, Outcome(answer[0]), answer[1], answer[2], answer[3], _last(words, unread))
+    listed, words = [word for entry in entries for word in entry.words(program)], words_of(proposals)
+    outcome, place, steps, accepted, unread = assign_words(*_state(program, tables), listed, words, budget)
+    return ListAnswer(program, Outcome(outcome), place, steps, accepted, _last(words, unread))
+
+
+def assign_words(
+    program: Words,
+    environment: "array[int]",
+    heap: "array[int]",
+    constraints: "array[int]",
+    entries: Words,
+    proposals: Words,
+    budget: int,
+) -> Tuple[int, int, int, int, int]:
+    """As assign, on any words and on tables that the host keeps: the four numbers of the answer, and how many words are unread."""
+    answer, slices = array("i", [-1] * 4), (words_of(entries), words_of(proposals))
+    unread = call("cordbasin_assign", words_of(program), environment, heap, constraints, *slices, _word(budget), answer)
+    return answer[0], answer[1], answer[2], answer[3], unread
 
 
 def ask(program: Program, tables: Tables, word: int, first: Words, second: Words = ()) -> Asked:
     """Asks two solvers about the statement at a word; the second's proposal is tried where the first's is turned down."""
-    slices, answer = (words_of(first), words_of(second)), array("i", [-1] * 3)
-    count = call("cordbasin_ask", *_state(program, tables), _word(word), *slices, answer)
-    accepted = tuple(slices[answer[2] - 1][:count]) if answer[2] else ()
-    return Asked(program, word, Outcome(answer[0]), answer[1], answer[2], accepted)
+    slices = (words_of(first), words_of(second))
+    outcome, place, solver, count = ask_words(*_state(program, tables), word, *slices)
+    accepted = tuple(slices[solver - 1][:count]) if solver else ()
+    return Asked(program, word, Outcome(outcome), place, solver, accepted)
+
+
+def ask_words(
+    program: Words,
+    environment: "array[int]",
+    heap: "array[int]",
+    constraints: "array[int]",
+    word: int,
+    first: Words,
+    second: Words,
+) -> Tuple[int, int, int, int]:
+    """As ask, on any words and on tables that the host keeps: the three numbers of the answer, and how many words were accepted."""
+    answer, slices = array("i", [-1] * 3), (words_of(first), words_of(second))
+    count = call("cordbasin_ask", words_of(program), environment, heap, constraints, _word(word), *slices, answer)
+    return answer[0], answer[1], answer[2], count
 
 
 def write(words: Sequence[int]) -> str:

@@ -79,7 +79,7 @@ class Program:
     @staticmethod
     def read(text: Union[str, bytes]) -> Program:
         """Reads a text in the papers' notation; Refusal where it is none."""
-        typed = text.encode() if isinstance(text, str) else bytes(text)
+        typed = text.encode(errors="surrogatepass") if isinstance(text, str) else bytes(text)
         words, origins = array("i", bytes(4 * LONGEST_PROGRAM)), array("i", bytes(4 * LONGEST_PROGRAM))
         names, answer = array("i", bytes(4 * NAMES_WORDS)), array("i", [-1] * 4)
         count = call("cordbasin_read", bytearray(typed), words, origins, names, answer)

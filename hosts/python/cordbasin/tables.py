@@ -14,7 +14,9 @@ HEAP_WORDS = 1601
 CONSTRAINTS_WORDS = 98
 VARIABLES = 64
 RECORD_WORDS = 25
+RECORDS = 64
 FIELDS = 8
+LABELS = 32
 VALUE_POSITIONS = 64
 
 
@@ -58,7 +60,8 @@ def plain_of(value: Value) -> object:
 class Tables:
     """Environment, heap and constraints of a program, fresh at first. `tables["x.bytes"]` is what the path leads to.
 
-    The words stand open, so that a host can store them and bring them back. Prints as the run lister does.
+    The words stand open, so that a host can store them and bring them back. Words that are unfit are refused by a run and read here as
+    absent. Prints as the run lister does.
     """
 
     def __init__(self, program: Program) -> None:
@@ -86,10 +89,10 @@ class Tables:
 
     def cell(self, location: int) -> Tuple[int, int]:
         """Kind and payload at a location: 0 to 63 for variables, 64 + 8r + f for field place f of record r."""
-        if location < VARIABLES:
-            return self.environment[2 * location], self.environment[2 * location + 1]
-        at = self._field(location) + 1
-        return self.heap[at], self.heap[at + 1]
+        table, at = (self.environment, 2 * location) if location < VARIABLES else (self.heap, self._field(location) + 1)
+        kind, payload = table[at], table[at + 1]
+        payloads = (0, 1, 2, 0, self.records)[kind] if 0 <= kind <= Kind.REFERENCE else 0
+        return (kind, payload) if kind == Kind.INTEGER or 0 <= payload < payloads else (Kind.ABSENT.value, 0)
 
     def value(self, location: int) -> Value:
         """What the present cell at a location holds."""
@@ -104,13 +107,14 @@ class Tables:
     @property
     def records(self) -> int:
         """How many records there are."""
-        return self.heap[0]
+        return _count(self.heap[0], RECORDS)
 
     def fields(self, record: int) -> List[Tuple[int, int]]:
         """Label and location of a record's fields, in their own order."""
         first = VARIABLES + FIELDS * record
-        count = self.heap[1 + RECORD_WORDS * record]
-        return [(self.heap[self._field(first + place)], first + place) for place in range(count)]
+        count = _count(self.heap[1 + RECORD_WORDS * record], FIELDS)
+        fields = [(self.heap[self._field(place)], place) for place in range(first, first + count)]
+        return [each for each in fields if 0 <= each[0] < LABELS and self.cell(each[1])[0] != Kind.ABSENT]
 
     def location(self, path: Sequence[int]) -> Optional[int]:
         """The cell that a variable and then labels lead to; none where there is none."""
@@ -126,13 +130,13 @@ class Tables:
     @property
     def kept(self) -> List[int]:
         """The positions of the kept value constraints, in kept order."""
-        return list(self.constraints[2 : 2 + self.constraints[0]])
+        return list(self.constraints[2 : 2 + _count(self.constraints[0], VALUE_POSITIONS)])
 
     @property
     def identities(self) -> List[int]:
         """The positions of the kept identities, in kept order."""
         first = 2 + VALUE_POSITIONS
-        return list(self.constraints[first : first + self.constraints[1]])
+        return list(self.constraints[first : first + max(0, self.constraints[1])])
 
     def keep_no_values(self) -> None:
         """Forgets the kept value constraints; identities stay kept."""
@@ -153,8 +157,11 @@ class Tables:
         return True
 
     def plain(self) -> Dict[str, object]:
-        """The tables as JSON has them: variables and records by name, a reference as {"record": 0}, and the kept positions."""
-        names, labels = self.program.variables, self.program.labels
+        """The tables as JSON has them: variables and records by name, a reference as {"record": 0}, and the kept positions.
+
+        What the program has no name for is v0 or f0.
+        """
+        names, labels = _all(self.program.variables, "v", VARIABLES), _all(self.program.labels, "f", LABELS)
         variables = {names[place]: self._plain(place) for place in self.locations() if place < VARIABLES}
         records = [
             {labels[label]: self._plain(place) for label, place in self.fields(record)}
@@ -184,3 +191,13 @@ class Tables:
         kind, payload = self.cell(location)
         word = ("", "nil", "bool", "int", "ref")[kind]
         return word if kind == Kind.NIL else f"{word} {payload}"
+
+
+def _count(word: int, most: int) -> int:
+    """A count word; one that is unfit is brought into its range."""
+    return min(max(word, 0), most)
+
+
+def _all(names: Sequence[str], letter: str, count: int) -> List[str]:
+    """The names, and behind them those of the numbers that have none."""
+    return [*names, *(f"{letter}{number}" for number in range(len(names), count))]

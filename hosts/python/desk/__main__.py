@@ -3,6 +3,7 @@
 from __future__ import annotations
 
 import argparse
+import io
 import json
 import os
 import signal
@@ -19,6 +20,7 @@ from desk.stepping import Desk, DeskFault, Step
 
 FINISHED, REFUSED, NO_WORK = 0, 1, 2
 LARGEST_BUDGET = 1_000_000
+LONGEST_LIST, LONGEST_INPUT = 4096, 65536  # what the run lister takes
 
 
 class _Arguments(argparse.ArgumentParser):
@@ -84,15 +86,19 @@ class Printer:
 def main(typed: Optional[Sequence[str]] = None) -> int:
     """The command; gives its exit status."""
     try:
-        return _work(arguments().parse_args(typed))
+        status = _work(arguments().parse_args(typed))
+        sys.stdout.flush()
+        return status
     except (CannotWork, LibraryMissing, DeskFault) as fault:
         print(f"./desk: {fault}", file=sys.stderr)
         return NO_WORK
     except KeyboardInterrupt:
         print("./desk: interrupted", file=sys.stderr)
         return 130
-    except BrokenPipeError:
-        os.dup2(os.open(os.devnull, os.O_WRONLY), sys.stdout.fileno())
+    except OSError as fault:
+        os.dup2(os.open(os.devnull, os.O_WRONLY), sys.stdout.fileno())  # what could not be printed is left out
+        if not isinstance(fault, BrokenPipeError):
+            print(f"./desk: {fault.strerror or fault}", file=sys.stderr)
         return NO_WORK
 
 
@@ -130,7 +136,7 @@ def _carry_out(desk: Desk, given: argparse.Namespace, printer: Printer) -> int:
     printer.done()
     desk.replay()
     if given.proposals:
-        _write(given.proposals, lister_input(desk))
+        _write(given.proposals, lister_input(desk), len(desk.accepted))
     if given.json:
         print(json.dumps(as_json(desk, steps), indent=2))
     elif not given.quiet:
@@ -153,6 +159,8 @@ def _solvers(named: Optional[List[str]], seconds: float) -> List[Solver]:
 
 
 def _test(given: argparse.Namespace) -> None:
+    if sys.stdout is None or sys.stderr is None:
+        raise CannotWork("standard output or error is closed")
     if len(given.solver or []) > 2:
         raise CannotWork("two solvers are asked at most")
     if not 0 < given.timeout <= 86400:
@@ -163,6 +171,8 @@ def _test(given: argparse.Namespace) -> None:
 
 def _text(place: str) -> bytes:
     try:
+        if place == "-" and sys.stdin is None:
+            raise CannotWork("standard input is closed")
         if place == "-":
             return sys.stdin.buffer.read()
         with open(place, "rb") as file:
@@ -171,7 +181,10 @@ def _text(place: str) -> bytes:
         raise CannotWork(f"{place}: {fault.strerror}") from fault
 
 
-def _write(place: str, text: str) -> None:
+def _write(place: str, text: str, words: int) -> None:
+    if len(text) > LONGEST_INPUT or words > LONGEST_LIST:
+        limits = f"{LONGEST_LIST} words of proposals and {LONGEST_INPUT} bytes"
+        print(f"./desk: {place}: more than ./sheet takes, which is {limits}", file=sys.stderr)
     try:
         with open(place, "w", encoding="ascii") as file:
             file.write(text)
@@ -185,4 +198,6 @@ def _end(*_: object) -> None:
 
 if __name__ == "__main__":
     signal.signal(signal.SIGTERM, _end)
+    if isinstance(sys.stdout, io.TextIOWrapper):
+        sys.stdout.reconfigure(errors="backslashreplace")  # a solver's words and a sheet may hold any character
     sys.exit(main())

@@ -12,10 +12,11 @@ from typing import List, Sequence, Set, Union
 
 LONGEST_ANSWER = 1 << 20
 DEEPEST_ANSWER = 64
+ENDED = "ended before it had answered"
 
 Answer = Union[str, List["Answer"]]
 
-_TOKEN = re.compile(rb'\s*(?:;[^\n]*\n\s*)*([()]|"(?:[^"]|"")*"|\|[^|]*\||[^\s()"|;]+)')
+_TOKEN = re.compile(rb'\s*(?:;[^\n]*\n\s*)*([()]|"[^"]*(?:""[^"]*)*"(?!")|\|[^|]*\||[^\s()"|;]+)')
 
 
 class NoAnswer(Exception):
@@ -30,7 +31,8 @@ class Dialogue:
     def __init__(self, command: Sequence[str], end: float) -> None:
         self._end = end
         self._heard = b""
-        self._total = 0
+        self._open: List[List[Answer]] = [[]]
+        self._length = 0
         try:
             self._process = subprocess.Popen(
                 list(command),
@@ -76,23 +78,28 @@ class Dialogue:
         while True:
             answer = None if unsaid else self._parsed()
             if answer is not None:
+                self._length = len(self._heard)
                 return answer
             unsaid = self._wait(unsaid)
 
     def _wait(self, unsaid: bytes) -> bytes:
-        """Waits until something can be said or heard, says or hears it, and gives what is unsaid still."""
+        """Waits until something can be said or heard, says or hears it, and gives what is unsaid still. Behind the end nothing is heard."""
+        left = self._end - time.monotonic()
         with selectors.DefaultSelector() as selector:
             selector.register(self._out, selectors.EVENT_READ)
             if unsaid:
                 selector.register(self._in, selectors.EVENT_WRITE)
-            ready = selector.select(max(0.0, self._end - time.monotonic()))
+            ready = selector.select(left) if left > 0 else []
         if not ready:
             raise NoAnswer("gave no answer in time")
+        asked = unsaid
         for key, _ in ready:
-            if key.fileobj is self._out:
-                self._hear()
-            else:
+            if key.fileobj is not self._out:
                 unsaid = self._say(unsaid)
+            elif not self._hear():
+                if not asked:
+                    raise NoAnswer(self._ended())
+                unsaid = b""  # it reads no more either; what it has said by then still counts
         return unsaid
 
     def _say(self, unsaid: bytes) -> bytes:
@@ -103,38 +110,52 @@ class Dialogue:
         except OSError:
             return b""  # it reads no more; what it has said by then still counts
 
-    def _hear(self) -> None:
+    def _hear(self) -> bool:
+        """Hears a piece; whether there was one."""
         piece = os.read(self._out.fileno(), 65536)
-        if not piece:
-            raise NoAnswer(self._ended())
         self._heard += piece
-        self._total += len(piece)
-        if self._total > LONGEST_ANSWER:
+        self._length += len(piece)
+        if self._length > LONGEST_ANSWER:
             raise NoAnswer(f"said more than {LONGEST_ANSWER >> 20} MiB")
+        return bool(piece)
 
     def _ended(self) -> str:
-        try:
-            status = self._process.wait(max(0.0, min(1.0, self._end - time.monotonic())))
-        except subprocess.TimeoutExpired:
-            return "closed its output before it had answered"
-        return f"was ended by signal {-status} before it had answered" if status < 0 else "ended before it had answered"
+        """How its output came to an end. A process that has ended is not waited for yet, so that its number stays its own."""
+        for _ in range(20):
+            try:
+                told = os.waitid(os.P_PID, self._process.pid, os.WEXITED | os.WNOHANG | os.WNOWAIT)
+            except ChildProcessError:
+                return ENDED
+            if told is not None:
+                signalled = told.si_code in (os.CLD_KILLED, os.CLD_DUMPED)
+                return f"was ended by signal {told.si_status} before it had answered" if signalled else ENDED
+            time.sleep(0.01)
+        return "closed its output before it had answered"
 
     def _parsed(self) -> Union[Answer, None]:
-        """The first whole answer of what was heard, taken away from it; none where it is not whole yet."""
+        """The first whole answer of what was heard; none where it is not whole yet. Tokens are taken away from it as they are read."""
         at = 0
-        open_lists: List[List[Answer]] = [[]]
-        while True:
-            found = _TOKEN.match(self._heard, at)
-            if not found or (found.end() == len(self._heard) and found[1] not in b"()"):
-                return None
-            at, token = found.end(), found[1].decode(errors="replace")
-            if (token == ")" and len(open_lists) == 1) or len(open_lists) > DEEPEST_ANSWER:
-                raise NoAnswer("said what is no answer of SMT-LIB 2")
-            if token == "(":
-                open_lists.append([])
-                continue
-            answer: Answer = open_lists.pop() if token == ")" else token
-            open_lists[-1].append(answer)
-            if len(open_lists) == 1:
-                self._heard = self._heard[at:]
-                return answer
+        try:
+            while True:
+                found = _TOKEN.match(self._heard, at)
+                if not found or (found.end() == len(self._heard) and found[1] not in b"()"):
+                    return None
+                at = found.end()
+                answer = self._read(found[1].decode(errors="replace"))
+                if answer is not None:
+                    return answer
+        finally:
+            self._heard = self._heard[at:]
+
+    def _read(self, token: str) -> Union[Answer, None]:
+        """Reads a token into the lists that are open; gives the answer that it completes, where it does."""
+        if (token == ")" and len(self._open) == 1) or len(self._open) > DEEPEST_ANSWER:
+            raise NoAnswer("said what is no answer of SMT-LIB 2")
+        if token == "(":
+            self._open.append([])
+            return None
+        piece: Answer = self._open.pop() if token == ")" else token
+        if len(self._open) == 1:
+            return piece
+        self._open[-1].append(piece)
+        return None

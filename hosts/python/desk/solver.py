@@ -3,6 +3,7 @@
 from __future__ import annotations
 
 import dataclasses
+import os
 import re
 import shlex
 import shutil
@@ -13,7 +14,7 @@ from cordbasin import Kind
 from desk.dialogue import Answer, Dialogue, NoAnswer
 from desk.question import LEAST, MOST, Question
 
-KNOWN = {"z3": ("z3", "-in", "-smt2"), "cvc5": ("cvc5", "--lang=smt2", "--incremental")}
+KNOWN = {"z3": ("-in", "-smt2"), "cvc5": ("--lang=smt2", "--incremental")}
 
 _PROBE = "(set-option :produce-models true)\n(set-logic ALL)\n(declare-const p Bool)\n(assert-soft p :weight 1 :id wish)\n(check-sat)\n"
 
@@ -43,7 +44,8 @@ class Solver:
         words = _split(typed)
         if not words or shutil.which(words[0]) is None:
             raise NoAnswer("there is no such program")
-        command = KNOWN.get(words[0], (words[0],)) if len(words) == 1 else tuple(words)
+        options = KNOWN.get(os.path.basename(words[0]), ()) if len(words) == 1 else ()
+        command = (*words, *options)
         return Solver(typed, command, seconds, _has_soft(command, seconds))
 
     def propose(self, question: Question) -> Proposed:
@@ -88,13 +90,17 @@ def _split(typed: str) -> List[str]:
 
 
 def solvers(commands: Sequence[str], seconds: float) -> Tuple[List[Solver], List[str]]:
-    """The solvers of these commands that can be started, and what to say of the others."""
-    found, missing = [], []
+    """The solvers of these commands that can be started, and what to say of the others. One that is named twice is told apart."""
+    found: List[Solver] = []
+    missing = []
     for command in commands:
         try:
-            found.append(Solver.of(command, seconds))
+            solver = Solver.of(command, seconds)
         except NoAnswer as fault:
             missing.append(f"{command}: {fault}")
+            continue
+        is_second = any(solver.name == other.name for other in found)
+        found.append(dataclasses.replace(solver, name=f"{solver.name} (second)") if is_second else solver)
     return found, missing
 
 
@@ -129,7 +135,11 @@ def _model(dialogue: Dialogue, question: Question) -> Model:
     model: Model = {}
     for pair in answer:
         symbol = pair[0] if isinstance(pair, list) and len(pair) == 2 else None
-        if not isinstance(pair, list) or not isinstance(symbol, str) or not re.fullmatch(r"c(0|[1-9]\d{0,8})", symbol):
+        if (
+            not isinstance(pair, list)
+            or not isinstance(symbol, str)
+            or not re.fullmatch(r"c(0|[1-9][0-9]{0,8})", symbol)
+        ):
             raise NoAnswer(f"said what is no model: {_shown(answer)}")
         model[int(symbol[1:])] = _value(pair[1])
     return model
@@ -141,11 +151,11 @@ def _value(term: Answer) -> Union[bool, int]:
         return term == "true"
     minus = isinstance(term, list) and len(term) == 2 and term[0] == "-"
     digits = term[1] if minus else term
-    if not isinstance(digits, str) or not re.fullmatch(r"\d{1,10}", digits):
+    if not isinstance(digits, str) or not re.fullmatch(r"[0-9]{1,400}", digits):
         raise NoAnswer(f"gave what is no value of a cell: {_shown(term)}")
     number = -int(digits) if minus else int(digits)
     if not LEAST <= number <= MOST:
-        raise NoAnswer(f"gave a value outside 32 bits: {number}")
+        raise NoAnswer(f"gave a value outside 32 bits: {_shown(str(number))}")
     return number
 
 

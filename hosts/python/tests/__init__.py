@@ -1,0 +1,1 @@
+"""Tests of the package and of the desk: python3 -m unittest discover, in hosts/python."""
