@@ -23,6 +23,10 @@ class NoAnswer(Exception):
     """Why there is no answer, in words."""
 
 
+class OutOfTime(NoAnswer):
+    """There is no answer as the time is up."""
+
+
 class Dialogue:
     """One process of a solver, with the time on the monotonic clock by which it has to be done. As a context it leaves no process behind."""
 
@@ -91,7 +95,7 @@ class Dialogue:
                 selector.register(self._in, selectors.EVENT_WRITE)
             ready = selector.select(left) if left > 0 else []
         if not ready:
-            raise NoAnswer("gave no answer in time")
+            raise OutOfTime("gave no answer in time")
         asked = unsaid
         for key, _ in ready:
             if key.fileobj is not self._out:

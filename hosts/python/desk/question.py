@@ -24,6 +24,7 @@ from desk.pieces import (
 )
 
 LEAST, MOST = -(2**31), 2**31 - 1
+LOGIC = "QF_NIA"  # whole numbers with products, and no quantifiers
 _ARITHMETIC = {1: "+", 2: "-", 3: "*"}
 _SIGNS = {**_ARITHMETIC, 4: "<", 5: "<=", 6: "=", 7: "distinct", 8: ">=", 9: ">", 10: "and", 11: "or"}
 _EQUAL, _UNEQUAL = 6, 7
@@ -72,7 +73,7 @@ class Question:
     @property
     def stated(self) -> str:
         """The cells, each within 32 bits, and the required parts, as commands."""
-        lines = ["(set-option :produce-models true)", "(set-logic ALL)"]
+        lines = ["(set-option :produce-models true)", f"(set-logic {LOGIC})"]
         for cell in self.cells:
             lines.append(f"(declare-const {cell.symbol} {cell.sort})")
             if cell.kind == Kind.INTEGER:

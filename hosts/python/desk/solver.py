@@ -11,12 +11,19 @@ import time
 from typing import Dict, List, Optional, Sequence, Tuple, Union
 
 from cordbasin import Kind
-from desk.dialogue import Answer, Dialogue, NoAnswer
-from desk.question import LEAST, MOST, Question
+from desk.dialogue import Answer, Dialogue, NoAnswer, OutOfTime
+from desk.question import LEAST, LOGIC, MOST, Question
 
 KNOWN = {"z3": ("-in", "-smt2"), "cvc5": ("--lang=smt2", "--incremental")}
 
-_PROBE = "(set-option :produce-models true)\n(set-logic ALL)\n(declare-const p Bool)\n(assert-soft p :weight 1 :id wish)\n(check-sat)\n"
+UNMET = "says that no change can meet the required parts"
+
+_PROBE = f"""(set-option :produce-models true)
+(set-logic {LOGIC})
+(declare-const p Bool)
+(assert-soft p :weight 1 :id wish)
+(check-sat)
+"""
 
 Model = Dict[int, Union[bool, int]]
 
@@ -49,10 +56,10 @@ class Solver:
         return Solver(typed, command, seconds, _has_soft(command, seconds))
 
     def propose(self, question: Question) -> Proposed:
-        """Asks for a proposal."""
-        end = time.monotonic() + self.seconds
+        """Asks for a proposal. With soft constraints the solver has half of its time, and the rest to try the wishes one by one."""
+        half, end = (time.monotonic() + share * self.seconds for share in (0.5, 1))
         try:
-            model = self._at_once(question, end) if self.soft else None
+            model = self._at_once(question, half) if self.soft else None
             if model is not None:
                 return Proposed(_words(question, model), "")
             return self._in_steps(question, end)
@@ -60,12 +67,14 @@ class Solver:
             return Proposed((), str(fault))
 
     def _at_once(self, question: Question, end: float) -> Optional[Model]:
-        """The model with all wishes as soft constraints, ranked by their order; none where the solver does not know one."""
+        """The model with all wishes as soft constraints, ranked by their order; none where the solver does not know one in time."""
         soft = "".join(f"(assert-soft {term} :weight 1 :id {rank})\n" for rank, term in question.wishes)
-        with Dialogue(self.command, end) as dialogue:
-            if _is_sat(dialogue.ask(question.stated + soft + "(check-sat)\n")):
-                return _model(dialogue, question)
-        return None
+        try:
+            with Dialogue(self.command, end) as dialogue:
+                is_sat = _is_sat(dialogue.ask(question.stated + soft + "(check-sat)\n"))
+                return _model(dialogue, question) if is_sat else None
+        except OutOfTime:
+            return None
 
     def _in_steps(self, question: Question, end: float) -> Proposed:
         """The model after the wishes were tried in order, each kept where the solver finds that it can be."""
@@ -115,7 +124,7 @@ def _has_soft(command: Sequence[str], seconds: float) -> bool:
 
 def _is_sat(answer: Answer) -> bool:
     if answer == "unsat":
-        raise NoAnswer("says that no change can meet the required parts")
+        raise NoAnswer(UNMET)
     return _is_met(answer)
 
 

@@ -35,7 +35,7 @@ class Terms(unittest.TestCase):
         self.assertEqual(told.required, (f"(and {fits} (= c64 (* 4 32)))",))
         self.assertEqual(told.wishes, [("keep", "(= c64 64)")])
         lines = told.stated.splitlines()
-        self.assertEqual(lines[:2], ["(set-option :produce-models true)", "(set-logic ALL)"])
+        self.assertEqual(lines[:2], ["(set-option :produce-models true)", "(set-logic QF_NIA)"])
         declared = ["(declare-const c64 Int)", f"(assert {FIT.format('c64')})", f"(assert {told.required[0]})"]
         self.assertEqual(lines[2:], declared)
 
