@@ -16,6 +16,7 @@ from desk.question import LEAST, LOGIC, MOST, Question
 
 KNOWN = {"z3": ("-in", "-smt2"), "cvc5": ("--lang=smt2", "--incremental")}
 
+ONE_BY_ONE = "could not weigh all wishes at once; they were tried one by one"
 UNMET = "says that no change can meet the required parts"
 
 _PROBE = f"""(set-option :produce-models true)
@@ -62,7 +63,8 @@ class Solver:
             model = self._at_once(question, half) if self.soft else None
             if model is not None:
                 return Proposed(_words(question, model), "")
-            return self._in_steps(question, end)
+            proposed = self._in_steps(question, end)
+            return dataclasses.replace(proposed, says=proposed.says or (ONE_BY_ONE if self.soft else ""))
         except NoAnswer as fault:
             return Proposed((), str(fault))
 

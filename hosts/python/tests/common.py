@@ -70,11 +70,16 @@ def readable(path: pathlib.Path) -> Optional[Program]:
     return None if is_refused else Program.read(path.read_bytes())
 
 
+def why_left_out(*solvers: str) -> str:
+    """Why a test that needs these solvers is left out; nothing where all of them are there."""
+    missing = [name for name in solvers if shutil.which(name) is None]
+    return f"left out: {' and '.join(missing)} {'is' if len(missing) == 1 else 'are'} not installed" if missing else ""
+
+
 def left_out(test: unittest.TestCase, *solvers: str) -> None:
     """Leaves a test out where a solver that it needs is missing."""
-    missing = [name for name in solvers if shutil.which(name) is None]
-    if missing:
-        test.skipTest(f"left out: {' and '.join(missing)} {'is' if len(missing) == 1 else 'are'} not installed")
+    if why_left_out(*solvers):
+        test.skipTest(why_left_out(*solvers))
 
 
 @contextlib.contextmanager
@@ -263,7 +268,8 @@ def unmet(tables: Tables) -> List[str]:
             ]
         if stated.word in tables.identities:
             sides = iter(words[stated.word + 1 : stated.end])
-            if _held(tables, sides) != _held(tables, sides):
+            left_side, right_side = _held(tables, sides), _held(tables, sides)
+            if left_side != right_side or isinstance(left_side, int):
                 told.append(f"identity at {stated.word}")
     return told
 

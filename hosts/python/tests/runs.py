@@ -18,14 +18,14 @@ from typing import Counter, Dict, List, Optional, Sequence, Set, Tuple, Union
 
 from cordbasin import Kind, Outcome, Program, Tables
 from cordbasin.tables import FIELDS, RECORD_WORDS, VARIABLES
-from desk.pieces import REQUIRED, path_at, parts_at
-from desk.question import Question, after_identities, holds, parts_due, target_location
+from desk.pieces import REQUIRED
+from desk.question import Question, after_identities, parts_due, target_location
 from desk.shown import as_json, closing, left_lines, step_lines
 from desk.solver import KNOWN, Proposed, Solver
 from desk.stepping import Desk, Step, TurnedDown
+from tests.common import ROOT, is_true, structure, unmet
 from tests.liar import LOCATIONS, SORTS, Real
 
-ROOT = pathlib.Path(__file__).resolve().parents[3]
 LIAR = pathlib.Path(__file__).with_name("liar.py")
 HONEST = [name for name in KNOWN if shutil.which(name)]
 SLOW = frozenset("silent drip busy deaf mute brackets unclosed rubbish forks turns".split())
@@ -231,7 +231,7 @@ def watched_steps(desk: Desk) -> List[Step]:
     before = desk.tables.copy()
     for step in desk.steps():
         steps.append(step)
-        look_at_tables(desk.tables)
+        assert not unmet(desk.tables), unmet(desk.tables)
         look_at_step(before, desk, step)
         before = desk.tables.copy()
     desk.replay()
@@ -240,20 +240,6 @@ def watched_steps(desk: Desk) -> List[Step]:
     assert all(line.isprintable() for line in shown), f"what is shown cannot be printed: {shown}"
     json.dumps(as_json(desk, steps))
     return steps
-
-
-def look_at_tables(tables: Tables) -> None:
-    """Every required part of what is kept holds, and every kept identity."""
-    for position in tables.kept:
-        for part in parts_at(tables.program, position):
-            assert part.priority != REQUIRED or holds(tables, part), f"{part.text} does not hold"
-    for position in tables.identities:
-        left, middle = path_at(tables.program, position + 1)
-        right, _ = path_at(tables.program, middle)
-        places = [tables.location(path.numbers) for path in (left, right)]
-        held = [tables.cell(place) for place in places if place is not None]
-        assert len(held) == 2 and held[0] == held[1], "an identity does not hold"
-        assert held[0][0] in (Kind.NIL, Kind.REFERENCE), "an identity holds a plain value"
 
 
 def look_at_step(before: Tables, desk: Desk, step: Step) -> None:
@@ -300,10 +286,10 @@ def judged(before: Tables, word: int, proposal: Sequence[int]) -> int:
         if not fits or payload == old or location == target:
             return 17
     due = parts_due(before, word)
-    if locations and all(holds(state, part) for part in due):
+    if locations and all(is_true(state, part.words) for part in due):
         return 18
     put(state, proposal)
-    return 0 if all(holds(state, part) for part in due if part.priority == REQUIRED) else 19
+    return 0 if all(is_true(state, part.words) for part in due if part.priority == REQUIRED) else 19
 
 
 def put(state: Tables, proposal: Sequence[int]) -> None:
@@ -325,14 +311,7 @@ def compare(desk: Desk, steps: Sequence[Step], honest: Alone, liars: Set[str]) -
     alike = tuple(step.statement.word for step in steps) == honest.words
     if alike and end[0] == honest.end[0] == Outcome.FINISHED:
         assert structure(desk.tables) == structure(honest.tables), "the structure differs"
-
-
-def structure(tables: Tables) -> List[object]:
-    """Records, labels, kinds and references, and what is kept."""
-    cells = [tables.cell(location) for location in range(LOCATIONS)]
-    shapes = [(kind, payload if kind == Kind.REFERENCE else None) for kind, payload in cells]
-    labels = [[label for label, _ in tables.fields(record)] for record in range(tables.records)]
-    return [shapes, labels, tables.kept, tables.identities]
+        assert desk.tables.constraints == honest.tables.constraints, "something else is kept"
 
 
 def tally(solver: Watched, steps: Sequence[Step]) -> Tally:

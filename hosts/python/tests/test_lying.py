@@ -18,12 +18,12 @@ from cordbasin import Kind
 from cordbasin.library import PLACE
 from desk.question import Cell, Question
 from desk.solver import KNOWN, Proposed, Solver, solvers
+from tests.common import ROOT
 from tests.liar import SORTS
 from tests.runs import (
     HONEST,
     LIAR,
     MARK,
-    ROOT,
     Lied,
     Report,
     Tally,

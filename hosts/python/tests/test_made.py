@@ -7,16 +7,14 @@ import hashlib
 import itertools
 import json
 import os
-import shutil
 import unittest
 from concurrent.futures import ThreadPoolExecutor
-from typing import Dict, List, Optional, Tuple
+from typing import Dict, List, Optional
 
-from cordbasin import Kind, Outcome, Program, Tables, Value
-from desk.pieces import REQUIRED, parts_at, path_at
-from desk.question import holds
+from cordbasin import Outcome, Program, Value
 from desk.shown import as_json, closing, left_lines, step_lines
 from desk.solver import Solver
+from tests.common import left_out, structure, unmet, why_left_out
 from tests.made import made
 from tests.ways import Carried, State, carried
 
@@ -24,12 +22,6 @@ COUNT = int(os.environ.get("CORDBASIN_MADE_SHEETS", "24"))
 SECONDS = 4.0
 TEXTS = "6d9971a2630c40d269840f40c133a5fe55e4c21116328e8aa51b283d74f29027"  # of the first 500 sheets
 WAYS = {"z3": ("z3",), "cvc5": ("cvc5",), "both": ("z3", "cvc5")}
-
-
-def left_out(*names: str) -> str:
-    """Why a test is left out; nothing where all of these solvers are there."""
-    missing = [name for name in names if shutil.which(name) is None]
-    return f"left out: {' and '.join(missing)} {'is' if len(missing) == 1 else 'are'} not installed" if missing else ""
 
 
 @functools.lru_cache(maxsize=None)
@@ -45,14 +37,6 @@ def runs(way: str) -> List[Carried]:
     programs = [Program.read(made(seed)) for seed in range(1, COUNT + 1)]
     with ThreadPoolExecutor(2) as pool:
         return list(pool.map(lambda program: carried(program, asked), programs))
-
-
-def shape(tables: Tables) -> List[Tuple[int, ...]]:
-    """What no proposal may change: labels, kinds, references, and what is kept."""
-    cells = [(location, *tables.cell(location)) for location in tables.locations()]
-    told: List[Tuple[int, ...]] = [cell if cell[1] == Kind.REFERENCE else cell[:2] for cell in cells]
-    labels = [tuple(label for label, _ in tables.fields(record)) for record in range(tables.records)]
-    return told + labels + [tuple(tables.constraints)]
 
 
 def payload(value: Value) -> int:
@@ -83,8 +67,7 @@ class OneWay(unittest.TestCase):
 
     def each(self, way: str) -> List[Carried]:
         """The runs of a way; the test is left out where a solver is missing."""
-        if left_out(*WAYS[way]):
-            self.skipTest(left_out(*WAYS[way]))
+        left_out(self, *WAYS[way])
         return runs(way)
 
     def every_step_keeps_what_is_required(self, way: str) -> None:
@@ -94,7 +77,7 @@ class OneWay(unittest.TestCase):
                 run.desk.replay()
                 self.account_is_true(run)
                 for tables in run.states:
-                    self.holds_all(tables)
+                    self.assertEqual(unmet(tables), [])
 
     def account_is_true(self, run: Carried) -> None:
         """What is shown tells of as many steps and proposals, and of the very changes, that there were."""
@@ -107,19 +90,6 @@ class OneWay(unittest.TestCase):
         self.assertTrue(left_lines(run.desk.tables) and closing(run.desk, run.steps))
         self.assertEqual(json.loads(json.dumps(as_json(run.desk, run.steps)))["proposals"], run.desk.accepted)
 
-    def holds_all(self, tables: Tables) -> None:
-        """Every required part and every identity that is kept holds."""
-        program = tables.program
-        for position in tables.kept:
-            for part in parts_at(program, position):
-                self.assertTrue(part.priority != REQUIRED or holds(tables, part), part.text)
-        for position in tables.identities:
-            left, middle = path_at(program, position + 1)
-            right, _ = path_at(program, middle)
-            places = [tables.location(path.numbers) for path in (left, right)]
-            cells = [tables.cell(place) for place in places if place is not None]
-            self.assertTrue(len(cells) == 2 and cells[0] == cells[1], program.spot(position))
-
     def test_by_z3(self) -> None:
         self.every_step_keeps_what_is_required("z3")
 
@@ -130,7 +100,7 @@ class OneWay(unittest.TestCase):
         self.every_step_keeps_what_is_required("both")
 
 
-@unittest.skipIf(left_out("z3", "cvc5"), left_out("z3", "cvc5"))
+@unittest.skipIf(why_left_out("z3", "cvc5"), why_left_out("z3", "cvc5"))
 class AllWays(unittest.TestCase):
     """What has to hold of the runs of one sheet beside each other."""
 
@@ -140,7 +110,8 @@ class AllWays(unittest.TestCase):
                 finished = a.desk.answer.outcome == b.desk.answer.outcome == Outcome.FINISHED
                 if finished and a.begun == b.begun:
                     with self.subTest(seed=seed, ways=(one, other)):
-                        self.assertEqual(shape(a.desk.tables), shape(b.desk.tables))
+                        self.assertEqual(structure(a.desk.tables), structure(b.desk.tables))
+                        self.assertEqual(a.desk.tables.constraints, b.desk.tables.constraints)
 
     def test_both_go_as_z3_goes_where_it_gets_through(self) -> None:
         for seed, (alone, both) in enumerate(zip(runs("z3"), runs("both")), 1):
