@@ -12,8 +12,8 @@ _NO_WORD = (Outcome.FINISHED, Outcome.WRONG_SIZE, Outcome.UNFIT_TABLE)
 
 
 @dataclasses.dataclass(frozen=True)
-class Answer:
-    """What a run gives back beside its tables. Prints with the typed line and a mark under the place."""
+class Ended:
+    """What a run and a list both give back beside their tables."""
 
     program: Program = dataclasses.field(repr=False)
     outcome: Outcome
@@ -21,6 +21,10 @@ class Answer:
     steps: int
     accepted: int
     unread: Tuple[int, ...]
+
+
+class Answer(Ended):
+    """What a run gives back. Prints with the typed line and a mark under the place."""
 
     @property
     def spot(self) -> Optional[Spot]:
@@ -35,16 +39,8 @@ class Answer:
         return shown_refusal(self.outcome, self.outcome.says, self.spot)
 
 
-@dataclasses.dataclass(frozen=True)
-class ListAnswer:
-    """What a list gives back beside its tables. From 5 on the place is the refused entry's index."""
-
-    program: Program = dataclasses.field(repr=False)
-    outcome: Outcome
-    place: int
-    steps: int
-    accepted: int
-    unread: Tuple[int, ...]
+class ListAnswer(Ended):
+    """What a list gives back. From 5 on the place is the refused entry's index."""
 
     def __str__(self) -> str:
         if self.outcome == Outcome.FINISHED:

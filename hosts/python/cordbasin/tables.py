@@ -80,11 +80,7 @@ class Tables:
     def __eq__(self, other: object) -> bool:
         if not isinstance(other, Tables):
             return NotImplemented
-        mine, theirs = (self.environment, self.heap, self.constraints), (
-            other.environment,
-            other.heap,
-            other.constraints,
-        )
+        mine, theirs = ([each.environment, each.heap, each.constraints] for each in (self, other))
         return mine == theirs
 
     def cell(self, location: int) -> Tuple[int, int]:

@@ -27,7 +27,7 @@ LEAST, MOST = -(2**31), 2**31 - 1
 LOGIC = "QF_NIA"  # whole numbers with products, and no quantifiers
 _ARITHMETIC = {1: "+", 2: "-", 3: "*"}
 _SIGNS = {**_ARITHMETIC, 4: "<", 5: "<=", 6: "=", 7: "distinct", 8: ">=", 9: ">", 10: "and", 11: "or"}
-_EQUAL, _UNEQUAL = 6, 7
+_EQUAL = 6
 
 
 @dataclasses.dataclass(frozen=True)
