@@ -357,10 +357,10 @@ def left_behind(mark: str) -> List[int]:
 def marked(mark: str) -> List[int]:
     """The processes that have the mark in the environment that they were started with. Where there is no /proc none is found."""
     entry, found = f"{MARK}={mark}".encode(), []
-    for place in pathlib.Path("/proc").glob("[0-9]*/environ"):
+    for name in os.listdir("/proc") if os.path.isdir("/proc") else []:
         try:
-            if entry in place.read_bytes().split(b"\0"):
-                found.append(int(place.parent.name))
+            if name.isdigit() and entry in pathlib.Path("/proc", name, "environ").read_bytes().split(b"\0"):
+                found.append(int(name))
         except OSError:
-            continue
+            continue  # it is gone, or is not ours to look at
     return found
