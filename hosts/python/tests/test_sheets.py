@@ -142,7 +142,7 @@ class Each:
                     self.assertTrue(all(step.solver or step.proposal in (None, (0,)) for step in steps))
 
         def test_programs_of_000(self) -> None:
-            """What 000 names is what the desk leaves. Where a sheet has a wrong proposal, no solver has a better one, but for test 7."""
+            """The desk leaves what the test's `.out` has. Where that has a wrong proposal, no solver has a better one, but for test 7."""
             for path in files("text", "000"):
                 with self.subTest(title(path)):
                     answer, tables = carried(path, self.names).desk.answer, carried(path, self.names).desk.tables
