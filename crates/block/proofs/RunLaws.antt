@@ -7,20 +7,20 @@ use native.Mathlib.Omega.{arith}
 use native.Mathlib.Numerals.{sub-one}
 use lib.IntN.{ℤ}
 use lib.ListN.{length, drop}
-use Rattle.words.specs.Words.{numberAt, last_of}
+use Rattle.words.specs.Words.{number_at, last_of}
 use Rattle.words.specs.Answer.{got, stop}
 use Rattle.words.proofs.AnswerLaws.{either}
 use Rattle.tables.specs.Cells.{cells}
 use Rattle.program.specs.declared.Piece.{Piece}
 use Rattle.program.specs.Told.{told}
-use Rattle.program.specs.Forms.{branch, loop, verbOf}
-use Rattle.program.specs.Reading.{readExpression, readBlock, readStatement, after}
+use Rattle.program.specs.Forms.{branch, loop, verb_of}
+use Rattle.program.specs.Reading.{read_expression, read_block, read_statement, after}
 use Rattle.program.proofs.LengthLaws.{Part, part-trans, after-part, uses-keeps, expression-uses, statement-uses, block-uses}
 use Rattle.program.proofs.RowLaws.{last-part, last-all, last-but-one}
 use Rattle.program.proofs.WhereLaws.{after_is}
 use Rattle.rules.specs.State.{State, Fault, Res}
 use Rattle.rules.specs.Statements.{position_of}
-use Rattle.rules.specs.Running.{Out, on, thenOut, paid, noted, test, tested, turns, pastTest, doVerb, doStatement, doStatements, doBlock}
+use Rattle.rules.specs.Running.{Out, on, then_out, paid, noted, test, tested, turns, past_test, do_verb, do_statement, do_statements, do_block}
 use Rattle.rules.specs.Running.{Tally as Carries}
 use Rattle.rules.proofs.RefusalLaws.{refusal-least, test-refuses}
 use Rattle.rules.proofs.RunningClauses.{tested-true, tested-false, tested-stop, turns_more}
@@ -32,8 +32,8 @@ use Rattle.expressions.specs.Judging.{tested_of}
 use Rattle.phases.specs.Told.{tables}
 use Rattle.statements.proofs.VerbLaws.{verb-is}
 use Rattle.lent.specs.declared.Tally.{Tally}
-use Rattle.lent.specs.Tallied.{carries, out_of, untoldOut, Runs, Begins, Goes, endedAt, paidBy}
-use Rattle.lent.specs.Lending.{holdsBlocks, oneStatement, Steps}
+use Rattle.lent.specs.Tallied.{carries, out_of, untold_out, Runs, Begins, Goes, ended_at, paid_by}
+use Rattle.lent.specs.Lending.{holds_blocks, one_statement, Steps}
 use Rattle.lent.proofs.TallyLaws.{halted, goes-from, goes_on, goes-ends, went_on, pay-one, pay-is, pay-goes}
 use Rattle.lent.proofs.LentLaws.{is-eight}
 use Rattle.lent.proofs.CodeClaims.{as-in-a-run}
@@ -49,19 +49,19 @@ pub lengths-then : {e₀ h₀ c₀ e h c e' h' c' : List ℤ} → SameLengths e�
 lengths-then a b = record { environment = b.environment ∙ a.environment; heap = b.heap ∙ a.heap; constraints = b.constraints ∙ a.constraints }
 
 -- the parts after the test, and after a block
-pub past-test : {r : Piece} (p : List ℤ) {q first : List ℤ} → q ≡ drop 1 p → r ≡ told (readExpression 16 false q) → first ≡ last_of r.left q → first ≡ pastTest p
-past-test p {q = q} k e l = rw (← k) (after_is (readExpression 16 false q) (after-part _ (uses-keeps (expression-uses 16 false q))) e l)
+pub past-test : {r : Piece} (p : List ℤ) {q first : List ℤ} → q ≡ drop 1 p → r ≡ told (read_expression 16 false q) → first ≡ last_of r.left q → first ≡ past_test p
+past-test p {q = q} k e l = rw (← k) (after_is (read_expression 16 false q) (after-part _ (uses-keeps (expression-uses 16 false q))) e l)
 
-pub past-block : {r : Piece} (d : ℕ) (p : List ℤ) {q : List ℤ} → r ≡ told (readBlock d p) → q ≡ last_of r.left p → q ≡ after (readBlock d p)
-past-block d p e l = after_is (readBlock d p) (after-part _ (uses-keeps (block-uses d p))) e l
+pub past-block : {r : Piece} (d : ℕ) (p : List ℤ) {q : List ℤ} → r ≡ told (read_block d p) → q ≡ last_of r.left p → q ≡ after (read_block d p)
+past-block d p e l = after_is (read_block d p) (after-part _ (uses-keeps (block-uses d p))) e l
 
 -- ---- a block
 
 module _ (program : List ℤ) (budget : ℕ) (p ws : List ℤ) (S : State) {t : Tally} (b : Begins ws t) {place : ℕ} (l : place ≡ position_of program p) where
-  pub block-deep : {r : Tally} (d : ℕ) → d ≡ 0 → r ≡ endedAt 2 place t → Goes ws t S r (doBlock d program budget p (carries ws S t))
+  pub block-deep : {r : Tally} (d : ℕ) → d ≡ 0 → r ≡ ended_at 2 place t → Goes ws t S r (do_block d program budget p (carries ws S t))
   block-deep d e k = goes-ends b (omega arith) (λ z. omega arith) k (rw (e, l, block_none program budget p (carries ws S t)))
 
-  pub block-long : {r : Tally} (d : ℕ) → (d ≡ 0 → ⊥) → 255 < numberAt p 0 → r ≡ endedAt 2 place t → Goes ws t S r (doBlock d program budget p (carries ws S t))
+  pub block-long : {r : Tally} (d : ℕ) → (d ≡ 0 → ⊥) → 255 < number_at p 0 → r ≡ ended_at 2 place t → Goes ws t S r (do_block d program budget p (carries ws S t))
   block-long zero ne h k = absurd (ne refl)
   block-long (suc d) ne h k = goes-ends b (omega arith) (λ z. omega arith) k (rw (l, block-unfit program budget p (carries ws S t) d h))
 
@@ -72,59 +72,59 @@ pub record Row (program p ws e₀ h₀ c₀ e h c : List ℤ) (budget d n : ℕ)
   pub begins : Begins ws u
   pub grows : t.steps ≤ u.steps
   pub rest :
-      untoldOut (doStatements (λ q v. doBlock (d - 1) program budget q v) (d - 1) program budget (n - i) (last_of left p) (carries ws (tables e h c) u))
-      ≡ untoldOut (doBlock d program budget p (carries ws (tables e₀ h₀ c₀) t))
+      untold_out (do_statements (λ q v. do_block (d - 1) program budget q v) (d - 1) program budget (n - i) (last_of left p) (carries ws (tables e h c) u))
+      ≡ untold_out (do_block d program budget p (carries ws (tables e₀ h₀ c₀) t))
 
-opened : (program : List ℤ) (budget : ℕ) (p : List ℤ) (t : Carries) (d : ℕ) → (d ≡ 0 → ⊥) → numberAt p 0 ≤ 255
-    → doStatements (λ q v. doBlock (d - 1) program budget q v) (d - 1) program budget (numberAt p 0) (drop 1 p) t ≡ doBlock d program budget p t
+opened : (program : List ℤ) (budget : ℕ) (p : List ℤ) (t : Carries) (d : ℕ) → (d ≡ 0 → ⊥) → number_at p 0 ≤ 255
+    → do_statements (λ q v. do_block (d - 1) program budget q v) (d - 1) program budget (number_at p 0) (drop 1 p) t ≡ do_block d program budget p t
 opened program budget p t zero ne h = absurd (ne refl)
 opened program budget p t (suc d) ne h = rw (sub-one (suc d)) (sym (block-is program budget p t d h))
 
-pub row-starts : {program p ws e h c : List ℤ} {budget d : ℕ} {t : Tally} → (d ≡ 0 → ⊥) → numberAt p 0 ≤ 255 → Begins ws t
-    → Row program p ws e h c e h c budget d (numberAt p 0) t t (length p - 1) 0
+pub row-starts : {program p ws e h c : List ℤ} {budget d : ℕ} {t : Tally} → (d ≡ 0 → ⊥) → number_at p 0 ≤ 255 → Begins ws t
+    → Row program p ws e h c e h c budget d (number_at p 0) t t (length p - 1) 0
 row-starts {program} {p} {ws} {e} {h} {c} {budget} {d} {t} ne k b =
-    let z : numberAt p 0 - 0 ≡ numberAt p 0 = omega arith in
+    let z : number_at p 0 - 0 ≡ number_at p 0 = omega arith in
     record {
       inside = omega arith;
       long = record { environment = refl; heap = refl; constraints = refl };
       begins = b;
       grows = omega arith;
-      rest = rw (z, last-but-one p) (ap untoldOut (opened program budget p (carries ws (tables e h c) t) d ne k));
+      rest = rw (z, last-but-one p) (ap untold_out (opened program budget p (carries ws (tables e h c) t) d ne k));
     }
 
 module _ {program p ws e₀ h₀ c₀ e h c : List ℤ} {budget d n : ℕ} {t u : Tally} {left i : ℕ} (inv : Row program p ws e₀ h₀ c₀ e h c budget d n t u left i) where
   module _ (more : i < n) {q : List ℤ} (is : q ≡ last_of left p) {e' h' c' : List ℤ} {r : Tally}
-      (g : Goes ws u (tables e' h' c') r (doStatement (λ s v. doBlock (d - 1) program budget s v) (λ s. after (readBlock (d - 1) s)) program budget q (carries ws (tables e h c) u)))
+      (g : Goes ws u (tables e' h' c') r (do_statement (λ s v. do_block (d - 1) program budget s v) (λ s. after (read_block (d - 1) s)) program budget q (carries ws (tables e h c) u)))
     where
       row-turn :
-          untoldOut (thenOut (out_of ws (tables e' h' c') r) λ v.
-          doStatements (λ s w. doBlock (d - 1) program budget s w) (d - 1) program budget (n - (i + 1)) (after (readStatement (d - 1) q)) v)
-          ≡ untoldOut (doBlock d program budget p (carries ws (tables e₀ h₀ c₀) t))
+          untold_out (then_out (out_of ws (tables e' h' c') r) λ v.
+          do_statements (λ s w. do_block (d - 1) program budget s w) (d - 1) program budget (n - (i + 1)) (after (read_statement (d - 1) q)) v)
+          ≡ untold_out (do_block d program budget p (carries ws (tables e₀ h₀ c₀) t))
       row-turn =
           let z : n - i ≡ suc (n - (i + 1)) = omega arith in
           rw g.runs.is
           (sym
-          (then-untold (statements-forget (λ s w. doBlock (d - 1) program budget s w) (block-forgets (d - 1) program budget) (d - 1) program budget (n - (i + 1)) (after (readStatement (d - 1) q)))
-          (doStatement (λ s w. doBlock (d - 1) program budget s w) (λ s. after (readBlock (d - 1) s)) program budget q (carries ws (tables e h c) u)))
-          ∙ (rw (z, ← is, statements-more (λ s w. doBlock (d - 1) program budget s w) (d - 1) program budget q (carries ws (tables e h c) u) (n - (i + 1))) at inv.rest))
+          (then-untold (statements-forget (λ s w. do_block (d - 1) program budget s w) (block-forgets (d - 1) program budget) (d - 1) program budget (n - (i + 1)) (after (read_statement (d - 1) q)))
+          (do_statement (λ s w. do_block (d - 1) program budget s w) (λ s. after (read_block (d - 1) s)) program budget q (carries ws (tables e h c) u)))
+          ∙ (rw (z, ← is, statements-more (λ s w. do_block (d - 1) program budget s w) (d - 1) program budget q (carries ws (tables e h c) u) (n - (i + 1))) at inv.rest))
 
-      pub row-halts : (r.outcome ≡ 0 → ⊥) → Goes ws t (tables e' h' c') r (doBlock d program budget p (carries ws (tables e₀ h₀ c₀) t))
+      pub row-halts : (r.outcome ≡ 0 → ⊥) → Goes ws t (tables e' h' c') r (do_block d program budget p (carries ws (tables e₀ h₀ c₀) t))
       row-halts k = goes-from g inv.grows (sym (halted ws (tables e' h' c') r _ k) ∙ row-turn)
 
       -- the last one is run
-      pub row-quits : r.outcome ≡ 0 → n ≤ i + 1 → Goes ws t (tables e' h' c') r (doBlock d program budget p (carries ws (tables e₀ h₀ c₀) t))
+      pub row-quits : r.outcome ≡ 0 → n ≤ i + 1 → Goes ws t (tables e' h' c') r (do_block d program budget p (carries ws (tables e₀ h₀ c₀) t))
       row-quits k l =
           let z : n - (i + 1) ≡ 0 = omega arith in
-          let y : untoldOut (doStatements (λ s v. doBlock (d - 1) program budget s v) (d - 1) program budget (n - (i + 1)) (after (readStatement (d - 1) q)) (carries ws (tables e' h' c') r))
-          ≡ untoldOut (doBlock d program budget p (carries ws (tables e₀ h₀ c₀) t)) = rw k at row-turn in
+          let y : untold_out (do_statements (λ s v. do_block (d - 1) program budget s v) (d - 1) program budget (n - (i + 1)) (after (read_statement (d - 1) q)) (carries ws (tables e' h' c') r))
+          ≡ untold_out (do_block d program budget p (carries ws (tables e₀ h₀ c₀) t)) = rw k at row-turn in
           goes_on (went_on g k) (omega (arith, inv.grows, g.grows))
-          (rw (z, statements-none (λ s v. doBlock (d - 1) program budget s v) (d - 1) program budget (after (readStatement (d - 1) q)) (carries ws (tables e' h' c') r)) at y)
+          (rw (z, statements-none (λ s v. do_block (d - 1) program budget s v) (d - 1) program budget (after (read_statement (d - 1) q)) (carries ws (tables e' h' c') r)) at y)
 
-      pub row-goes-on : {piece : Piece} → r.outcome ≡ 0 → piece ≡ told (readStatement (d - 1) q) → SameLengths e h c e' h' c'
+      pub row-goes-on : {piece : Piece} → r.outcome ≡ 0 → piece ≡ told (read_statement (d - 1) q) → SameLengths e h c e' h' c'
           → Row program p ws e₀ h₀ c₀ e' h' c' budget d n t r piece.left (i + 1)
       row-goes-on {piece = piece} k a s =
-          let part : Part p (after (readStatement (d - 1) q)) = part-trans (rw is (last-part left p)) (after-part _ (uses-keeps (statement-uses (d - 1) q))) in
-          let y : last_of piece.left p ≡ after (readStatement (d - 1) q) = after_is (readStatement (d - 1) q) part a refl in
+          let part : Part p (after (read_statement (d - 1) q)) = part-trans (rw is (last-part left p)) (after-part _ (uses-keeps (statement-uses (d - 1) q))) in
+          let y : last_of piece.left p ≡ after (read_statement (d - 1) q) = after_is (read_statement (d - 1) q) part a refl in
           record {
             inside = omega arith;
             long = lengths-then inv.long s;
@@ -133,11 +133,11 @@ module _ {program p ws e₀ h₀ c₀ e h c : List ℤ} {budget d n : ℕ} {t u 
             rest = rw y (rw k at row-turn);
           }
 
-  pub row_ends : n ≤ i → Goes ws t (tables e h c) u (doBlock d program budget p (carries ws (tables e₀ h₀ c₀) t))
+  pub row_ends : n ≤ i → Goes ws t (tables e h c) u (do_block d program budget p (carries ws (tables e₀ h₀ c₀) t))
   row_ends k =
       let z : n - i ≡ 0 = omega arith in
       goes_on inv.begins inv.grows
-      (rw (z, statements-none (λ q v. doBlock (d - 1) program budget q v) (d - 1) program budget (last_of left p) (carries ws (tables e h c) u)) at inv.rest)
+      (rw (z, statements-none (λ q v. do_block (d - 1) program budget q v) (d - 1) program budget (last_of left p) (carries ws (tables e h c) u)) at inv.rest)
 
 -- ---- how a test comes out
 
@@ -163,28 +163,28 @@ module _ {g : Tested} (m : Res Bool) (k : g ≡ tested_of m) where
 
 module _ (program : List ℤ) (budget : ℕ) (p ws : List ℤ) (S : State) (t : Tally) (d : ℕ) where
   abbrev If : Out
-  If = doVerb (λ q u. doBlock d program budget q u) (λ q. after (readBlock d q)) program budget p branch (carries ws S t)
+  If = do_verb (λ q u. do_block d program budget q u) (λ q. after (read_block d q)) program budget p branch (carries ws S t)
 
   module _ {q : List ℤ} (is : q ≡ drop 1 p) {g : Tested} (k : g ≡ tested_of (test S.cells q)) where
-    if-is : tested program (carries ws S t) (test S.cells q) (λ u. doBlock d program budget (pastTest p) u) (λ u. doBlock d program budget (after (readBlock d (pastTest p))) u) ≡ If
-    if-is = rw is (sym (verb-branch (λ r u. doBlock d program budget r u) (λ r. after (readBlock d r)) program budget p (carries ws S t)))
+    if-is : tested program (carries ws S t) (test S.cells q) (λ u. do_block d program budget (past_test p) u) (λ u. do_block d program budget (after (read_block d (past_test p))) u) ≡ If
+    if-is = rw is (sym (verb-branch (λ r u. do_block d program budget r u) (λ r. after (read_block d r)) program budget p (carries ws S t)))
 
-    pub if-refused : {number word place : ℕ} {r : Tally} → Begins ws t → place ≡ length program - word → g ≡ Fails number word → r ≡ endedAt number place t → Goes ws t S r If
+    pub if-refused : {number word place : ℕ} {r : Tally} → Begins ws t → place ≡ length program - word → g ≡ Fails number word → r ≡ ended_at number place t → Goes ws t S r If
     if-refused b l h x = is_stop (test S.cells q) k h λ f e n w.
-        goes-ends b (omega arith) (λ z. let y = refusal-least ((test-refuses S.cells q).bad f e) in omega arith) x (rw (l, ← n, ← w) (ap untoldOut (sym (tested-stop program (carries ws S t) f _ _) ∙ (rw e at if-is))))
+        goes-ends b (omega arith) (λ z. let y = refusal-least ((test-refuses S.cells q).bad f e) in omega arith) x (rw (l, ← n, ← w) (ap untold_out (sym (tested-stop program (carries ws S t) f _ _) ∙ (rw e at if-is))))
 
-    pub if-first : {Z : State} {r : Tally} {first : List ℤ} → g ≡ Is true → first ≡ pastTest p → Goes ws t Z r (doBlock d program budget first (carries ws S t)) → Goes ws t Z r If
+    pub if-first : {Z : State} {r : Tally} {first : List ℤ} → g ≡ Is true → first ≡ past_test p → Goes ws t Z r (do_block d program budget first (carries ws S t)) → Goes ws t Z r If
     if-first h l x =
         goes-from x (omega arith)
-        (x.runs.is ∙ rw l (sym ((block-forgets d program budget (pastTest p)).same (noted true (carries ws S t))))
-        ∙ ap untoldOut (sym (tested-true program (carries ws S t) _ _) ∙ (rw (is-got (test S.cells q) k h) at if-is)))
+        (x.runs.is ∙ rw l (sym ((block-forgets d program budget (past_test p)).same (noted true (carries ws S t))))
+        ∙ ap untold_out (sym (tested-true program (carries ws S t) _ _) ∙ (rw (is-got (test S.cells q) k h) at if-is)))
 
-    pub if-second : {Z : State} {r : Tally} {first second : List ℤ} → g ≡ Is false → first ≡ pastTest p → second ≡ after (readBlock d first)
-        → Goes ws t Z r (doBlock d program budget second (carries ws S t)) → Goes ws t Z r If
+    pub if-second : {Z : State} {r : Tally} {first second : List ℤ} → g ≡ Is false → first ≡ past_test p → second ≡ after (read_block d first)
+        → Goes ws t Z r (do_block d program budget second (carries ws S t)) → Goes ws t Z r If
     if-second h l a x =
         goes-from x (omega arith)
-        (x.runs.is ∙ rw (a, l) (sym ((block-forgets d program budget (after (readBlock d (pastTest p)))).same (noted false (carries ws S t))))
-        ∙ ap untoldOut (sym (tested-false program (carries ws S t) _ _) ∙ (rw (is-got (test S.cells q) k h) at if-is)))
+        (x.runs.is ∙ rw (a, l) (sym ((block-forgets d program budget (after (read_block d (past_test p)))).same (noted false (carries ws S t))))
+        ∙ ap untold_out (sym (tested-false program (carries ws S t) _ _) ∙ (rw (is-got (test S.cells q) k h) at if-is)))
 
 -- ---- a while: u is the tally at a test, and the rest gives the whole's answer
 
@@ -195,10 +195,10 @@ pub record Turning (program p ws e₀ h₀ c₀ e h c q body : List ℤ) (budget
   pub begins : Begins ws u
   pub grows : t.steps ≤ u.steps
   pub rest :
-      untoldOut (turns (λ v. doBlock d program budget body v) program budget place q fuel (carries ws (tables e h c) u))
-      ≡ untoldOut (doVerb (λ r v. doBlock d program budget r v) (λ r. after (readBlock d r)) program budget p loop (carries ws (tables e₀ h₀ c₀) t))
+      untold_out (turns (λ v. do_block d program budget body v) program budget place q fuel (carries ws (tables e h c) u))
+      ≡ untold_out (do_verb (λ r v. do_block d program budget r v) (λ r. after (read_block d r)) program budget p loop (carries ws (tables e₀ h₀ c₀) t))
 
-pub turning-starts : {program p ws e h c q body : List ℤ} {budget d place : ℕ} {t : Tally} → q ≡ drop 1 p → body ≡ pastTest p → place ≡ position_of program p → Begins ws t
+pub turning-starts : {program p ws e h c q body : List ℤ} {budget d place : ℕ} {t : Tally} → q ≡ drop 1 p → body ≡ past_test p → place ≡ position_of program p → Begins ws t
     → Turning program p ws e h c e h c q body budget d place t t
 turning-starts {program} {p} {ws} {e} {h} {c} {q} {body} {budget} {d} {place} {t} is a l b =
     record {
@@ -207,52 +207,52 @@ turning-starts {program} {p} {ws} {e} {h} {c} {q} {body} {budget} {d} {place} {t
       long = record { environment = refl; heap = refl; constraints = refl };
       begins = b;
       grows = omega arith;
-      rest = rw (is, a, l) (ap untoldOut (sym (verb-loop (λ r v. doBlock d program budget r v) (λ r. after (readBlock d r)) program budget p (carries ws (tables e h c) t))));
+      rest = rw (is, a, l) (ap untold_out (sym (verb-loop (λ r v. do_block d program budget r v) (λ r. after (read_block d r)) program budget p (carries ws (tables e h c) t))));
     }
 
 module _ {program p ws e₀ h₀ c₀ e h c q body : List ℤ} {budget d place : ℕ} {t u : Tally} (inv : Turning program p ws e₀ h₀ c₀ e h c q body budget d place t u)
     {g : Tested} (k : g ≡ tested_of (test (cells e h) q))
   where
     abbrev While : Out
-    While = doVerb (λ r v. doBlock d program budget r v) (λ r. after (readBlock d r)) program budget p loop (carries ws (tables e₀ h₀ c₀) t)
+    While = do_verb (λ r v. do_block d program budget r v) (λ r. after (read_block d r)) program budget p loop (carries ws (tables e₀ h₀ c₀) t)
 
     abbrev Later : Carries → Out
-    Later w = thenOut (paid budget place w) λ z. turns (λ v. doBlock d program budget body v) program budget place q (inv.fuel - 1) z
+    Later w = then_out (paid budget place w) λ z. turns (λ v. do_block d program budget body v) program budget place q (inv.fuel - 1) z
 
-    turn : untoldOut (tested program (carries ws (tables e h c) u) (test (cells e h) q) (λ v. thenOut (doBlock d program budget body v) Later) (λ v. on v)) ≡ untoldOut While
+    turn : untold_out (tested program (carries ws (tables e h c) u) (test (cells e h) q) (λ v. then_out (do_block d program budget body v) Later) (λ v. on v)) ≡ untold_out While
     turn =
         let z : inv.fuel ≡ suc (inv.fuel - 1) = omega (arith, inv.enough) in
-        ap untoldOut (sym (turns_more (λ v. doBlock d program budget body v) program budget place q (inv.fuel - 1) (carries ws (tables e h c) u)))
+        ap untold_out (sym (turns_more (λ v. do_block d program budget body v) program budget place q (inv.fuel - 1) (carries ws (tables e h c) u)))
         ∙ rw (← z) inv.rest
 
-    pub turning-refused : {number word place' : ℕ} {r : Tally} → place' ≡ length program - word → g ≡ Fails number word → r ≡ endedAt number place' u → Goes ws t (tables e h c) r While
+    pub turning-refused : {number word place' : ℕ} {r : Tally} → place' ≡ length program - word → g ≡ Fails number word → r ≡ ended_at number place' u → Goes ws t (tables e h c) r While
     turning-refused l a y = is_stop (test (cells e h) q) k a λ f x n w.
-        goes-ends inv.begins inv.grows (λ z. let m = refusal-least ((test-refuses (cells e h) q).bad f x) in omega arith) y (rw (l, ← n, ← w) (ap untoldOut (sym (tested-stop program (carries ws (tables e h c) u) f _ _)) ∙ (rw x at turn)))
+        goes-ends inv.begins inv.grows (λ z. let m = refusal-least ((test-refuses (cells e h) q).bad f x) in omega arith) y (rw (l, ← n, ← w) (ap untold_out (sym (tested-stop program (carries ws (tables e h c) u) f _ _)) ∙ (rw x at turn)))
 
     pub turning-quits : g ≡ Is false → Goes ws t (tables e h c) u While
     turning-quits a =
-        goes_on inv.begins inv.grows (ap untoldOut (sym (tested-false program (carries ws (tables e h c) u) _ _)) ∙ (rw (is-got (test (cells e h) q) k a) at turn))
+        goes_on inv.begins inv.grows (ap untold_out (sym (tested-false program (carries ws (tables e h c) u) _ _)) ∙ (rw (is-got (test (cells e h) q) k a) at turn))
 
-    module _ (a : g ≡ Is true) {e' h' c' : List ℤ} {r : Tally} (x : Goes ws u (tables e' h' c') r (doBlock d program budget body (carries ws (tables e h c) u))) where
-      turned : untoldOut (thenOut (out_of ws (tables e' h' c') r) Later) ≡ untoldOut While
+    module _ (a : g ≡ Is true) {e' h' c' : List ℤ} {r : Tally} (x : Goes ws u (tables e' h' c') r (do_block d program budget body (carries ws (tables e h c) u))) where
+      turned : untold_out (then_out (out_of ws (tables e' h' c') r) Later) ≡ untold_out While
       turned =
-          let f : Forgets (λ v. doBlock d program budget body v) = block-forgets d program budget body in
+          let f : Forgets (λ v. do_block d program budget body v) = block-forgets d program budget body in
           let y : Forgets Later = then-forgets (turns-forget f program budget place q (inv.fuel - 1)) (paid-forgets budget place) in
           rw x.runs.is
-          (sym (then-untold y (doBlock d program budget body (carries ws (tables e h c) u)))
+          (sym (then-untold y (do_block d program budget body (carries ws (tables e h c) u)))
           ∙ sym ((turn-forgets f program budget place q (inv.fuel - 1)).same (noted true (carries ws (tables e h c) u)))
-          ∙ ap untoldOut (sym (tested-true program (carries ws (tables e h c) u) _ _))
+          ∙ ap untold_out (sym (tested-true program (carries ws (tables e h c) u) _ _))
           ∙ (rw (is-got (test (cells e h) q) k a) at turn))
 
       pub turning-halts : (r.outcome ≡ 0 → ⊥) → Goes ws t (tables e' h' c') r While
       turning-halts y = goes-from x inv.grows (sym (halted ws (tables e' h' c') r Later y) ∙ turned)
 
       -- the next test is paid, or not: 5
-      module _ (y : r.outcome ≡ 0) {w : Tally} (l : w ≡ paidBy budget place r) where
+      module _ (y : r.outcome ≡ 0) {w : Tally} (l : w ≡ paid_by budget place r) where
         pays : Goes ws r (tables e' h' c') w (paid budget place (carries ws (tables e' h' c') r))
         pays = pay-goes budget place l (tables e' h' c') (went_on x y)
 
-        later : untoldOut (thenOut (out_of ws (tables e' h' c') w) λ z. turns (λ v. doBlock d program budget body v) program budget place q (inv.fuel - 1) z) ≡ untoldOut While
+        later : untold_out (then_out (out_of ws (tables e' h' c') w) λ z. turns (λ v. do_block d program budget body v) program budget place q (inv.fuel - 1) z) ≡ untold_out While
         later = rw (pay-is budget place l (tables e' h' c') (went_on x y)) (rw y at turned)
 
         pub turning-broke : (w.outcome ≡ 0 → ⊥) → Goes ws t (tables e' h' c') w While
@@ -278,42 +278,42 @@ module _ {program p ws e₀ h₀ c₀ e h c q body : List ℤ} {budget d place :
 
 module _ (program : List ℤ) (budget : ℕ) (p ws : List ℤ) (S : State) {t : Tally} (d : ℕ) (b : Begins ws t) where
   abbrev Statement : Out
-  Statement = doStatement (λ q u. doBlock d program budget q u) (λ q. after (readBlock d q)) program budget p (carries ws S t)
+  Statement = do_statement (λ q u. do_block d program budget q u) (λ q. after (read_block d q)) program budget p (carries ws S t)
 
   -- one that holds no block
-  pub statement-simple : {Z : State} {r : Tally} → false ≡ holdsBlocks (verbOf (numberAt p 0)) → Steps ws S Z t r (oneStatement program budget p (carries ws S t)) → Goes ws t Z r Statement
+  pub statement-simple : {Z : State} {r : Tally} → false ≡ holds_blocks (verb_of (number_at p 0)) → Steps ws S Z t r (one_statement program budget p (carries ws S t)) → Goes ws t Z r Statement
   statement-simple h g =
-      rw (as-in-a-run (λ q u. doBlock d program budget q u) (λ q. after (readBlock d q)) program budget p (carries ws S t) (sym h)) at (g.goes b)
+      rw (as-in-a-run (λ q u. do_block d program budget q u) (λ q. after (read_block d q)) program budget p (carries ws S t) (sym h)) at (g.goes b)
 
   -- one whose step is paid, or not: 5
-  module _ {place : ℕ} (l : place ≡ position_of program p) {u : Tally} (k : u ≡ paidBy budget place t) where
+  module _ {place : ℕ} (l : place ≡ position_of program p) {u : Tally} (k : u ≡ paid_by budget place t) where
     abbrev Verb : Carries → Out
-    Verb v = doVerb (λ q w. doBlock d program budget q w) (λ q. after (readBlock d q)) program budget p (verbOf (numberAt p 0)) v
+    Verb v = do_verb (λ q w. do_block d program budget q w) (λ q. after (read_block d q)) program budget p (verb_of (number_at p 0)) v
 
-    paid-then : thenOut (out_of ws S u) Verb ≡ Statement
+    paid-then : then_out (out_of ws S u) Verb ≡ Statement
     paid-then =
-        rw (statement-is (λ q w. doBlock d program budget q w) (λ q. after (readBlock d q)) program budget p (carries ws S t), ← l)
-        (ap (λ (o : Out). thenOut o Verb) (pay-is budget place k S b))
+        rw (statement-is (λ q w. do_block d program budget q w) (λ q. after (read_block d q)) program budget p (carries ws S t), ← l)
+        (ap (λ (o : Out). then_out o Verb) (pay-is budget place k S b))
 
     pub statement-begins : u.outcome ≡ 0 → Begins ws u
     statement-begins n = went_on (pay-goes budget place k S b) n
 
     pub statement-broke : (u.outcome ≡ 0 → ⊥) → Goes ws t S u Statement
-    statement-broke n = goes-from (pay-goes budget place k S b) (omega arith) (sym (halted ws S u Verb n) ∙ ap untoldOut paid-then)
+    statement-broke n = goes-from (pay-goes budget place k S b) (omega arith) (sym (halted ws S u Verb n) ∙ ap untold_out paid-then)
 
     module _ (n : u.outcome ≡ 0) {Z : State} {r : Tally} where
       statement-as : {o : Out} → Goes ws u Z r o → o ≡ Statement → Goes ws t Z r Statement
-      statement-as g e = goes-from g (pay-goes budget place k S b).grows (g.runs.is ∙ ap untoldOut e)
+      statement-as g e = goes-from g (pay-goes budget place k S b).grows (g.runs.is ∙ ap untold_out e)
 
-      pub statement-if : numberAt p 0 ≡ 7
-          → Goes ws u Z r (doVerb (λ q w. doBlock d program budget q w) (λ q. after (readBlock d q)) program budget p branch (carries ws S u))
+      pub statement-if : number_at p 0 ≡ 7
+          → Goes ws u Z r (do_verb (λ q w. do_block d program budget q w) (λ q. after (read_block d q)) program budget p branch (carries ws S u))
           → Goes ws t Z r Statement
       statement-if v g = statement-as g (rw (n, v, verb-is branch (omega arith)) at paid-then)
 
-      pub statement-while : true ≡ holdsBlocks (verbOf (numberAt p 0)) → (numberAt p 0 ≡ 7 → ⊥)
-          → Goes ws u Z r (doVerb (λ q w. doBlock d program budget q w) (λ q. after (readBlock d q)) program budget p loop (carries ws S u))
+      pub statement-while : true ≡ holds_blocks (verb_of (number_at p 0)) → (number_at p 0 ≡ 7 → ⊥)
+          → Goes ws u Z r (do_verb (λ q w. do_block d program budget q w) (λ q. after (read_block d q)) program budget p loop (carries ws S u))
           → Goes ws t Z r Statement
-      statement-while h v g = statement-as g (rw (n, is-eight (numberAt p 0) h v, verb-is loop (omega arith)) at paid-then)
+      statement-while h v g = statement-as g (rw (n, is-eight (number_at p 0) h v, verb-is loop (omega arith)) at paid-then)
 
 -- ---- the program's block
 
@@ -322,6 +322,6 @@ starts ws = record { few = omega arith; inside = omega arith; going = refl; nowh
 
 pub whole_is : (program ws : List ℤ) (budget : ℕ) (S : State) {Z : State} {r : Tally}
     → Goes ws (record { steps = 0; accepted = 0; unread = length ws; outcome = 0; place = 0 }) Z r
-    (doBlock 8 program budget program (carries ws S (record { steps = 0; accepted = 0; unread = length ws; outcome = 0; place = 0 })))
-    → Runs ws Z r (doBlock 8 program budget program (record { state = S; unread = ws; steps = 0; accepted = 0; tests = [] }))
+    (do_block 8 program budget program (carries ws S (record { steps = 0; accepted = 0; unread = length ws; outcome = 0; place = 0 })))
+    → Runs ws Z r (do_block 8 program budget program (record { state = S; unread = ws; steps = 0; accepted = 0; tests = [] }))
 whole_is program ws budget S g = rw (last-all ws) at g.runs

@@ -1,8 +1,8 @@
 // Statements that hold blocks, and the block: each calls the other, and the nesting left falls. A statement that holds no block is `lent::step`'s.
 ghost use Rattle.std.specs.Prelude.{[]};
-ghost use Rattle.program.specs.Reading.{readBlock, after};
+ghost use Rattle.program.specs.Reading.{read_block, after};
 ghost use Rattle.program.specs.Forms.{branch, loop};
-ghost use Rattle.rules.specs.Running.{doVerb, doStatement, doBlock};
+ghost use Rattle.rules.specs.Running.{do_verb, do_statement, do_block};
 ghost use Rattle.phases.specs.Told.{tables};
 ghost use Rattle.lent.specs.Tallied.{carries, Runs, Begins, Goes};
 
@@ -24,7 +24,7 @@ fn run_statement(
     t: Tally,
 ) -> Tally
     requires { Begins proposals.now t }
-    ensures { Goes proposals.now t (tables environment.new heap.new constraints.new) result (doStatement (λ q u. doBlock d program.now budget q u) (λ q. after (readBlock d q)) program.now budget p.now (carries proposals.now (tables environment.old heap.old constraints.old) t)) }
+    ensures { Goes proposals.now t (tables environment.new heap.new constraints.new) result (do_statement (λ q u. do_block d program.now budget q u) (λ q. after (read_block d q)) program.now budget p.now (carries proposals.now (tables environment.old heap.old constraints.old) t)) }
 {
     let verb = words::number_at(p, 0);
     if !lent::stepping::holds_blocks(verb) {
@@ -83,7 +83,7 @@ fn run_if(
     t: Tally,
 ) -> Tally
     requires { Begins proposals.now t }
-    ensures { Goes proposals.now t (tables environment.new heap.new constraints.new) result (doVerb (λ q u. doBlock d program.now budget q u) (λ q. after (readBlock d q)) program.now budget p.now branch (carries proposals.now (tables environment.old heap.old constraints.old) t)) }
+    ensures { Goes proposals.now t (tables environment.new heap.new constraints.new) result (do_verb (λ q u. do_block d program.now budget q u) (λ q. after (read_block d q)) program.now budget p.now branch (carries proposals.now (tables environment.old heap.old constraints.old) t)) }
 {
     let q = words::part_from(p, 1);
     let e = program::reading::read_expression(q, program::EXPRESSION_DEPTH, false);
@@ -135,7 +135,7 @@ fn run_while(
     t: Tally,
 ) -> Tally
     requires { Begins proposals.now t }
-    ensures { Goes proposals.now t (tables environment.new heap.new constraints.new) result (doVerb (λ q u. doBlock d program.now budget q u) (λ q. after (readBlock d q)) program.now budget p.now loop (carries proposals.now (tables environment.old heap.old constraints.old) t)) }
+    ensures { Goes proposals.now t (tables environment.new heap.new constraints.new) result (do_verb (λ q u. do_block d program.now budget q u) (λ q. after (read_block d q)) program.now budget p.now loop (carries proposals.now (tables environment.old heap.old constraints.old) t)) }
 {
     let q = words::part_from(p, 1);
     let e = program::reading::read_expression(q, program::EXPRESSION_DEPTH, false);
@@ -188,7 +188,7 @@ fn run_block(
     t: Tally,
 ) -> Tally
     requires { Begins proposals.now t }
-    ensures { Goes proposals.now t (tables environment.new heap.new constraints.new) result (doBlock d program.now budget p.now (carries proposals.now (tables environment.old heap.old constraints.old) t)) }
+    ensures { Goes proposals.now t (tables environment.new heap.new constraints.new) result (do_block d program.now budget p.now (carries proposals.now (tables environment.old heap.old constraints.old) t)) }
 {
     if d == 0 {
         return ended(t, 2, words::less(program.len(), p.len()));
@@ -236,7 +236,7 @@ pub fn run_all(
     proposals: &[i32],
     budget: usize,
 ) -> Tally
-    ensures { Runs proposals.now (tables environment.new heap.new constraints.new) result (doBlock 8 program.now budget program.now (record { state = (tables environment.old heap.old constraints.old); unread = proposals.now; steps = 0; accepted = 0; tests = [] })) }
+    ensures { Runs proposals.now (tables environment.new heap.new constraints.new) result (do_block 8 program.now budget program.now (record { state = (tables environment.old heap.old constraints.old); unread = proposals.now; steps = 0; accepted = 0; tests = [] })) }
 {
     let t = Tally {
         steps: 0,

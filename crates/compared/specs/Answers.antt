@@ -32,20 +32,20 @@ abbrev pub bit_of : Bool → ℤ
 bit_of b = cond b (pos 1) (pos 0)
 
 -- the location of the cell, and the words left
-abbrev pub namedWords : Named → Four
-namedWords (Cell l left) = four (pos 0) (word_of l) (word_of left) (pos 0)
-namedWords (Lost number word) = refusal number word
+abbrev pub named_words : Named → Four
+named_words (Cell l left) = four (pos 0) (word_of l) (word_of left) (pos 0)
+named_words (Lost number word) = refusal number word
 
 -- the value's kind and payload, and the words left
-abbrev pub evaluatedWords : Evaluated → Four
-evaluatedWords (Got v left) = four (pos 0) (cell_of v).kind (cell_of v).payload (word_of left)
-evaluatedWords (Fails number word) = refusal number word
+abbrev pub evaluated_words : Evaluated → Four
+evaluated_words (Got v left) = four (pos 0) (cell_of v).kind (cell_of v).payload (word_of left)
+evaluated_words (Fails number word) = refusal number word
 
-abbrev pub testedWords : Tested → Four
-testedWords (Is b) = four (pos 0) (bit_of b) (pos 0) (pos 0)
-testedWords (Untested number word) = refusal number word
+abbrev pub tested_words : Tested → Four
+tested_words (Is b) = four (pos 0) (bit_of b) (pos 0) (pos 0)
+tested_words (Untested number word) = refusal number word
 
 -- whether all parts are satisfied, and whether the required ones are
-abbrev pub weighedWords : Weighed → Four
-weighedWords (Reads all required) = four (pos 0) (bit_of all) (bit_of required) (pos 0)
-weighedWords (Unweighed number word) = refusal number word
+abbrev pub weighed_words : Weighed → Four
+weighed_words (Reads all required) = four (pos 0) (bit_of all) (bit_of required) (pos 0)
+weighed_words (Unweighed number word) = refusal number word

@@ -2,15 +2,15 @@
 ghost use Rattle.std.specs.Prelude.{◌≡◌};
 ghost use Rattle.tables.specs.Cells.{cells};
 ghost use Rattle.tables.specs.declared.Sort.TheVariants.{Values};
-ghost use Rattle.program.specs.Forms.{expressionDepth};
+ghost use Rattle.program.specs.Forms.{expression_depth};
 ghost use Rattle.rules.specs.State.{positions};
-ghost use Rattle.rules.specs.Paths.{wayAt};
+ghost use Rattle.rules.specs.Paths.{way_at};
 ghost use Rattle.rules.specs.Evaluation.{evaluate};
-ghost use Rattle.rules.specs.Constraints.{constraintAt, keptParts};
+ghost use Rattle.rules.specs.Constraints.{constraint_at, kept_parts};
 ghost use Rattle.rules.specs.Running.{test};
-ghost use Rattle.expressions.specs.Told.{named_of, evaluatedOf};
-ghost use Rattle.expressions.specs.Judging.{tested_of, weighedOf};
-ghost use Rattle.compared.specs.Answers.{four, stored, refusal, bit_of, namedWords, evaluatedWords, testedWords, weighedWords};
+ghost use Rattle.expressions.specs.Told.{named_of, evaluated_of};
+ghost use Rattle.expressions.specs.Judging.{tested_of, weighed_of};
+ghost use Rattle.compared.specs.Answers.{four, stored, refusal, bit_of, named_words, evaluated_words, tested_words, weighed_words};
 
 use expressions::{Evaluated, Named, Tested, Weighed};
 
@@ -39,7 +39,7 @@ fn bit(b: bool) -> i32
 
 // Stores how constraints come out.
 fn tell_weighed(answer: &mut [i32], w: Weighed)
-    ensures { answer.new ≡ stored answer.old (weighedWords w) }
+    ensures { answer.new ≡ stored answer.old (weighed_words w) }
 {
     match w {
         Weighed::Reads(all, required) => tell(answer, 0, bit(all), bit(required), 0),
@@ -50,7 +50,7 @@ fn tell_weighed(answer: &mut [i32], w: Weighed)
 // The cell that the L at p names, and the words left after it.
 #[unsafe(no_mangle)]
 pub extern "C" fn compared_path(environment: &[i32], heap: &[i32], p: &[i32], answer: &mut [i32])
-    ensures { answer.new ≡ stored answer.old (namedWords (named_of (wayAt (cells environment.now heap.now) p.now))) }
+    ensures { answer.new ≡ stored answer.old (named_words (named_of (way_at (cells environment.now heap.now) p.now))) }
 {
     match expressions::paths::cell_at(environment, heap, p) {
         Named::Cell(l, left) => tell(answer, 0, words::word_of(l), words::word_of(left), 0),
@@ -66,7 +66,7 @@ pub extern "C" fn compared_expression(
     p: &[i32],
     answer: &mut [i32],
 )
-    ensures { answer.new ≡ stored answer.old (evaluatedWords (evaluatedOf (evaluate expressionDepth (cells environment.now heap.now) p.now))) }
+    ensures { answer.new ≡ stored answer.old (evaluated_words (evaluated_of (evaluate expression_depth (cells environment.now heap.now) p.now))) }
 {
     match expressions::values::find_value(environment, heap, p) {
         Evaluated::Got(v, left) => {
@@ -80,7 +80,7 @@ pub extern "C" fn compared_expression(
 // The test of an if or while at p.
 #[unsafe(no_mangle)]
 pub extern "C" fn compared_test(environment: &[i32], heap: &[i32], p: &[i32], answer: &mut [i32])
-    ensures { answer.new ≡ stored answer.old (testedWords (tested_of (test (cells environment.now heap.now) p.now))) }
+    ensures { answer.new ≡ stored answer.old (tested_words (tested_of (test (cells environment.now heap.now) p.now))) }
 {
     match expressions::testing::test_at(environment, heap, p) {
         Tested::Is(b) => tell(answer, 0, bit(b), 0, 0),
@@ -91,7 +91,7 @@ pub extern "C" fn compared_test(environment: &[i32], heap: &[i32], p: &[i32], an
 // The C at p: whether all its parts, and whether all required ones, are satisfied.
 #[unsafe(no_mangle)]
 pub extern "C" fn compared_parts(environment: &[i32], heap: &[i32], p: &[i32], answer: &mut [i32])
-    ensures { answer.new ≡ stored answer.old (weighedWords (weighedOf (constraintAt (cells environment.now heap.now) p.now))) }
+    ensures { answer.new ≡ stored answer.old (weighed_words (weighed_of (constraint_at (cells environment.now heap.now) p.now))) }
 {
     tell_weighed(
         answer,
@@ -108,7 +108,7 @@ pub extern "C" fn compared_kept(
     constraints: &[i32],
     answer: &mut [i32],
 )
-    ensures { answer.new ≡ stored answer.old (weighedWords (weighedOf (keptParts program.now (cells environment.now heap.now) (positions constraints.now Values)))) }
+    ensures { answer.new ≡ stored answer.old (weighed_words (weighed_of (kept_parts program.now (cells environment.now heap.now) (positions constraints.now Values)))) }
 {
     tell_weighed(
         answer,

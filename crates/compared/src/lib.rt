@@ -2,10 +2,10 @@
 pub mod answers; // answers.rt: paths, expressions and constraints, in four words
 
 ghost use Rattle.std.specs.Prelude.{◌≡◌, cond};
-ghost use Rattle.program.specs.Told.{verdictOf};
-ghost use Rattle.program.specs.Reading.{readProgram};
-ghost use Rattle.program.specs.Where.{statementAt, constraintsStand};
-ghost use Rattle.compared.specs.Compared.{capped, verdictNumber, spotNumber};
+ghost use Rattle.program.specs.Told.{verdict_of};
+ghost use Rattle.program.specs.Reading.{read_program};
+ghost use Rattle.program.specs.Where.{statement_at, constraints_stand};
+ghost use Rattle.compared.specs.Compared.{capped, verdict_number, spot_number};
 
 use program::{Spot, Verdict};
 
@@ -19,7 +19,7 @@ fn cap(n: usize, most: usize) -> usize
 // 0 where the program reads, else 1 more than the place of its first unfit word.
 #[unsafe(no_mangle)]
 pub extern "C" fn compared_program(program: &[i32]) -> usize
-    ensures { result ≡ verdictNumber (verdictOf (readProgram program.now)) }
+    ensures { result ≡ verdict_number (verdict_of (read_program program.now)) }
 {
     match program::blocks::read_program(program) {
         Verdict::Reads => 0,
@@ -30,7 +30,7 @@ pub extern "C" fn compared_program(program: &[i32]) -> usize
 // 0 where no statement begins at this word, else 1 + 16 * verb + how deep its own blocks may nest.
 #[unsafe(no_mangle)]
 pub extern "C" fn compared_statement(program: &[i32], at: usize) -> usize
-    ensures { result ≡ spotNumber (statementAt program.now at) }
+    ensures { result ≡ spot_number (statement_at program.now at) }
 {
     match program::places::statement_at(program, at) {
         Spot::At(verb, nest) => 1 + 16 * cap(verb, 15) + cap(nest, 15),
@@ -41,7 +41,7 @@ pub extern "C" fn compared_statement(program: &[i32], at: usize) -> usize
 // 1 where the constraints table is fit for the program, else 0.
 #[unsafe(no_mangle)]
 pub extern "C" fn compared_constraints(program: &[i32], constraints: &[i32]) -> usize
-    ensures { result ≡ cond (constraintsStand program.now constraints.now) 1 0 }
+    ensures { result ≡ cond (constraints_stand program.now constraints.now) 1 0 }
 {
     if program::places::constraints_stand(program, constraints) {
         1

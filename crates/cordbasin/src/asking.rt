@@ -1,5 +1,5 @@
 // The call for two solvers on one statement.
-ghost use Rattle.rules.specs.Solvers.{ask as askBy};
+ghost use Rattle.rules.specs.Solvers.{ask as ask_by};
 ghost use Rattle.phases.specs.Told.{tables};
 ghost use Rattle.cordbasin.specs.Told.{Hands};
 
@@ -15,7 +15,7 @@ pub extern "C" fn cordbasin_ask<'a>(
     second: &'a [i32],
     answer: &mut [i32; 3],
 ) -> usize
-    ensures { Hands first.now second.now (tables environment.new heap.new constraints.new) answer.new result (askBy program.now word first.now second.now (tables environment.old heap.old constraints.old)) }
+    ensures { Hands first.now second.now (tables environment.new heap.new constraints.new) answer.new result (ask_by program.now word first.now second.now (tables environment.old heap.old constraints.old)) }
 {
     let accepted = solvers::whole::ask(
         program,

@@ -6,7 +6,7 @@ ghost use Rattle.std.specs.Prelude.{◌≡◌};
 ghost use Rattle.rules.specs.Start.{run as run_by};
 ghost use Rattle.phases.specs.Told.{tables};
 ghost use Rattle.text.specs.Whole.{answered, read as read_by};
-ghost use Rattle.printing.specs.Whole.{answered as answeredText, write as writeBy};
+ghost use Rattle.printing.specs.Whole.{answered as answered_text, write as write_by};
 ghost use Rattle.cordbasin.specs.Told.{Answers};
 
 // A run: the four words of the answer are outcome, place, steps and accepted proposals; it returns how many words of the proposals are unread.
@@ -57,7 +57,7 @@ pub extern "C" fn cordbasin_write(
     text: &mut [u8],
     answer: &mut [i32; 4],
 ) -> usize
-    ensures { answeredText text.new answer.new result ≡ writeBy program.now source.now names.now text.old }
+    ensures { answered_text text.new answer.new result ≡ write_by program.now source.now names.now text.old }
 {
     printing::whole::write(program, source, names, text, answer)
 }

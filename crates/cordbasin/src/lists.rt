@@ -1,5 +1,5 @@
 // The call for a list of entries.
-ghost use Rattle.rules.specs.Entries.{assigns as assignsBy};
+ghost use Rattle.rules.specs.Entries.{assigns as assigns_by};
 ghost use Rattle.phases.specs.Told.{tables};
 ghost use Rattle.cordbasin.specs.Told.{Answers};
 
@@ -15,7 +15,7 @@ pub extern "C" fn cordbasin_assign(
     budget: i32,
     answer: &mut [i32; 4],
 ) -> usize
-    ensures { Answers (tables environment.new heap.new constraints.new) answer.new result (assignsBy program.now entries.now proposals.now budget (tables environment.old heap.old constraints.old)) }
+    ensures { Answers (tables environment.new heap.new constraints.new) answer.new result (assigns_by program.now entries.now proposals.now budget (tables environment.old heap.old constraints.old)) }
 {
     let unread = entries::whole::assign(
         program,

@@ -12,7 +12,7 @@ pub every-answer : EveryAnswer
 every-answer program entries ws budget S Z a u m =
     let e = assigns program entries ws budget S in
     let f = entries-answers program entries ws budget S e ((entries-rules program entries ws budget S e).0 refl) in
-    rw (m.answers, m.leaves, m.hands-back)
+    rw (m.answers, m.leaves, m.hands_back)
     (record {
       four = refl;
       known = rw (outcome-is e) f.known;

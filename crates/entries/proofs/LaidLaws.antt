@@ -6,7 +6,7 @@ use native.Mathlib.Omega.{arith}
 use lib.IntN.{ℤ, pos}
 use lib.ListN.{length, take, set, get_or, length-set}
 use lib.Seq.{ext_get_or, get_or-take, get_or-set_same, length-take-le}
-use Rattle.words.specs.Words.{wordAt, copied}
+use Rattle.words.specs.Words.{word_at, copied}
 use Rattle.words.proofs.Laws.{length-copied, copied-in, copied-out}
 
 module _ (p : List ℤ) (n : ℕ) (s : List ℤ) (h : n ≤ length p) (k : n < length s) where

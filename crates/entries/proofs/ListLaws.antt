@@ -8,29 +8,29 @@ use native.Mathlib.Decide.{dec_lt}
 use lib.IntN.{ℤ, pos}
 use lib.ListN.{length, take, drop, length-append}
 use lib.Seq.{drop-drop, drop-length}
-use Rattle.words.specs.Words.{numberAt, last_of}
+use Rattle.words.specs.Words.{number_at, last_of}
 use Rattle.words.specs.Answer.{got, stop}
 use Rattle.words.proofs.AnswerLaws.{either}
 use Rattle.program.specs.declared.Piece.{Piece}
-use Rattle.program.specs.Forms.{assign, verbOf}
+use Rattle.program.specs.Forms.{assign, verb_of}
 use Rattle.program.specs.Told.{told}
 use Rattle.program.specs.Grammar.{Takes}
-use Rattle.program.specs.Reading.{readBlock, after}
+use Rattle.program.specs.Reading.{read_block, after}
 use Rattle.program.proofs.RowLaws.{last-length, last-all}
 use Rattle.rules.specs.State.{State}
-use Rattle.rules.specs.Statements.{Left, position_of, place_of, doAssign, doSimple}
-use Rattle.rules.specs.Running.{Out, on, end, thenOut, oneMore, leaves, paid, taken, doVerb, doStatement, doBlock}
+use Rattle.rules.specs.Statements.{Left, position_of, place_of, do_assign, do_simple}
+use Rattle.rules.specs.Running.{Out, on, end, then_out, one_more, leaves, paid, taken, do_verb, do_statement, do_block}
 use Rattle.rules.specs.Running.{Tally as Carries}
-use Rattle.rules.specs.Start.{Ended, givenBy, tallyFrom}
-use Rattle.rules.specs.Entries.{read_entry, assigning, doEntry, onwards, nextEntry, doEntries}
+use Rattle.rules.specs.Start.{Ended, given_by, tally_from}
+use Rattle.rules.specs.Entries.{read_entry, assigning, do_entry, onwards, next_entry, do_entries}
 use Rattle.rules.specs.Rules.Entries.{Entry}
 use Rattle.rules.proofs.RunningClauses.{is-assign, paid-on, paid-ends, taken-got, taken-stop, verb-simple, statement-is}
 use Rattle.rules.proofs.StatementClauses.{simple-assign}
 use Rattle.rules.proofs.EntryClauses.{entry-unpaid, entry-goes, entry-stops, onwards-on, onwards-end, next-unfit, next-got, entries_none, entries-open}
 use Rattle.rules.proofs.EntryWords.{entry-reads, entry-short, takes-shorter, takes-last, assigning-is, entry-verb}
 use Rattle.lent.specs.declared.Tally.{Tally}
-use Rattle.lent.specs.Tallied.{carries, out_of, untold, untoldOut, Begins, Goes, endedAt}
-use Rattle.lent.specs.Lending.{holdsBlocks, unlessBlocks, oneStatement}
+use Rattle.lent.specs.Tallied.{carries, out_of, untold, untold_out, Begins, Goes, ended_at}
+use Rattle.lent.specs.Lending.{holds_blocks, unless_blocks, one_statement}
 use Rattle.lent.proofs.TallyLaws.{ends_by, went_on}
 use Rattle.block.proofs.RunLaws.{SameLengths, lengths-then}
 use Rattle.entries.specs.Told.{given_of}
@@ -44,38 +44,38 @@ module _ (program : List ℤ) (budget : ℕ) {x : List ℤ} (e : Entry x) (T : C
   s = pos 1 ∷ x
 
   abbrev block : List ℤ → Carries → Out
-  block q u = doBlock 0 program budget q u
+  block q u = do_block 0 program budget q u
 
   abbrev past : List ℤ → List ℤ
-  past q = after (readBlock 0 q)
+  past q = after (read_block 0 q)
 
-  opens : oneStatement program budget s T ≡ thenOut (paid budget (position_of program s) T) (λ u. doVerb block past program budget s (verbOf (numberAt s 0)) u)
-  opens = rw (ap holdsBlocks (entry-verb e)) (statement-is block past program budget s T)
+  opens : one_statement program budget s T ≡ then_out (paid budget (position_of program s) T) (λ u. do_verb block past program budget s (verb_of (number_at s 0)) u)
+  opens = rw (ap holds_blocks (entry-verb e)) (statement-is block past program budget s T)
 
-  unpaid : budget ≤ T.steps → oneStatement program budget s T ≡ end 5 (position_of program s) T
+  unpaid : budget ≤ T.steps → one_statement program budget s T ≡ end 5 (position_of program s) T
   unpaid h = opens ∙ rw (paid-ends budget (position_of program s) T h)
 
-  paid-is : T.steps < budget → oneStatement program budget s T ≡ taken program (oneMore T) (doAssign program s T.state T.unread)
+  paid-is : T.steps < budget → one_statement program budget s T ≡ taken program (one_more T) (do_assign program s T.state T.unread)
   paid-is h =
       opens
       ∙ rw (paid-on budget (position_of program s) T h, entry-verb e)
-      (verb-simple block past program budget s (oneMore T) assign is-assign ∙ ap (λ m. taken program (oneMore T) m) (simple-assign program s T.state T.unread))
+      (verb-simple block past program budget s (one_more T) assign is-assign ∙ ap (λ m. taken program (one_more T) m) (simple-assign program s T.state T.unread))
 
 module _ (program : List ℤ) (budget i : ℕ) {x : List ℤ} (e : Entry x) (ws : List ℤ) (Z : State) (t : Tally) (more : Carries → Ended) where
   abbrev T : Carries
   T = carries ws Z t
 
-  pub as-entry : onwards more i (untoldOut (oneStatement program budget (pos 1 ∷ x) T)) ≡ onwards more i (doEntry program budget i (pos 1 ∷ x) T)
+  pub as-entry : onwards more i (untold_out (one_statement program budget (pos 1 ∷ x) T)) ≡ onwards more i (do_entry program budget i (pos 1 ∷ x) T)
   as-entry = go (dec_lt t.steps budget)
     where
-      go : Dec (t.steps < budget) → onwards more i (untoldOut (oneStatement program budget (pos 1 ∷ x) T)) ≡ onwards more i (doEntry program budget i (pos 1 ∷ x) T)
+      go : Dec (t.steps < budget) → onwards more i (untold_out (one_statement program budget (pos 1 ∷ x) T)) ≡ onwards more i (do_entry program budget i (pos 1 ∷ x) T)
       go (no n) =
           let h : budget ≤ t.steps = omega arith in
           rw (unpaid program budget e T h, entry-unpaid program budget i (pos 1 ∷ x) T h, onwards-end more i 5 (position_of program (pos 1 ∷ x)) T) (sym (onwards-end more i 5 i T))
       go (yes h) =
-          either (doAssign program (pos 1 ∷ x) Z (last_of t.unread ws))
-          (λ l q. rw (paid-is program budget e T h, q, taken-got program (oneMore T) l, entry-goes program budget i (pos 1 ∷ x) T h q))
-          (λ f q. rw (paid-is program budget e T h, q, taken-stop program (oneMore T) f, entry-stops program budget i (pos 1 ∷ x) T h q))
+          either (do_assign program (pos 1 ∷ x) Z (last_of t.unread ws))
+          (λ l q. rw (paid-is program budget e T h, q, taken-got program (one_more T) l, entry-goes program budget i (pos 1 ∷ x) T h q))
+          (λ f q. rw (paid-is program budget e T h, q, taken-stop program (one_more T) f, entry-stops program budget i (pos 1 ∷ x) T h q))
 
 -- ---- the loop
 
@@ -92,7 +92,7 @@ pub record Entering (program entries ws : List ℤ) (budget : ℕ) (S Z : State)
   pub inside : i + left ≤ length entries
   pub long : SameLengths S.cells.environment S.cells.heap S.kept Z.cells.environment Z.cells.heap Z.kept
   pub begins : Begins ws t
-  pub rest : doEntries fuel program budget i (last_of left entries) (carries ws Z t) ≡ doEntries (length entries) program budget 0 entries (tallyFrom S ws)
+  pub rest : do_entries fuel program budget i (last_of left entries) (carries ws Z t) ≡ do_entries (length entries) program budget 0 entries (tally_from S ws)
 
 pub starts : (program entries ws : List ℤ) (budget : ℕ) (S : State)
     → Entering program entries ws budget S S (record { steps = 0; accepted = 0; unread = length ws; outcome = 0; place = 0 }) (length entries) 0
@@ -107,12 +107,12 @@ starts program entries ws budget S = record {
 
 module _ {program entries ws : List ℤ} {budget : ℕ} {S Z : State} {t : Tally} {left i : ℕ} (inv : Entering program entries ws budget S Z t left i) where
   abbrev wanted : Ended
-  wanted = doEntries (length entries) program budget 0 entries (tallyFrom S ws)
+  wanted = do_entries (length entries) program budget 0 entries (tally_from S ws)
 
   abbrev next : List ℤ → Carries → Ended
-  next q u = doEntries (inv.fuel - 1) program budget (suc i) q u
+  next q u = do_entries (inv.fuel - 1) program budget (suc i) q u
 
-  pub ends-all : {r : Tally} → left ≤ 0 → r ≡ endedAt 0 i t → given_of ws Z r ≡ wanted
+  pub ends-all : {r : Tally} → left ≤ 0 → r ≡ ended_at 0 i t → given_of ws Z r ≡ wanted
   ends-all l e =
       let z : left ≡ 0 = omega arith in
       let k : length entries - 0 ≡ length entries = omega arith in
@@ -122,10 +122,10 @@ module _ {program entries ws : List ℤ} {budget : ℕ} {S Z : State} {t : Tally
     long : length p ≡ left
     long = rw here (last-length left entries (omega (arith, inv.inside)))
 
-    opened : nextEntry next program budget i p (carries ws Z t) ≡ wanted
+    opened : next_entry next program budget i p (carries ws Z t) ≡ wanted
     opened = sym (entries-open program budget inv.fuel i p (carries ws Z t) (omega (arith, inv.enough))) ∙ (rw (← here) at inv.rest)
 
-    pub ends-unfit : {piece : Piece} {r : Tally} → piece ≡ told (read_entry p) → piece.fits ≡ false → r ≡ endedAt 23 i t → given_of ws Z r ≡ wanted
+    pub ends-unfit : {piece : Piece} {r : Tally} → piece ≡ told (read_entry p) → piece.fits ≡ false → r ≡ ended_at 23 i t → given_of ws Z r ≡ wanted
     ends-unfit e h k =
         let x = not-read p e h in
         rw k (sym (next-unfit next program budget i (carries ws Z t) p (omega (arith, long)) x.1) ∙ opened)
@@ -147,18 +147,18 @@ module _ {program entries ws : List ℤ} {budget : ℕ} {S Z : State} {t : Tally
       statement : pos 1 ∷ take (left - piece.left) p ≡ pos 1 ∷ x.takes.words
       statement = rw (x.left, ← long) (assigning-is x.takes)
 
-      module _ {Y : State} {u : Tally} (g : Goes ws t Y u (oneStatement program budget (pos 1 ∷ take (left - piece.left) p) (carries ws Z t))) where
+      module _ {Y : State} {u : Tally} (g : Goes ws t Y u (one_statement program budget (pos 1 ∷ take (left - piece.left) p) (carries ws Z t))) where
         came : onwards (λ v. next x.q v) i (out_of ws Y u) ≡ wanted
         came =
             let s = x.takes in
-            let a : out_of ws Y u ≡ untoldOut (oneStatement program budget (pos 1 ∷ s.words) (carries ws Z t)) = g.runs.is ∙ ap (λ y. untoldOut (oneStatement program budget y (carries ws Z t))) statement in
+            let a : out_of ws Y u ≡ untold_out (one_statement program budget (pos 1 ∷ s.words) (carries ws Z t)) = g.runs.is ∙ ap (λ y. untold_out (one_statement program budget y (carries ws Z t))) statement in
             rw a
             (as-entry program budget i s.piece ws Z t (λ v. next x.q v)
-            ∙ ap (λ y. onwards (λ v. next x.q v) i (doEntry program budget i y (carries ws Z t))) (sym (assigning-is s))
+            ∙ ap (λ y. onwards (λ v. next x.q v) i (do_entry program budget i y (carries ws Z t))) (sym (assigning-is s))
             ∙ sym (next-got next program budget i (carries ws Z t) p x.q (omega (arith, long)) (entry-reads s))
             ∙ opened)
 
-        pub ends-refused : {r : Tally} → (u.outcome ≡ 0 → ⊥) → r ≡ endedAt u.outcome i u → given_of ws Y r ≡ wanted
+        pub ends-refused : {r : Tally} → (u.outcome ≡ 0 → ⊥) → r ≡ ended_at u.outcome i u → given_of ws Y r ≡ wanted
         ends-refused h k =
             rw k
             (sym (onwards-end (λ v. next x.q v) i u.outcome u.place (carries ws Y u))

@@ -6,33 +6,33 @@ use Prim.Native.Nat.{ℕ, ◌-◌, ◌≤◌, ◌<◌}
 use native.Mathlib.Omega.{arith}
 use lib.IntN.{ℤ}
 use lib.ListN.{length}
-use Rattle.words.specs.Words.{numberAt}
+use Rattle.words.specs.Words.{number_at}
 use Rattle.words.specs.Answer.{got, stop}
 use Rattle.words.proofs.AnswerLaws.{either}
 use Rattle.program.specs.declared.Piece.{Piece}
 use Rattle.program.specs.Told.{told}
 use Rattle.program.specs.Grammar.{Takes}
-use Rattle.program.specs.Reading.{readPath, readExpression}
+use Rattle.program.specs.Reading.{read_path, read_expression}
 use Rattle.rules.specs.Entries.{read_entry}
 use Rattle.rules.specs.Rules.Entries.{Entry}
 use Rattle.rules.proofs.EntryClauses.{entry-path, entry-low, entry-high, entry-literal}
 use Rattle.rules.proofs.EntryWords.{entry-sound}
 
 module _ (p : List ℤ) where
-  pub path-halts : {r : Piece} → r ≡ told (readPath p) → r.fits ≡ false → r ≡ told (read_entry p)
+  pub path-halts : {r : Piece} → r ≡ told (read_path p) → r.fits ≡ false → r ≡ told (read_entry p)
   path-halts {r} e h =
-      either {X = r ≡ told (read_entry p)} (readPath p)
+      either {X = r ≡ told (read_entry p)} (read_path p)
       (λ q x. absurd (true≢false (ap (λ (y : Piece). y.fits) (sym (e ∙ ap told x)) ∙ h)))
       (λ q x. e ∙ rw (x, entry-path p x))
 
-  module _ {q : List ℤ} (e : readPath p ≡ got q) where
-    pub form-low : numberAt q 0 < 20 → told (stop q) ≡ told (read_entry p)
+  module _ {q : List ℤ} (e : read_path p ≡ got q) where
+    pub form-low : number_at q 0 < 20 → told (stop q) ≡ told (read_entry p)
     form-low h = ap told (sym (entry-low p e h))
 
-    pub form-high : 23 < numberAt q 0 → told (stop q) ≡ told (read_entry p)
+    pub form-high : 23 < number_at q 0 → told (stop q) ≡ told (read_entry p)
     form-high h = ap told (sym (entry-high p e h))
 
-    pub form-literal : 20 ≤ numberAt q 0 → numberAt q 0 ≤ 23 → told (readExpression 1 false q) ≡ told (read_entry p)
+    pub form-literal : 20 ≤ number_at q 0 → number_at q 0 ≤ 23 → told (read_expression 1 false q) ≡ told (read_entry p)
     form-literal h k = ap told (sym (entry-literal p e h k))
 
 -- ---- what is told of an entry

@@ -9,8 +9,8 @@ use lib.ListN.{length}
 use Rattle.words.specs.Words.{number_of, word_of, last_of}
 use Rattle.words.specs.Answer.{got}
 use Rattle.rules.specs.State.{State}
-use Rattle.rules.specs.Start.{Ended, starts, givenBy, tallyFrom}
-use Rattle.rules.specs.Entries.{doEntries, assigns}
+use Rattle.rules.specs.Start.{Ended, starts, given_by, tally_from}
+use Rattle.rules.specs.Entries.{do_entries, assigns}
 use Rattle.rules.specs.Rules.Proposals.{Each, none, more}
 use Rattle.rules.specs.Rules.Entries.{Listed, unstarted, started}
 use Rattle.rules.specs.Claims.Entries.{Kept}
@@ -21,7 +21,7 @@ use Rattle.rules.proofs.EntrySteps.{numbers}
 use Rattle.lent.specs.declared.Tally.{Tally}
 use Rattle.run.specs.declared.Started.{Started}
 use Rattle.run.specs.declared.Started.TheVariants.{Early as Refused}
-use Rattle.run.specs.Told.{startedOf, Meets}
+use Rattle.run.specs.Told.{started_of, Meets}
 use Rattle.run.proofs.ExactLaws.{Exact, early-small}
 use Rattle.run.proofs.WholeLaws.{meets, refuses}
 use Rattle.entries.specs.Told.{given_of}
@@ -64,11 +64,11 @@ module _ (program entries ws : List ℤ) (budget : ℤ) (S : State) where
 
   -- ---- a list that did not begin, and one that did
 
-  pub meets-early : {h : Started} {outcome place : ℕ} {answer : List ℤ} → h ≡ startedOf (starts program budget S) → h ≡ Refused outcome place
+  pub meets-early : {h : Started} {outcome place : ℕ} {answer : List ℤ} → h ≡ started_of (starts program budget S) → h ≡ Refused outcome place
       → answer ≡ word_of outcome ∷ word_of place ∷ word_of 0 ∷ word_of 0 ∷ [] → Meets S answer ws (assigns program entries ws budget S)
-  meets-early {outcome = n} {place = k} e h a = meets exact (givenBy n k (tallyFrom S ws)) (assigns-early program entries ws budget S (refuses program budget S e h)) a refl refl
+  meets-early {outcome = n} {place = k} e h a = meets exact (given_by n k (tally_from S ws)) (assigns-early program entries ws budget S (refuses program budget S e h)) a refl refl
 
   pub meets-listed : {Z : State} (r : Tally) {answer : List ℤ} → starts program budget S ≡ got tt
-      → given_of ws Z r ≡ doEntries (length entries) program (number_of budget) 0 entries (tallyFrom S ws)
+      → given_of ws Z r ≡ do_entries (length entries) program (number_of budget) 0 entries (tally_from S ws)
       → answer ≡ word_of r.outcome ∷ word_of r.place ∷ word_of r.steps ∷ word_of r.accepted ∷ [] → Meets Z answer (last_of r.unread ws) (assigns program entries ws budget S)
   meets-listed {Z} r x e a = meets exact (given_of ws Z r) (assigns-go program entries ws budget S x ∙ sym e) a refl refl

@@ -1,11 +1,11 @@
 // The list: the start, and then its entries one by one, up to the first that is refused.
 ghost use Rattle.std.specs.Prelude.{◌≡◌, ◌∷◌, ◌≤◌, ◌<◌, pos, length, take};
-ghost use Rattle.rules.specs.Start.{tallyFrom};
-ghost use Rattle.rules.specs.Entries.{doEntries};
-ghost use Rattle.rules.specs.Entries.{assigns as assignsBy};
+ghost use Rattle.rules.specs.Start.{tally_from};
+ghost use Rattle.rules.specs.Entries.{do_entries};
+ghost use Rattle.rules.specs.Entries.{assigns as assigns_by};
 ghost use Rattle.phases.specs.Told.{tables};
 ghost use Rattle.lent.specs.Tallied.{carries, Begins, Goes};
-ghost use Rattle.lent.specs.Lending.{oneStatement};
+ghost use Rattle.lent.specs.Lending.{one_statement};
 ghost use Rattle.run.specs.Told.{Meets};
 ghost use Rattle.entries.specs.Told.{given_of};
 
@@ -31,7 +31,7 @@ fn enter(
     requires begins { Begins proposals.now t }
     requires n_in_bounds { n ≤ length p.now }
     requires n_bound { n < 12 }
-    ensures { Goes proposals.now t (tables environment.new heap.new constraints.new) result (oneStatement program.now budget (pos 1 ∷ take n p.now) (carries proposals.now (tables environment.old heap.old constraints.old) t)) }
+    ensures { Goes proposals.now t (tables environment.new heap.new constraints.new) result (one_statement program.now budget (pos 1 ∷ take n p.now) (carries proposals.now (tables environment.old heap.old constraints.old) t)) }
 {
     let mut s = [0i32; ASSIGNMENT_WORDS];
     words::store(&mut s, 0, 1);
@@ -58,7 +58,7 @@ fn enter_all(
     proposals: &[i32],
     budget: usize,
 ) -> Tally
-    ensures { given_of proposals.now (tables environment.new heap.new constraints.new) result ≡ doEntries (length entries.now) program.now budget 0 entries.now (tallyFrom (tables environment.old heap.old constraints.old) proposals.now) }
+    ensures { given_of proposals.now (tables environment.new heap.new constraints.new) result ≡ do_entries (length entries.now) program.now budget 0 entries.now (tally_from (tables environment.old heap.old constraints.old) proposals.now) }
 {
     let mut t = Tally {
         steps: 0,
@@ -107,7 +107,7 @@ pub fn assign<'a>(
     budget: i32,
     answer: &mut [i32; 4],
 ) -> &'a [i32]
-    ensures { Meets (tables environment.new heap.new constraints.new) answer.new result.now (assignsBy program.now entries.now proposals.now budget (tables environment.old heap.old constraints.old)) }
+    ensures { Meets (tables environment.new heap.new constraints.new) answer.new result.now (assigns_by program.now entries.now proposals.now budget (tables environment.old heap.old constraints.old)) }
 {
     match starts(program, environment, heap, constraints, budget) {
         Started::Early(outcome, place) => {

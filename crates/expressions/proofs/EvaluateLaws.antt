@@ -8,7 +8,7 @@ use borrow.Author.Tests.{ne_eqb, eqb-true}
 use lib.Dec.{eqb}
 use lib.IntN.{ℤ}
 use lib.ListN.{length, drop}
-use Rattle.words.specs.Words.{numberAt, last_of}
+use Rattle.words.specs.Words.{number_at, last_of}
 use Rattle.words.specs.Answer.{Answer, got, stop}
 use Rattle.words.proofs.AnswerLaws.{either}
 use Rattle.tables.specs.declared.Value.{Value}
@@ -24,42 +24,42 @@ use Rattle.rules.proofs.RefusalLaws.{refusal-least, evaluate-refuses, kind-refus
 use Rattle.expressions.specs.declared.Valued.{Valued}
 use Rattle.expressions.specs.declared.Row.{Row}
 use Rattle.expressions.specs.declared.Evaluated.TheVariants.{Got, Fails}
-use Rattle.expressions.specs.Told.{evaluatedOf}
-use Rattle.expressions.specs.Valuing.{known, unread, unknown, judgedOf, valueOnly, valuedAt, settledBy, Alone, Two, Rows}
+use Rattle.expressions.specs.Told.{evaluated_of}
+use Rattle.expressions.specs.Valuing.{known, unread, unknown, judged_of, value_only, valued_at, settled_by, Alone, Two, Rows}
 use Rattle.expressions.proofs.OperandLaws.{Reads, operand-reads, left-refused, right-refused, both-settled}
 
 -- a refusal is known by its number and its word
-judged-refused : (k : Res (Kind × List ℤ)) (m : Res (Value × List ℤ)) {a : Valued} → a ≡ judgedOf k m → (a.number ≡ 0 → ⊥) → unread a.number a.left ≡ judgedOf k m
+judged-refused : (k : Res (Kind × List ℤ)) (m : Res (Value × List ℤ)) {a : Valued} → a ≡ judged_of k m → (a.number ≡ 0 → ⊥) → unread a.number a.left ≡ judged_of k m
 judged-refused (got x) (got y) e h = absurd (h (ap (λ (j : Valued). j.number) e))
 judged-refused (got x) (stop f) e h = absurd (h (ap (λ (j : Valued). j.number) e))
 judged-refused (stop f) m e h = rw e
 
-value-refused : (m : Res (Value × List ℤ)) {a : Valued} → a ≡ valueOnly m → (a.number ≡ 0 → ⊥) → unread a.number a.left ≡ valueOnly m
+value-refused : (m : Res (Value × List ℤ)) {a : Valued} → a ≡ value_only m → (a.number ≡ 0 → ⊥) → unread a.number a.left ≡ value_only m
 value-refused (got x) e h = absurd (h (ap (λ (j : Valued). j.number) e))
 value-refused (stop f) e h = rw e
 
-pub valued-refused : (inside : Bool) (S : Cells) (d : ℕ) (p : List ℤ) {a : Valued} → a ≡ valuedAt inside d S p → (a.number ≡ 0 → ⊥) → unread a.number a.left ≡ valuedAt inside d S p
-unfolding valuedAt
+pub valued-refused : (inside : Bool) (S : Cells) (d : ℕ) (p : List ℤ) {a : Valued} → a ≡ valued_at inside d S p → (a.number ≡ 0 → ⊥) → unread a.number a.left ≡ valued_at inside d S p
+unfolding valued_at
 valued-refused true S d p e h = judged-refused (kind d S p) (evaluate d S p) e h
 valued-refused false S d p e h = value-refused (evaluate d S p) e h
 
 -- an operand that reads leaves no more words than there are
-judged-size : (S : Cells) (d : ℕ) (p : List ℤ) {a : Valued} → a ≡ judgedOf (kind d S p) (evaluate d S p) → a.number ≡ 0 → a.left ≤ length p
+judged-size : (S : Cells) (d : ℕ) (p : List ℤ) {a : Valued} → a ≡ judged_of (kind d S p) (evaluate d S p) → a.number ≡ 0 → a.left ≤ length p
 judged-size S d p {a} e h = either (kind d S p)
     (λ x k. by x (kind-part S d p x k).short (evaluate d S p) (rw k at e))
     (λ f k. absurd (let z : a.number ≡ f.number = ap (λ (j : Valued). j.number) (rw k at e) in omega (arith, refusal-least ((kind-refuses S d p).bad f k))))
   where
-    by : (x : Kind × List ℤ) → length x.1 ≤ length p → (m : Res (Value × List ℤ)) → a ≡ judgedOf (got x) m → a.left ≤ length p
+    by : (x : Kind × List ℤ) → length x.1 ≤ length p → (m : Res (Value × List ℤ)) → a ≡ judged_of (got x) m → a.left ≤ length p
     by x l (got y) i = rw (ap (λ (j : Valued). j.left) i) l
     by x l (stop f) i = rw (ap (λ (j : Valued). j.left) i) l
 
-value-size : (S : Cells) (d : ℕ) (p : List ℤ) {a : Valued} → a ≡ valueOnly (evaluate d S p) → a.number ≡ 0 → a.left ≤ length p
+value-size : (S : Cells) (d : ℕ) (p : List ℤ) {a : Valued} → a ≡ value_only (evaluate d S p) → a.number ≡ 0 → a.left ≤ length p
 value-size S d p {a} e h = either (evaluate d S p)
     (λ y k. let i : a ≡ known y.0 (length y.1) = rw k at e in rw (ap (λ (j : Valued). j.left) i) (evaluate-part S d p y k).short)
     (λ f k. absurd (let z : a.number ≡ f.number = ap (λ (j : Valued). j.number) (rw k at e) in omega (arith, refusal-least ((evaluate-refuses S d p).bad f k))))
 
-valued-size : (inside : Bool) (S : Cells) (d : ℕ) (p : List ℤ) {a : Valued} → a ≡ valuedAt inside d S p → a.number ≡ 0 → a.left ≤ length p
-unfolding valuedAt
+valued-size : (inside : Bool) (S : Cells) (d : ℕ) (p : List ℤ) {a : Valued} → a ≡ valued_at inside d S p → a.number ≡ 0 → a.left ≤ length p
+unfolding valued_at
 valued-size true S d p e h = judged-size S d p e h
 valued-size false S d p e h = value-size S d p e h
 
@@ -96,28 +96,28 @@ module _ {d : ℕ} {p : List ℤ} {row : Row} (rows : Rows d p row) (fine : row.
 
   module _ {inside : Bool} {S : Cells} {left : ℕ} {seen exact : Bool} {a : Value} (w : Walking inside S p row left seen exact a) {q : List ℤ} (l : q ≡ last_of left p) where
     -- where the operand has operands of its own, it is a level deeper
-    pub operand-falls : cond (eqb (numberAt q 0) 25) (row.depth + row.depth + 2) 0 < d + d + 1
+    pub operand-falls : cond (eqb (number_at q 0) 25) (row.depth + row.depth + 2) 0 < d + d + 1
     operand-falls = cases (eqb row.operator 0)
         (λ o.
         let z = eqb-true row.operator 0 o in
-        let n : numberAt q 0 ≡ 25 → ⊥ = rw (only w z l) (rows.alone fine z).none in
-        rw (ne_eqb (numberAt q 0) 25 n) (omega arith))
+        let n : number_at q 0 ≡ 25 → ⊥ = rw (only w z l) (rows.alone fine z).none in
+        rw (ne_eqb (number_at q 0) 25 n) (omega arith))
         (λ o.
         let t = rows.two fine (λ z. apart (rw z at o)) in
         let n : row.depth + row.depth + 2 < d + d + 1 = rw t.nest (omega (arith, t.deep)) in
-        cases (eqb (numberAt q 0) 25) (λ k. rw k n) (λ k. rw k (omega arith)))
+        cases (eqb (number_at q 0) 25) (λ k. rw k n) (λ k. rw k (omega arith)))
 
-    module _ {j : Valued} (e : j ≡ valuedAt inside row.depth S q) where
-      pub ends-alone : row.operator ≡ 0 → j ≡ valuedAt inside d S p
+    module _ {j : Valued} (e : j ≡ valued_at inside row.depth S q) where
+      pub ends-alone : row.operator ≡ 0 → j ≡ valued_at inside d S p
       ends-alone o = rw (only w o l, (rows.alone fine o).nest) at e
 
-      pub ends-refused : (j.number ≡ 0 → ⊥) → unread j.number j.left ≡ valuedAt inside d S p
+      pub ends-refused : (j.number ≡ 0 → ⊥) → unread j.number j.left ≡ valued_at inside d S p
       ends-refused h = cases (eqb row.operator 0)
           (λ o. valued-refused inside S d p (ends-alone (eqb-true row.operator 0 o)) h)
           (λ o.
           let n : row.operator ≡ 0 → ⊥ = λ z. apart (rw z at o) in
           let t = rows.two fine n in
-          let one : numberAt (drop 1 p) 0 ≡ 0 → ⊥ = λ z. n (t.operator ∙ z) in
+          let one : number_at (drop 1 p) 0 ≡ 0 → ⊥ = λ z. n (t.operator ∙ z) in
           cases seen
           (λ s.
           let r : Reads inside S (d - 1) (drop 1 (drop 1 p)) a exact q = rw (l, ← t.nest) (w.then s).reads in
@@ -125,10 +125,10 @@ module _ {d : ℕ} {p : List ℤ} {row : Row} (rows : Rows d p row) (fine : row.
           (λ s. left-refused S d p t.deep t.is one t.most inside (rw (left_one w s n l, t.nest) at e) h))
 
       module _ (reads : j.number ≡ 0) (o : row.operator ≡ 0 → ⊥) where
-        pub ends-settled : seen ≡ true → settledBy inside row.operator a j.value (exact && j.exact) j.left (length p) ≡ valuedAt inside d S p
+        pub ends-settled : seen ≡ true → settled_by inside row.operator a j.value (exact && j.exact) j.left (length p) ≡ valued_at inside d S p
         ends-settled s =
             let t = rows.two fine o in
-            let one : numberAt (drop 1 p) 0 ≡ 0 → ⊥ = λ z. o (t.operator ∙ z) in
+            let one : number_at (drop 1 p) 0 ≡ 0 → ⊥ = λ z. o (t.operator ∙ z) in
             let r : Reads inside S (d - 1) (drop 1 (drop 1 p)) a exact q = rw (l, ← t.nest) (w.then s).reads in
             let i : Part p q = rw l (last-part left p) in
             let y : Reads inside S (d - 1) q j.value j.exact (last_of j.left p) = rw (← t.nest) (operand-reads S row.depth q i inside e reads refl) in
@@ -143,17 +143,17 @@ module _ {d : ℕ} {p : List ℤ} {row : Row} (rows : Rows d p row) (fine : row.
 
 -- ---- outside C
 
-module _ (S : Cells) (d : ℕ) (p : List ℤ) {j : Valued} (e : j ≡ valuedAt false d S p) where
-  pub value-fails : (j.number ≡ 0 → ⊥) → Fails j.number j.left ≡ evaluatedOf (evaluate d S p)
-  unfolding valuedAt
+module _ (S : Cells) (d : ℕ) (p : List ℤ) {j : Valued} (e : j ≡ valued_at false d S p) where
+  pub value-fails : (j.number ≡ 0 → ⊥) → Fails j.number j.left ≡ evaluated_of (evaluate d S p)
+  unfolding valued_at
   value-fails h = by (evaluate d S p) e
     where
-      by : (m : Res (Value × List ℤ)) → j ≡ valueOnly m → Fails j.number j.left ≡ evaluatedOf m
+      by : (m : Res (Value × List ℤ)) → j ≡ value_only m → Fails j.number j.left ≡ evaluated_of m
       by (got x) i = absurd (h (ap (λ (a : Valued). a.number) i))
       by (stop f) i = rw i
 
-  pub value-comes : j.number ≡ 0 → Got j.value j.left ≡ evaluatedOf (evaluate d S p)
-  unfolding valuedAt
+  pub value-comes : j.number ≡ 0 → Got j.value j.left ≡ evaluated_of (evaluate d S p)
+  unfolding valued_at
   value-comes h = either (evaluate d S p)
       (λ x k. let i : j ≡ known x.0 (length x.1) = rw k at e in rw (k, i))
       (λ f k. absurd (let z : j.number ≡ f.number = ap (λ (a : Valued). a.number) (rw k at e) in omega (arith, refusal-least ((evaluate-refuses S d p).bad f k))))

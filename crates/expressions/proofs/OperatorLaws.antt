@@ -13,22 +13,22 @@ use Rattle.words.proofs.Laws.{ranged-is}
 use Rattle.tables.specs.declared.Value.{Value}
 use Rattle.tables.specs.declared.Value.TheVariants.{Nil, Bool as Truth, Int, Ref}
 use Rattle.tables.proofs.SearchLaws.{cases}
-use Rattle.rules.specs.Evaluation.{Kind, isNil, isBool, isInt, isRef, kind_of, an_int, aBool, theNil, takes, op_of, made, apply}
+use Rattle.rules.specs.Evaluation.{Kind, is_nil, is_bool, is_int, is_ref, kind_of, an_int, a_bool, the_nil, takes, op_of, made, apply}
 use Rattle.rules.specs.Evaluation.{ranged as in_range}
 use Rattle.rules.proofs.OperatorClauses.{ranged-is as in-range-is, apply-is, no-op, takes_none, made-0, made_none}
 use Rattle.expressions.specs.declared.Applied.{Applied}
-use Rattle.expressions.specs.Told.{kindNumber, kindFrom, appliedOf, rangedOf}
+use Rattle.expressions.specs.Told.{kind_number, kind_from, applied_of, ranged_of}
 
 -- kinds by their numbers
-pub nil-number : (n : ℕ) → eqb n 1 ≡ theNil (kindFrom n)
+pub nil-number : (n : ℕ) → eqb n 1 ≡ the_nil (kind_from n)
 nil-number n = cases (eqb n 1) (λ e. rw e) (λ e. cases (eqb n 2) (λ f. rw (e, f)) (λ f. cases (eqb n 3) (λ g. rw (e, f, g)) (λ g. rw (e, f, g))))
 
-pub bool-number : (n : ℕ) → eqb n 2 ≡ aBool (kindFrom n)
+pub bool-number : (n : ℕ) → eqb n 2 ≡ a_bool (kind_from n)
 bool-number n = cases (eqb n 1)
     (λ e. rw (e, eqb-true n 1 e))
     (λ e. cases (eqb n 2) (λ f. rw (e, f)) (λ f. cases (eqb n 3) (λ g. rw (e, f, g)) (λ g. rw (e, f, g))))
 
-pub int_number : (n : ℕ) → eqb n 3 ≡ an_int (kindFrom n)
+pub int_number : (n : ℕ) → eqb n 3 ≡ an_int (kind_from n)
 int_number n = cases (eqb n 1)
     (λ e. rw (e, eqb-true n 1 e))
     (λ e. cases (eqb n 2) (λ f. rw (e, f, eqb-true n 2 f)) (λ f. cases (eqb n 3) (λ g. rw (e, f, g)) (λ g. rw (e, f, g))))
@@ -43,21 +43,21 @@ one_number (suc (suc (suc (suc n)))) b =
     let m = suc (suc (suc (suc n))) in
     rw (le-ltb m 4 (omega arith), ne_eqb m 3 (λ e. omega (arith, e)), ne_eqb m 2 (λ e. omega (arith, e)), ne_eqb m 1 (λ e. omega (arith, e)), lt-ltb 0 m (omega arith))
 
-pub kind-back : (k : Kind) → kindFrom (kindNumber k) ≡ k
-kind-back isNil = refl
-kind-back isBool = refl
-kind-back isInt = refl
-kind-back isRef = refl
+pub kind-back : (k : Kind) → kind_from (kind_number k) ≡ k
+kind-back is_nil = refl
+kind-back is_bool = refl
+kind-back is_int = refl
+kind-back is_ref = refl
 
 -- a result in its range, or 9
-pub range-is : (z : ℤ) → rangedOf (ranged z) ≡ appliedOf (in_range z)
+pub range-is : (z : ℤ) → ranged_of (ranged z) ≡ applied_of (in_range z)
 range-is z = rw (ranged-is z, in-range-is z) (by (fits z))
   where
-    by : (b : Bool) → rangedOf (cond b (Within z) Outside) ≡ appliedOf (want 9 b >> got (Int z))
+    by : (b : Bool) → ranged_of (cond b (Within z) Outside) ≡ applied_of (want 9 b >> got (Int z))
     by true = refl
     by false = refl
 
 -- a number that is none of the operators
-pub made_other : (o : ℕ) (a b : Value) → (1 ≤ o → 11 < o) → record { number = 8; value = Nil } ≡ appliedOf (made (op_of o) a b)
+pub made_other : (o : ℕ) (a b : Value) → (1 ≤ o → 11 < o) → record { number = 8; value = Nil } ≡ applied_of (made (op_of o) a b)
 made_other zero a b h = rw (made-0 a b)
 made_other (suc o) a b h = rw (made_none a b (suc o) (h (omega arith)))

@@ -3,8 +3,8 @@ ghost use Rattle.std.specs.Prelude.{◌≡◌, length};
 ghost use Rattle.tables.specs.Cells.{cells};
 ghost use Rattle.tables.specs.declared.Sort.TheVariants.{Values};
 ghost use Rattle.rules.specs.State.{positions};
-ghost use Rattle.rules.specs.Constraints.{part_at, parts_at, constraintAt, keptParts, ownParts, counted};
-ghost use Rattle.expressions.specs.Judging.{ratedOf, ratedBy, weighedOf, partsOnly, own_of};
+ghost use Rattle.rules.specs.Constraints.{part_at, parts_at, constraint_at, kept_parts, own_parts, counted};
+ghost use Rattle.expressions.specs.Judging.{rated_of, rated_by, weighed_of, parts_only, own_of};
 
 use super::operators::{bool_of, kind};
 use super::values::evaluate_at;
@@ -13,7 +13,7 @@ use tables::Sort;
 
 // A part of this priority whose expression is judged: 8 at the part's first word where it is no boolean. Arithmetic that leaves 32 bits is unsatisfied.
 fn rated(priority: usize, j: Valued, word: usize) -> Rated
-    ensures { result ≡ ratedBy priority j word }
+    ensures { result ≡ rated_by priority j word }
 {
     if j.number != 0 {
         return Rated::Fails(j.number, j.left);
@@ -27,7 +27,7 @@ fn rated(priority: usize, j: Valued, word: usize) -> Rated
 
 // The part of C at p: priority and e.
 pub fn part_at(environment: &[i32], heap: &[i32], p: &[i32]) -> Rated
-    ensures { result ≡ ratedOf (part_at (cells environment.now heap.now) p.now) }
+    ensures { result ≡ rated_of (part_at (cells environment.now heap.now) p.now) }
 {
     let priority = words::number_at(p, 0);
     if priority == 0 {
@@ -46,7 +46,7 @@ pub fn part_at(environment: &[i32], heap: &[i32], p: &[i32]) -> Rated
 
 // m parts in a row, at p.
 fn parts_at(environment: &[i32], heap: &[i32], p: &[i32], m: usize) -> Weighed
-    ensures { result ≡ weighedOf (partsOnly (parts_at m (cells environment.now heap.now) p.now)) }
+    ensures { result ≡ weighed_of (parts_only (parts_at m (cells environment.now heap.now) p.now)) }
 {
     let mut left = p.len();
     let mut all = true;
@@ -70,7 +70,7 @@ fn parts_at(environment: &[i32], heap: &[i32], p: &[i32], m: usize) -> Weighed
 
 // The C at p: m, m parts.
 pub fn constraint_at(environment: &[i32], heap: &[i32], p: &[i32]) -> Weighed
-    ensures { result ≡ weighedOf (constraintAt (cells environment.now heap.now) p.now) }
+    ensures { result ≡ weighed_of (constraint_at (cells environment.now heap.now) p.now) }
 {
     let m = words::number_at(p, 0);
     if m == 0 {
@@ -84,7 +84,7 @@ pub fn constraint_at(environment: &[i32], heap: &[i32], p: &[i32]) -> Weighed
 
 // All kept value constraints of the program, in kept order; 15 with the word at fault where one does not read.
 pub fn kept_at(program: &[i32], environment: &[i32], heap: &[i32], constraints: &[i32]) -> Weighed
-    ensures { result ≡ weighedOf (keptParts program.now (cells environment.now heap.now) (positions constraints.now Values)) }
+    ensures { result ≡ weighed_of (kept_parts program.now (cells environment.now heap.now) (positions constraints.now Values)) }
 {
     let n = tables::kept::kept_count(constraints, Sort::Values);
     let mut all = true;
@@ -111,7 +111,7 @@ pub fn kept_at(program: &[i32], environment: &[i32], heap: &[i32], constraints: 
 
 // A statement's own C, at own, if it has one.
 fn own_at(environment: &[i32], heap: &[i32], own: &[i32], owns: bool) -> Weighed
-    ensures { result ≡ weighedOf (ownParts (cells environment.now heap.now) (own_of owns own.now)) }
+    ensures { result ≡ weighed_of (own_parts (cells environment.now heap.now) (own_of owns own.now)) }
 {
     if !owns {
         return Weighed::Reads(true, true);
@@ -128,7 +128,7 @@ pub fn counted_at(
     own: &[i32],
     owns: bool,
 ) -> Weighed
-    ensures { result ≡ weighedOf (counted program.now constraints.now (own_of owns own.now) (cells environment.now heap.now)) }
+    ensures { result ≡ weighed_of (counted program.now constraints.now (own_of owns own.now) (cells environment.now heap.now)) }
 {
     match own_at(environment, heap, own, owns) {
         Weighed::Fails(n, w) => Weighed::Fails(n, w),

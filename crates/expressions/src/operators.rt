@@ -1,7 +1,7 @@
 // The operators: the kinds that they take, and what they make of two values. A kind is told by its number: 1 nil, 2 boolean, 3 integer, 4 reference.
 ghost use Rattle.std.specs.Prelude.{◌≡◌};
-ghost use Rattle.rules.specs.Evaluation.{kind_of, int_of, boolOf, same, comparable, takes, made, op_of};
-ghost use Rattle.expressions.specs.Told.{kindNumber, kindFrom, does, rangedOf, appliedOf};
+ghost use Rattle.rules.specs.Evaluation.{kind_of, int_of, bool_of, same, comparable, takes, made, op_of};
+ghost use Rattle.expressions.specs.Told.{kind_number, kind_from, does, ranged_of, applied_of};
 
 use crate::Applied;
 use tables::Value;
@@ -9,7 +9,7 @@ use words::Ranged;
 
 // The number of a value's kind.
 pub fn kind(v: Value) -> usize
-    ensures { result ≡ kindNumber (kind_of v) }
+    ensures { result ≡ kind_number (kind_of v) }
 {
     match v {
         Value::Nil => 1,
@@ -33,7 +33,7 @@ pub fn int_of(v: Value) -> i32
 
 // A boolean, false for any other value.
 pub fn bool_of(v: Value) -> bool
-    ensures { result ≡ boolOf v }
+    ensures { result ≡ bool_of v }
 {
     match v {
         Value::Nil => false,
@@ -54,14 +54,14 @@ pub fn are_same(a: Value, b: Value) -> bool
 
 // Two of one kind, and no references: two nils, two booleans or two integers.
 fn are_comparable(a: usize, b: usize) -> bool
-    ensures { result ≡ comparable (kindFrom a) (kindFrom b) }
+    ensures { result ≡ comparable (kind_from a) (kind_from b) }
 {
     (0 < a) & (a < 4) & (b == a)
 }
 
 // Whether operator o takes operands of these kinds.
 pub fn takes_kinds(o: usize, a: usize, b: usize) -> bool
-    ensures { result ≡ takes (op_of o) (kindFrom a) (kindFrom b) }
+    ensures { result ≡ takes (op_of o) (kind_from a) (kind_from b) }
 {
     if o == 0 {
         return false;
@@ -82,7 +82,7 @@ pub fn takes_kinds(o: usize, a: usize, b: usize) -> bool
 
 // A result that must be a word: 9 where it is none.
 fn in_range(r: Ranged) -> Applied
-    ensures { result ≡ rangedOf r }
+    ensures { result ≡ ranged_of r }
 {
     match r {
         Ranged::Within(n) => Applied {
@@ -107,7 +107,7 @@ fn truth(b: bool) -> Applied
 
 // What operator o makes of two values whose kinds it takes.
 pub fn make(o: usize, a: Value, b: Value) -> Applied
-    ensures { result ≡ appliedOf (made (op_of o) a b) }
+    ensures { result ≡ applied_of (made (op_of o) a b) }
 {
     match o {
         1 => in_range(words::plus(int_of(a), int_of(b))),

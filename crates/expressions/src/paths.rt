@@ -1,16 +1,16 @@
 // The cell that an L names.
 ghost use Rattle.std.specs.Prelude.{◌≡◌};
 ghost use Rattle.tables.specs.Cells.{cells};
-ghost use Rattle.rules.specs.Paths.{value_at, wayAt};
-ghost use Rattle.expressions.specs.Told.{evaluatedOf, named_of};
-ghost use Rattle.expressions.specs.Following.{stepTo, landed};
+ghost use Rattle.rules.specs.Paths.{value_at, way_at};
+ghost use Rattle.expressions.specs.Told.{evaluated_of, named_of};
+ghost use Rattle.expressions.specs.Following.{step_to, landed};
 
 use crate::{Evaluated, Named};
 use tables::{Found, Slot, Value};
 
 // The cell that one label leads to from the cell l.
 pub fn step(environment: &[i32], heap: &[i32], l: usize, label: usize) -> Found
-    ensures { result ≡ stepTo (cells environment.now heap.now) l label }
+    ensures { result ≡ step_to (cells environment.now heap.now) l label }
 {
     let slot = tables::cells::slot_of(tables::cells::read_cell(environment, heap, l));
     let Slot::Has(v) = slot else {
@@ -46,7 +46,7 @@ fn land(environment: &[i32], heap: &[i32], n: usize, l: usize, p: &[i32]) -> Fou
 
 // The cell that the L at p names, and the words left after it.
 pub fn cell_at(environment: &[i32], heap: &[i32], p: &[i32]) -> Named
-    ensures { result ≡ named_of (wayAt (cells environment.now heap.now) p.now) }
+    ensures { result ≡ named_of (way_at (cells environment.now heap.now) p.now) }
 {
     let x = words::number_at(p, 0);
     if tables::VARIABLES <= x {
@@ -66,7 +66,7 @@ pub fn cell_at(environment: &[i32], heap: &[i32], p: &[i32]) -> Named
 
 // The value that the L at p names, by the cell that it names.
 pub fn value_at(environment: &[i32], heap: &[i32], p: &[i32]) -> Evaluated
-    ensures { result ≡ evaluatedOf (value_at (cells environment.now heap.now) p.now) }
+    ensures { result ≡ evaluated_of (value_at (cells environment.now heap.now) p.now) }
 {
     match cell_at(environment, heap, p) {
         Named::Cell(l, left) => {

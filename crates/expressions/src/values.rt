@@ -1,13 +1,13 @@
 // What an expression comes to, outside C and inside it.
 ghost use Rattle.std.specs.Prelude.{◌≡◌, ◌≤◌};
-ghost use Rattle.words.specs.Words.{numberAt};
+ghost use Rattle.words.specs.Words.{number_at};
 ghost use Rattle.tables.specs.Cells.{cells};
 ghost use Rattle.rules.specs.Paths.{value_at};
 ghost use Rattle.rules.specs.Evaluation.{evaluate, op_of};
-ghost use Rattle.rules.specs.Evaluation.{gives as kindGiven};
-ghost use Rattle.expressions.specs.Told.{evaluatedOf};
-ghost use Rattle.expressions.specs.Following.{landed, slotIn};
-ghost use Rattle.expressions.specs.Valuing.{known, unread, unknown, valueOnly, valuedAt, literalOf, identityOf, LeafIs, settledBy, Rows};
+ghost use Rattle.rules.specs.Evaluation.{gives as kind_given};
+ghost use Rattle.expressions.specs.Told.{evaluated_of};
+ghost use Rattle.expressions.specs.Following.{landed, slot_in};
+ghost use Rattle.expressions.specs.Valuing.{known, unread, unknown, value_only, valued_at, literal_of, identity_of, LeafIs, settled_by, Rows};
 
 use super::operators::{are_same, kind, make, takes_kinds};
 use super::paths::value_at;
@@ -40,7 +40,7 @@ fn refuses(number: usize, word: usize) -> Valued
 
 // A literal, whose word is the first of q.
 fn literal(q: &[i32]) -> Valued
-    ensures { result ≡ valueOnly (literalOf q.now) }
+    ensures { result ≡ value_only (literal_of q.now) }
 {
     if q.len() == 0 {
         return refuses(2, 0);
@@ -50,7 +50,7 @@ fn literal(q: &[i32]) -> Valued
 
 // What is found n labels, at p, from the variable x on; each cell on the way is read once.
 fn find(environment: &[i32], heap: &[i32], n: usize, x: usize, p: &[i32]) -> Slot
-    ensures { result ≡ slotIn (cells environment.now heap.now) (landed (cells environment.now heap.now) n x p.now) }
+    ensures { result ≡ slot_in (cells environment.now heap.now) (landed (cells environment.now heap.now) n x p.now) }
 {
     let mut c = tables::cells::read_cell(environment, heap, x);
     let mut i: usize = 0;
@@ -73,7 +73,7 @@ fn find(environment: &[i32], heap: &[i32], n: usize, x: usize, p: &[i32]) -> Slo
 
 // The value that the L at q leads to.
 fn path(environment: &[i32], heap: &[i32], q: &[i32]) -> Valued
-    ensures { result ≡ valueOnly (value_at (cells environment.now heap.now) q.now) }
+    ensures { result ≡ value_only (value_at (cells environment.now heap.now) q.now) }
 {
     let x = words::number_at(q, 0);
     if tables::VARIABLES <= x {
@@ -93,7 +93,7 @@ fn path(environment: &[i32], heap: &[i32], q: &[i32]) -> Valued
 
 // L == L, whose two paths begin at q.
 fn identity(environment: &[i32], heap: &[i32], q: &[i32]) -> Valued
-    ensures { result ≡ valueOnly (identityOf (cells environment.now heap.now) q.now) }
+    ensures { result ≡ value_only (identity_of (cells environment.now heap.now) q.now) }
 {
     match value_at(environment, heap, q) {
         Evaluated::Got(a, left) => match value_at(environment, heap, words::part_last(q, left)) {
@@ -106,8 +106,8 @@ fn identity(environment: &[i32], heap: &[i32], q: &[i32]) -> Valued
 
 // The expression at p, which has no operator.
 fn leaf(environment: &[i32], heap: &[i32], p: &[i32], form: usize, inside: bool) -> Valued
-    requires form_value { form ≡ numberAt p.now 0 }
-    requires fact { numberAt p.now 0 ≡ 25 → ⊥ }
+    requires form_value { form ≡ number_at p.now 0 }
+    requires fact { number_at p.now 0 ≡ 25 → ⊥ }
     ensures { LeafIs inside (cells environment.now heap.now) p.now result }
 {
     let q = words::part_from(p, 1);
@@ -131,7 +131,7 @@ fn leaf(environment: &[i32], heap: &[i32], p: &[i32], form: usize, inside: bool)
 fn stands_in(o: usize, left: usize) -> Valued
     requires le_o { 1 ≤ o }
     requires o_bound { o ≤ 11 }
-    ensures { result ≡ unknown (kindGiven (op_of o)) left }
+    ensures { result ≡ unknown (kind_given (op_of o)) left }
 {
     if o <= 3 {
         return Valued {
@@ -161,7 +161,7 @@ fn settled(
 ) -> Valued
     requires le_o { 1 ≤ o }
     requires o_bound { o ≤ 11 }
-    ensures { result ≡ settledBy inside o a b exact left word }
+    ensures { result ≡ settled_by inside o a b exact left word }
 {
     if !takes_kinds(o, kind(a), kind(b)) {
         return refuses(8, word);
@@ -224,7 +224,7 @@ fn row_at(p: &[i32], d: usize) -> Row
 // The operand at p, nested at most d deep. One that has no operator is answered here.
 #[cycle(evaluate_at_operand)]
 fn operand(environment: &[i32], heap: &[i32], p: &[i32], d: usize, inside: bool) -> Valued
-    ensures { result ≡ valuedAt inside d (cells environment.now heap.now) p.now }
+    ensures { result ≡ valued_at inside d (cells environment.now heap.now) p.now }
 {
     if d == 0 {
         return refuses(2, p.len());
@@ -246,7 +246,7 @@ fn operand(environment: &[i32], heap: &[i32], p: &[i32], d: usize, inside: bool)
 // What the expression at p comes to, nested at most d deep, inside C or outside it. Its operands are evaluated one after the other, left first.
 #[cycle(evaluate_at_operand)]
 pub fn evaluate_at(environment: &[i32], heap: &[i32], p: &[i32], d: usize, inside: bool) -> Valued
-    ensures { result ≡ valuedAt inside d (cells environment.now heap.now) p.now }
+    ensures { result ≡ valued_at inside d (cells environment.now heap.now) p.now }
 {
     let row = row_at(p, d);
     if row.number != 0 {
@@ -283,7 +283,7 @@ pub fn evaluate_at(environment: &[i32], heap: &[i32], p: &[i32], d: usize, insid
 
 // The value of the expression at p, and the words left after it; or the refusal and its word.
 pub fn find_value(environment: &[i32], heap: &[i32], p: &[i32]) -> Evaluated
-    ensures { result ≡ evaluatedOf (evaluate 16 (cells environment.now heap.now) p.now) }
+    ensures { result ≡ evaluated_of (evaluate 16 (cells environment.now heap.now) p.now) }
 {
     let j = evaluate_at(environment, heap, p, program::EXPRESSION_DEPTH, false);
     if j.number != 0 {

@@ -1,8 +1,8 @@
 // Which tables are fit.
 // Nothing here asks anything of its caller; each function is defined for tables of any length and content.
 ghost use Rattle.std.specs.Prelude.{◌≡◌};
-ghost use Rattle.words.specs.Words.{wordAt};
-ghost use Rattle.fit.specs.Fit.{sized, cellFits, environmentFits, labelFits, fieldFits, placeFits, recordFits, heapFits, positionFits, sortFits, constraintsFit};
+ghost use Rattle.words.specs.Words.{word_at};
+ghost use Rattle.fit.specs.Fit.{sized, cell_fits, environment_fits, label_fits, field_fits, place_fits, record_fits, heap_fits, position_fits, sort_fits, constraints_fit};
 
 use tables::{Cell, Sort};
 
@@ -21,7 +21,7 @@ pub fn are_sized(environment: &[i32], heap: &[i32], constraints: &[i32]) -> bool
 
 // A kind, and a payload that it allows, where the heap has this count word.
 pub fn cell_fits(count: i32, c: Cell) -> bool
-    ensures { result ≡ cellFits count c }
+    ensures { result ≡ cell_fits count c }
 {
     let kind = words::number(c.kind);
     let payload = c.payload;
@@ -37,7 +37,7 @@ pub fn cell_fits(count: i32, c: Cell) -> bool
 
 // The variables, where the heap is this one. Fresh ones are passed at once.
 pub fn environment_fits(environment: &[i32], heap: &[i32]) -> bool
-    ensures { result ≡ environmentFits (wordAt heap.now 0) environment.now }
+    ensures { result ≡ environment_fits (word_at heap.now 0) environment.now }
 {
     if tables::cells::is_clear(environment) {
         return true;
@@ -57,7 +57,7 @@ pub fn environment_fits(environment: &[i32], heap: &[i32]) -> bool
 
 // The label of field place f of record r is in its range and none before it is the same.
 fn label_fits(heap: &[i32], r: usize, f: usize) -> bool
-    ensures { result ≡ labelFits heap.now r f }
+    ensures { result ≡ label_fits heap.now r f }
 {
     let label = tables::records::label_at(heap, r, f);
     if tables::LABELS <= label {
@@ -74,7 +74,7 @@ fn label_fits(heap: &[i32], r: usize, f: usize) -> bool
 }
 
 fn field_fits(heap: &[i32], r: usize, f: usize) -> bool
-    ensures { result ≡ fieldFits heap.now r f }
+    ensures { result ≡ field_fits heap.now r f }
 {
     if !label_fits(heap, r, f) {
         return false;
@@ -88,7 +88,7 @@ fn field_fits(heap: &[i32], r: usize, f: usize) -> bool
 
 // Field place f of record r, where the record has n fields.
 fn place_fits(heap: &[i32], r: usize, f: usize, n: usize) -> bool
-    ensures { result ≡ placeFits heap.now r n f }
+    ensures { result ≡ place_fits heap.now r n f }
 {
     if f < n {
         return field_fits(heap, r, f);
@@ -97,7 +97,7 @@ fn place_fits(heap: &[i32], r: usize, f: usize, n: usize) -> bool
 }
 
 fn record_fits(heap: &[i32], r: usize) -> bool
-    ensures { result ≡ recordFits heap.now r }
+    ensures { result ≡ record_fits heap.now r }
 {
     let n = tables::records::count_at(heap, r);
     if tables::FIELDS < n {
@@ -115,7 +115,7 @@ fn record_fits(heap: &[i32], r: usize) -> bool
 
 // The records that the heap counts, then zeros.
 pub fn heap_fits(heap: &[i32]) -> bool
-    ensures { result ≡ heapFits heap.now }
+    ensures { result ≡ heap_fits heap.now }
 {
     let n = tables::records::record_count(heap);
     if tables::RECORDS < n {
@@ -133,7 +133,7 @@ pub fn heap_fits(heap: &[i32]) -> bool
 
 // The kept position number i of a sort is a number, and none before it is the same.
 fn position_fits(constraints: &[i32], s: Sort, i: usize) -> bool
-    ensures { result ≡ positionFits constraints.now s i }
+    ensures { result ≡ position_fits constraints.now s i }
 {
     let position = tables::kept::position_at(constraints, s, i);
     if 2147483648 <= position {
@@ -151,7 +151,7 @@ fn position_fits(constraints: &[i32], s: Sort, i: usize) -> bool
 
 // The positions that the sort counts, then zeros.
 fn sort_fits(constraints: &[i32], s: Sort) -> bool
-    ensures { result ≡ sortFits constraints.now s }
+    ensures { result ≡ sort_fits constraints.now s }
 {
     let n = tables::kept::count_at(constraints, s);
     if tables::kept::most_kept(s) < n {
@@ -169,7 +169,7 @@ fn sort_fits(constraints: &[i32], s: Sort) -> bool
 
 // The constraints' counts, their unused words, and that no position occurs twice.
 pub fn constraints_fit(constraints: &[i32]) -> bool
-    ensures { result ≡ constraintsFit constraints.now }
+    ensures { result ≡ constraints_fit constraints.now }
 {
     if !sort_fits(constraints, Sort::Values) {
         return false;

@@ -6,34 +6,34 @@ use Prim.Native.Nat.{ℕ, zero, suc, ◌≤◌}
 use native.Mathlib.Decide.{ℕ_discrete, dec_le}
 use lib.IntN.{ℤ}
 use lib.ListN.{length}
-use Rattle.words.specs.Words.{numberAt, last_of}
-use Rattle.program.specs.Forms.{verbOf}
-use Rattle.program.specs.Reading.{readBlock, after}
+use Rattle.words.specs.Words.{number_at, last_of}
+use Rattle.program.specs.Forms.{verb_of}
+use Rattle.program.specs.Reading.{read_block, after}
 use Rattle.program.proofs.RowLaws.{last-length}
 use Rattle.rules.specs.Statements.{position_of}
-use Rattle.rules.specs.Running.{Out, on, end, thenOut, paid, doVerb, doBlock}
+use Rattle.rules.specs.Running.{Out, on, end, then_out, paid, do_verb, do_block}
 use Rattle.rules.specs.Running.{Tally as Carries}
 use Rattle.rules.proofs.RunningClauses.{statement-is}
 use Rattle.proposals.proofs.FormLaws.{unlike}
 use Rattle.lent.specs.declared.Tally.{Tally}
-use Rattle.lent.specs.Tallied.{carries, outBy, Begins}
-use Rattle.lent.specs.Lending.{holdsBlocks}
+use Rattle.lent.specs.Tallied.{carries, out_by, Begins}
+use Rattle.lent.specs.Lending.{holds_blocks}
 use Rattle.lent.specs.Claims.{AsInARun, OneTally, OneStep}
 use Rattle.lent.proofs.LentLaws.{verb-flat}
 
 -- ---- a statement in a run
 
-then_same : (block block' : List ℤ → Carries → Out) (past past' : List ℤ → List ℤ) (program : List ℤ) (budget : ℕ) (p : List ℤ) → holdsBlocks (verbOf (numberAt p 0)) ≡ false → (o : Out)
-    → thenOut o (λ u. doVerb block past program budget p (verbOf (numberAt p 0)) u) ≡ thenOut o (λ u. doVerb block' past' program budget p (verbOf (numberAt p 0)) u)
+then_same : (block block' : List ℤ → Carries → Out) (past past' : List ℤ → List ℤ) (program : List ℤ) (budget : ℕ) (p : List ℤ) → holds_blocks (verb_of (number_at p 0)) ≡ false → (o : Out)
+    → then_out o (λ u. do_verb block past program budget p (verb_of (number_at p 0)) u) ≡ then_out o (λ u. do_verb block' past' program budget p (verb_of (number_at p 0)) u)
 then_same block block' past past' program budget p h (on u) =
-    verb-flat block past program budget p u (verbOf (numberAt p 0)) h ∙ sym (verb-flat block' past' program budget p u (verbOf (numberAt p 0)) h)
+    verb-flat block past program budget p u (verb_of (number_at p 0)) h ∙ sym (verb-flat block' past' program budget p u (verb_of (number_at p 0)) h)
 then_same block block' past past' program budget p h (end n place u) = refl
 
 pub as-in-a-run : AsInARun
 as-in-a-run block past program budget p u h =
     rw h
-    (statement-is (λ q v. doBlock 0 program budget q v) (λ q. after (readBlock 0 q)) program budget p u
-    ∙ then_same (λ q v. doBlock 0 program budget q v) block (λ q. after (readBlock 0 q)) past program budget p h (paid budget (position_of program p) u)
+    (statement-is (λ q v. do_block 0 program budget q v) (λ q. after (read_block 0 q)) program budget p u
+    ∙ then_same (λ q v. do_block 0 program budget q v) block (λ q. after (read_block 0 q)) past program budget p h (paid budget (position_of program p) u)
     ∙ sym (statement-is block past program budget p u))
 
 -- ---- one answer
@@ -44,7 +44,7 @@ pub record SameOut (n m k l : ℕ) (u v : Carries) : Type 0 where
   pub place : (n ≡ 0 → ⊥) → k ≡ l
   pub carried : u ≡ v
 
-same_out : (n m k l : ℕ) (u v : Carries) → outBy n k u ≡ outBy m l v → SameOut n m k l u v
+same_out : (n m k l : ℕ) (u v : Carries) → out_by n k u ≡ out_by m l v → SameOut n m k l u v
 same_out zero zero k l u v e = record { outcome = refl; place = λ h. absurd (h refl); carried = cc }
 same_out zero (suc m) k l u v e = unlike cc
 same_out (suc n) zero k l u v e = unlike cc

@@ -1,18 +1,18 @@
 -- What is claimed of the statement with the tally lent. Assumes nothing: these are statements.
 use Rattle.std.specs.Prelude.{◌≡◌, false, List, ℕ, ℤ}
-use Rattle.words.specs.Words.{numberAt}
-use Rattle.program.specs.Forms.{verbOf}
+use Rattle.words.specs.Words.{number_at}
+use Rattle.program.specs.Forms.{verb_of}
 use Rattle.rules.specs.State.{State}
-use Rattle.rules.specs.Running.{Out, doStatement}
+use Rattle.rules.specs.Running.{Out, do_statement}
 use Rattle.rules.specs.Running.{Tally as Carries}
 use Rattle.lent.specs.declared.Tally.{Tally}
 use Rattle.lent.specs.Tallied.{Runs}
-use Rattle.lent.specs.Lending.{holdsBlocks, oneStatement, Steps}
+use Rattle.lent.specs.Lending.{holds_blocks, one_statement, Steps}
 
 -- a statement that holds no block comes to what it comes to in a run, in whatever block it stands
 abbrev pub AsInARun : Type 0
 AsInARun = (block : List ℤ → Carries → Out) (past : List ℤ → List ℤ) (program : List ℤ) (budget : ℕ) (p : List ℤ) (u : Carries)
-    → holdsBlocks (verbOf (numberAt p 0)) ≡ false → oneStatement program budget p u ≡ doStatement block past program budget p u
+    → holds_blocks (verb_of (number_at p 0)) ≡ false → one_statement program budget p u ≡ do_statement block past program budget p u
 
 -- any two tallies, with their tables, that a piece may leave are equal
 abbrev pub OneTally : Type 0

@@ -1,36 +1,36 @@
 -- What one statement makes of the lent tally. Assumes nothing: these are definitions.
 use Rattle.std.specs.Prelude.{ℕ, ◌≡◌, Bool, true, false, List, ℤ}
-use Rattle.words.specs.Words.{numberAt}
-use Rattle.program.specs.Forms.{Verb, skip, assign, new, always, once, alwaysSame, onceSame, branch, loop, noVerb, verbOf}
-use Rattle.program.specs.Reading.{readBlock, after}
+use Rattle.words.specs.Words.{number_at}
+use Rattle.program.specs.Forms.{Verb, skip, assign, new, always, once, always_same, once_same, branch, loop, no_verb, verb_of}
+use Rattle.program.specs.Reading.{read_block, after}
 use Rattle.rules.specs.State.{State}
 use Rattle.rules.specs.Statements.{position_of}
-use Rattle.rules.specs.Running.{Out, end, doStatement, doBlock}
+use Rattle.rules.specs.Running.{Out, end, do_statement, do_block}
 use Rattle.rules.specs.Running.{Tally as Carries}
 use Rattle.lent.specs.declared.Tally.{Tally}
 use Rattle.lent.specs.Tallied.{Begins, Goes}
 
-abbrev pub holdsBlocks : Verb → Bool
-holdsBlocks skip = false
-holdsBlocks assign = false
-holdsBlocks new = false
-holdsBlocks always = false
-holdsBlocks once = false
-holdsBlocks alwaysSame = false
-holdsBlocks onceSame = false
-holdsBlocks branch = true
-holdsBlocks loop = true
-holdsBlocks noVerb = false
+abbrev pub holds_blocks : Verb → Bool
+holds_blocks skip = false
+holds_blocks assign = false
+holds_blocks new = false
+holds_blocks always = false
+holds_blocks once = false
+holds_blocks always_same = false
+holds_blocks once_same = false
+holds_blocks branch = true
+holds_blocks loop = true
+holds_blocks no_verb = false
 
-abbrev pub unlessBlocks : Bool → Out → Out → Out
-unlessBlocks true refused o = refused
-unlessBlocks false refused o = o
+abbrev pub unless_blocks : Bool → Out → Out → Out
+unless_blocks true refused o = refused
+unless_blocks false refused o = o
 
 -- what a run comes to at the statement at p; one that holds blocks is not begun: 2
-abbrev pub oneStatement : List ℤ → ℕ → List ℤ → Carries → Out
-oneStatement program budget p u =
-    unlessBlocks (holdsBlocks (verbOf (numberAt p 0))) (end 2 (position_of program p) u)
-    (doStatement (λ q v. doBlock 0 program budget q v) (λ q. after (readBlock 0 q)) program budget p u)
+abbrev pub one_statement : List ℤ → ℕ → List ℤ → Carries → Out
+one_statement program budget p u =
+    unless_blocks (holds_blocks (verb_of (number_at p 0))) (end 2 (position_of program p) u)
+    (do_statement (λ q v. do_block 0 program budget q v) (λ q. after (read_block 0 q)) program budget p u)
 
 -- the tally t and the tables S are brought up to date by a statement that comes to o; a tally that no run carries stays, and the tables with it
 pub record Steps (ws : List ℤ) (S Z : State) (t r : Tally) (o : Out) : Type 0 where

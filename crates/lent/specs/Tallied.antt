@@ -13,24 +13,24 @@ abbrev pub carries : List ℤ → State → Tally → Carries
 carries ws S t = record { state = S; unread = last_of t.unread ws; steps = t.steps; accepted = t.accepted; tests = [] }
 
 -- a run goes on while the outcome is 0
-abbrev pub outBy : ℕ → ℕ → Carries → Out
-outBy zero place u = on u
-outBy (suc n) place u = end (suc n) place u
+abbrev pub out_by : ℕ → ℕ → Carries → Out
+out_by zero place u = on u
+out_by (suc n) place u = end (suc n) place u
 
 abbrev pub out_of : List ℤ → State → Tally → Out
-out_of ws S t = outBy t.outcome t.place (carries ws S t)
+out_of ws S t = out_by t.outcome t.place (carries ws S t)
 
 -- how the tests came out is not told
 abbrev pub untold : Carries → Carries
 untold t = record { state = t.state; unread = t.unread; steps = t.steps; accepted = t.accepted; tests = [] }
 
-abbrev pub untoldOut : Out → Out
-untoldOut (on t) = on (untold t)
-untoldOut (end n place t) = end n place (untold t)
+abbrev pub untold_out : Out → Out
+untold_out (on t) = on (untold t)
+untold_out (end n place t) = end n place (untold t)
 
 -- a piece that answers r and leaves the tables Z comes to what the rules say; a tally that goes on has no place
 pub record Runs (ws : List ℤ) (Z : State) (r : Tally) (o : Out) : Type 0 where
-  pub is : out_of ws Z r ≡ untoldOut o
+  pub is : out_of ws Z r ≡ untold_out o
   pub few : r.accepted ≤ r.steps
   pub inside : r.unread ≤ length ws
   pub nowhere : r.outcome ≡ 0 → r.place ≡ 0
@@ -49,26 +49,26 @@ pub record Goes (ws : List ℤ) (t : Tally) (Z : State) (r : Tally) (o : Out) : 
 
 -- ---- what becomes of a tally
 
-abbrev pub endedAt : ℕ → ℕ → Tally → Tally
-endedAt n place t = record { steps = t.steps; accepted = t.accepted; unread = t.unread; outcome = n; place = place }
+abbrev pub ended_at : ℕ → ℕ → Tally → Tally
+ended_at n place t = record { steps = t.steps; accepted = t.accepted; unread = t.unread; outcome = n; place = place }
 
 -- one step more
-abbrev pub paidOne : Tally → Tally
-paidOne t = record { steps = t.steps + 1; accepted = t.accepted; unread = t.unread; outcome = t.outcome; place = t.place }
+abbrev pub paid_one : Tally → Tally
+paid_one t = record { steps = t.steps + 1; accepted = t.accepted; unread = t.unread; outcome = t.outcome; place = t.place }
 
-abbrev paidWhere : Bool → ℕ → Tally → Tally
-paidWhere true place t = paidOne t
-paidWhere false place t = endedAt 5 place t
+abbrev paid_where : Bool → ℕ → Tally → Tally
+paid_where true place t = paid_one t
+paid_where false place t = ended_at 5 place t
 
 -- 5: "next step would pass the budget"
-abbrev pub paidBy : ℕ → ℕ → Tally → Tally
-paidBy budget place t = paidWhere (ltb t.steps budget) place t
+abbrev pub paid_by : ℕ → ℕ → Tally → Tally
+paid_by budget place t = paid_where (ltb t.steps budget) place t
 
-abbrev pub acceptedIn : Done → ℕ
-acceptedIn (Accepted left accepted) = accepted
-acceptedIn (Refused n word) = 0
+abbrev pub accepted_in : Done → ℕ
+accepted_in (Accepted left accepted) = accepted
+accepted_in (Refused n word) = 0
 
 -- what a statement without blocks leaves of the tally, in a program of so many words; where it is refused, the place is that of the word at fault
-abbrev pub doneBy : ℕ → Tally → Done → Tally
-doneBy long t (Accepted left accepted) = record { steps = t.steps; accepted = t.accepted + accepted; unread = left; outcome = 0; place = 0 }
-doneBy long t (Refused n word) = endedAt n (long - word) t
+abbrev pub done_by : ℕ → Tally → Done → Tally
+done_by long t (Accepted left accepted) = record { steps = t.steps; accepted = t.accepted + accepted; unread = left; outcome = 0; place = 0 }
+done_by long t (Refused n word) = ended_at n (long - word) t

@@ -1,13 +1,13 @@
 // What becomes of the tally: a step is paid, a run is ended, a statement is counted.
 ghost use Rattle.std.specs.Prelude.{◌≡◌, ◌+◌, ◌≤◌};
-ghost use Rattle.lent.specs.Tallied.{endedAt, paidBy, acceptedIn, doneBy};
+ghost use Rattle.lent.specs.Tallied.{ended_at, paid_by, accepted_in, done_by};
 
 use crate::Tally;
 use phases::Done;
 
 // The tally of a run that a statement ends; its counts stay.
 pub fn ended(last: Tally, outcome: usize, place: usize) -> Tally
-    ensures { result ≡ endedAt outcome place last }
+    ensures { result ≡ ended_at outcome place last }
 {
     Tally {
         steps: last.steps,
@@ -20,7 +20,7 @@ pub fn ended(last: Tally, outcome: usize, place: usize) -> Tally
 
 // A step more, or 5 where it would pass the budget.
 pub fn pay(t: Tally, budget: usize, place: usize) -> Tally
-    ensures { result ≡ paidBy budget place t }
+    ensures { result ≡ paid_by budget place t }
 {
     if budget <= t.steps {
         return ended(t, 5, place);
@@ -36,8 +36,8 @@ pub fn pay(t: Tally, budget: usize, place: usize) -> Tally
 
 // The tally after a statement whose step is paid; `long` is how many words the program has. A turned-down proposal is unread.
 pub(crate) fn tallied(t: Tally, long: usize, done: Done) -> Tally
-    requires { t.accepted + acceptedIn done ≤ t.steps }
-    ensures { result ≡ doneBy long t done }
+    requires { t.accepted + accepted_in done ≤ t.steps }
+    ensures { result ≡ done_by long t done }
 {
     match done {
         Done::Accepted(left, accepted) => Tally {

@@ -3,7 +3,7 @@ pub mod counting; // counting.rt: a step is paid, a run is ended, a statement is
 pub mod stepping; // stepping.rt: the statement with the tally by value
 
 ghost use Rattle.lent.specs.Tallied.{carries};
-ghost use Rattle.lent.specs.Lending.{oneStatement, Steps};
+ghost use Rattle.lent.specs.Lending.{one_statement, Steps};
 ghost use Rattle.phases.specs.Told.{tables};
 
 // Steps, accepted proposals, and how many words of the proposals are unread; the outcome and place where a statement ended the run, 0 while it goes on.
@@ -27,7 +27,7 @@ pub fn step(
     budget: usize,
     p: &[i32],
 )
-    ensures { Steps proposals.now (tables environment.old heap.old constraints.old) (tables environment.new heap.new constraints.new) t.old t.new (oneStatement program.now budget p.now (carries proposals.now (tables environment.old heap.old constraints.old) t.old)) }
+    ensures { Steps proposals.now (tables environment.old heap.old constraints.old) (tables environment.new heap.new constraints.new) t.old t.new (one_statement program.now budget p.now (carries proposals.now (tables environment.old heap.old constraints.old) t.old)) }
 {
     *t = stepping::stepped(
         program,
@@ -52,7 +52,7 @@ pub fn stepped_on(
     p: &[i32],
     t: Tally,
 ) -> Tally
-    ensures { Steps proposals.now (tables environment.old heap.old constraints.old) (tables environment.new heap.new constraints.new) t result (oneStatement program.now budget p.now (carries proposals.now (tables environment.old heap.old constraints.old) t)) }
+    ensures { Steps proposals.now (tables environment.old heap.old constraints.old) (tables environment.new heap.new constraints.new) t result (one_statement program.now budget p.now (carries proposals.now (tables environment.old heap.old constraints.old) t)) }
 {
     let mut u = t;
     step(

@@ -1,9 +1,9 @@
 // A statement that holds no block, with the tally by value.
 ghost use Rattle.std.specs.Prelude.{◌≡◌};
-ghost use Rattle.program.specs.Forms.{verbOf};
+ghost use Rattle.program.specs.Forms.{verb_of};
 ghost use Rattle.phases.specs.Told.{tables};
 ghost use Rattle.lent.specs.Tallied.{carries, Begins, Goes};
-ghost use Rattle.lent.specs.Lending.{holdsBlocks, oneStatement, Steps};
+ghost use Rattle.lent.specs.Lending.{holds_blocks, one_statement, Steps};
 
 use super::counting::{ended, pay, tallied};
 use crate::Tally;
@@ -11,7 +11,7 @@ use statements::simple::simple_at;
 
 // Whether statements of a verb hold blocks: if and while.
 pub fn holds_blocks(verb: usize) -> bool
-    ensures { result ≡ holdsBlocks (verbOf verb) }
+    ensures { result ≡ holds_blocks (verb_of verb) }
 {
     if verb == 7 {
         return true;
@@ -31,7 +31,7 @@ fn begun(
     t: Tally,
 ) -> Tally
     requires { Begins proposals.now t }
-    ensures { Goes proposals.now t (tables environment.new heap.new constraints.new) result (oneStatement program.now budget p.now (carries proposals.now (tables environment.old heap.old constraints.old) t)) }
+    ensures { Goes proposals.now t (tables environment.new heap.new constraints.new) result (one_statement program.now budget p.now (carries proposals.now (tables environment.old heap.old constraints.old) t)) }
 {
     let place = words::less(program.len(), p.len());
     let verb = words::number_at(p, 0);
@@ -61,7 +61,7 @@ pub(crate) fn stepped(
     p: &[i32],
     t: Tally,
 ) -> Tally
-    ensures { Steps proposals.now (tables environment.old heap.old constraints.old) (tables environment.new heap.new constraints.new) t result (oneStatement program.now budget p.now (carries proposals.now (tables environment.old heap.old constraints.old) t)) }
+    ensures { Steps proposals.now (tables environment.old heap.old constraints.old) (tables environment.new heap.new constraints.new) t result (one_statement program.now budget p.now (carries proposals.now (tables environment.old heap.old constraints.old) t)) }
 {
     if t.outcome != 0 {
         return t;

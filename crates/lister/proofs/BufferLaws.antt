@@ -9,7 +9,7 @@ use Rattle.tables.proofs.SearchLaws.{cases}
 use lib.Dec.{leb}
 use lib.ListN.{length, get_or, drop, set, length-append, drop_of_length-le}
 use lib.Seq.{set-append_seam}
-use Rattle.lister.specs.Bytes.{laid, Buffer, buffer, withByte, written, Puts}
+use Rattle.lister.specs.Bytes.{laid, Buffer, buffer, with_byte, written, Puts}
 use Rattle.words.proofs.Laws.{drop-next}
 
 -- ---- a list laid over another
@@ -45,14 +45,14 @@ pub written_none : (s : Buffer) → written s [] ≡ s
 unfolding written
 written_none s = refl
 
-pub written_one : (s : Buffer) (b : ℕ) → written s (b ∷ []) ≡ withByte s b
+pub written_one : (s : Buffer) (b : ℕ) → written s (b ∷ []) ≡ with_byte s b
 unfolding written
 written_one s b = refl
 
 pub written-append : (s : Buffer) (t u : List ℕ) → written s (t ++ u) ≡ written (written s t) u
 unfolding written
 written-append s [] u = refl
-written-append s (b ∷ t) u = written-append (withByte s b) t u
+written-append s (b ∷ t) u = written-append (with_byte s b) t u
 
 -- a text, and another after it
 pub then : {s m e : List ℕ} {a b c : ℕ} {t u : List ℕ} → Puts s a t m b → Puts m b u e c → Puts s a (t ++ u) e c
@@ -68,15 +68,15 @@ puts-as h k = rw (← h) k
 
 -- a byte where there is room, and where there is none
 pub put-room : {out : List ℕ} {at b : ℕ} → at < length out → Puts out at (b ∷ []) (set out at b) (at + 1)
-unfolding written withByte
+unfolding written with_byte
 put-room {out = out} {at = at} h = record { is = rw (lt-ltb at (length out) h) }
 
 pub put_full : {out : List ℕ} {at b : ℕ} → length out ≤ at → Puts out at (b ∷ []) out at
-unfolding written withByte
+unfolding written with_byte
 put_full {out = out} {at = at} h = record { is = rw (le-ltb at (length out) h) }
 
 full : (out : List ℕ) (at : ℕ) (t : List ℕ) → length out ≤ at → written (buffer out at) t ≡ buffer out at
-unfolding written withByte
+unfolding written with_byte
 full out at [] h = refl
 full out at (b ∷ t) h = rw (le-ltb at (length out) h) (full out at t h)
 
@@ -90,7 +90,7 @@ count n l k =
     (λ e. rw (e, lt-leb (suc l) (suc k) (omega (arith, leb-false l k e))) (omega arith))
 
 behind : (a t s : List ℕ) → written (buffer (a ++ s) (length a)) t ≡ buffer (a ++ laid t s) (length a + counted t s)
-unfolding written withByte laid
+unfolding written with_byte laid
 behind a [] s = let z : length a + 0 ≡ length a = omega arith in rw (le-leb 0 (length s) (omega arith)) (ap (λ n. buffer (a ++ s) n) (sym z))
 behind a (b ∷ t) [] =
     let l : length (a ++ []) ≤ length a = simp length-append (omega arith) in

@@ -9,7 +9,7 @@ use lib.Dec.{eqb}
 use lib.ListN.{length, get_or, take, drop, drop_of_length-le}
 use Rattle.words.proofs.Laws.{drop-next}
 use Rattle.tables.proofs.SearchLaws.{cases}
-use Rattle.lister.specs.Bytes.{up_to, past, onFirst, pieces, begins}
+use Rattle.lister.specs.Bytes.{up_to, past, on_first, pieces, begins}
 
 -- ---- the bytes before and after the first b
 
@@ -34,7 +34,7 @@ module _ (b x : ℕ) (s : List ℕ) where
   unfolding pieces
   pieces-here e = rw (eq-eqb x b e)
 
-  pub pieces-on : (x ≡ b → ⊥) → pieces b (x ∷ s) ≡ onFirst x (pieces b s)
+  pub pieces-on : (x ≡ b → ⊥) → pieces b (x ∷ s) ≡ on_first x (pieces b s)
   unfolding pieces
   pieces-on e = rw (ne_eqb x b e)
 

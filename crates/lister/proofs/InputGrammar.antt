@@ -15,7 +15,7 @@ use Rattle.lister.specs.declared.Numeral.TheVariants.{Number, Unfit as NoNumber}
 use Rattle.lister.specs.declared.Input.{Input}
 use Rattle.lister.specs.declared.Input.TheVariants.{Reads, Unfit}
 use Rattle.lister.specs.Bytes.{newline, up_to, past}
-use Rattle.lister.specs.Reading.{programName, proposalsName, budgetName, Line, lineIn, onlyBy, budgetLine, budgetIn, Given, given, withProgram, inputIn}
+use Rattle.lister.specs.Reading.{program_name, proposals_name, budget_name, Line, line_in, only_by, budget_line, budget_in, Given, given, with_program, input_in}
 use Rattle.lister.specs.Grammar.{Opens, First, Second, Third, FirstUnfit}
 use Rattle.lister.proofs.ByteLaws.{split, whole, past_end}
 use Rattle.lister.proofs.ReadingLaws.{input-lines}
@@ -39,61 +39,61 @@ opens_one {s = s} o (Opens.ended {t = t}) = (over-up-to 11 10 (omega arith) s t 
 opens_one {s = s} o Opens.missing = (over-whole 11 10 (omega arith) s o, over_none 11 10 (omega arith) s o)
 
 -- the third line, and nothing after it
-budget-alone : (t : List ℕ) (w : ℤ) → budgetIn t ≡ Number w → (budgetLine (up_to newline t) ≡ Number w) × (past newline t ≡ [])
-unfolding budgetIn
+budget-alone : (t : List ℕ) (w : ℤ) → budget_in t ≡ Number w → (budget_line (up_to newline t) ≡ Number w) × (past newline t ≡ [])
+unfolding budget_in
 budget-alone t w e = go (past newline t) e
   where
-    go : (r : List ℕ) → onlyBy (budgetLine (up_to newline t)) r ≡ Number w → (budgetLine (up_to newline t) ≡ Number w) × (r ≡ [])
+    go : (r : List ℕ) → only_by (budget_line (up_to newline t)) r ≡ Number w → (budget_line (up_to newline t) ≡ Number w) × (r ≡ [])
     go [] e = (e, refl)
     go (b ∷ r) e = absurd (let z : ◌≡◌ {A = ℕ} 0 1 = cc in omega arith)
 
-budget-only : (t : List ℕ) {g : Reading} → budgetLine (up_to newline t) ≡ g → past newline t ≡ [] → budgetIn t ≡ g
-unfolding budgetIn
+budget-only : (t : List ℕ) {g : Reading} → budget_line (up_to newline t) ≡ g → past newline t ≡ [] → budget_in t ≡ g
+unfolding budget_in
 budget-only t e h = rw (h, e)
 
 -- ---- fit lines are read
 
 module _ (t : List ℕ) where
-  pub first-fit : (ps : List ℤ) → length t ≤ 65536 → lineIn programName (up_to newline t) ≡ got ps → First t ps (past newline t)
-  first-fit ps h e = record { small = h; text = up_to newline t; line = line-sound programName (up_to newline t) ps e; opens = opens t }
+  pub first-fit : (ps : List ℤ) → length t ≤ 65536 → line_in program_name (up_to newline t) ≡ got ps → First t ps (past newline t)
+  first-fit ps h e = record { small = h; text = up_to newline t; line = line-sound program_name (up_to newline t) ps e; opens = opens t }
 
   pub record FirstRead (ps : List ℤ) (t' : List ℕ) : Type 0 where
     pub small : length t ≤ 65536
-    pub reads : lineIn programName (up_to newline t) ≡ got ps
+    pub reads : line_in program_name (up_to newline t) ≡ got ps
     pub rest : past newline t ≡ t'
 
   pub first_read : {ps : List ℤ} {t' : List ℕ} → First t ps t' → FirstRead ps t'
   first_read {ps = ps} f =
-      let o : (up_to newline t ≡ f.text) × (past newline t ≡ _) = opens_one (line-over programName (over_by 11 programName refl) f.line) f.opens in
-      record { small = f.small; reads = ap (λ s. lineIn programName s) o.0 ∙ line-complete programName f.line; rest = o.1 }
+      let o : (up_to newline t ≡ f.text) × (past newline t ≡ _) = opens_one (line-over program_name (over_by 11 program_name refl) f.line) f.opens in
+      record { small = f.small; reads = ap (λ s. line_in program_name s) o.0 ∙ line-complete program_name f.line; rest = o.1 }
 
-  pub second-fit : (ps qs : List ℤ) → length t ≤ 65536 → lineIn programName (up_to newline t) ≡ got ps
-      → lineIn proposalsName (up_to newline (past newline t)) ≡ got qs → Second t ps qs (past newline (past newline t))
+  pub second-fit : (ps qs : List ℤ) → length t ≤ 65536 → line_in program_name (up_to newline t) ≡ got ps
+      → line_in proposals_name (up_to newline (past newline t)) ≡ got qs → Second t ps qs (past newline (past newline t))
   second-fit ps qs h e k = record {
     rest = past newline t;
     before = first-fit ps h e;
     text = up_to newline (past newline t);
-    line = line-sound proposalsName (up_to newline (past newline t)) qs k;
+    line = line-sound proposals_name (up_to newline (past newline t)) qs k;
     opens = opens (past newline t);
   }
 
   pub record SecondRead (ps qs : List ℤ) (t' : List ℕ) : Type 0 where
     pub before : FirstRead ps (past newline t)
-    pub reads : lineIn proposalsName (up_to newline (past newline t)) ≡ got qs
+    pub reads : line_in proposals_name (up_to newline (past newline t)) ≡ got qs
     pub rest : past newline (past newline t) ≡ t'
 
   pub second-read : {ps qs : List ℤ} {t' : List ℕ} → Second t ps qs t' → SecondRead ps qs t'
   second-read {ps = ps} {t' = t'} f =
       let b : FirstRead ps f.rest = first_read f.before in
-      let o : (up_to newline f.rest ≡ f.text) × (past newline f.rest ≡ t') = opens_one (line-over proposalsName (over_by 11 proposalsName refl) f.line) f.opens in
+      let o : (up_to newline f.rest ≡ f.text) × (past newline f.rest ≡ t') = opens_one (line-over proposals_name (over_by 11 proposals_name refl) f.line) f.opens in
       record {
         before = record { small = b.small; reads = b.reads; rest = refl };
-        reads = ap (λ r. lineIn proposalsName (up_to newline r)) b.rest ∙ ap (λ s. lineIn proposalsName s) o.0 ∙ line-complete proposalsName f.line;
+        reads = ap (λ r. line_in proposals_name (up_to newline r)) b.rest ∙ ap (λ s. line_in proposals_name s) o.0 ∙ line-complete proposals_name f.line;
         rest = ap (λ r. past newline r) b.rest ∙ o.1;
       }
 
-  pub third-fit : (ps qs : List ℤ) (w : ℤ) → length t ≤ 65536 → lineIn programName (up_to newline t) ≡ got ps
-      → lineIn proposalsName (up_to newline (past newline t)) ≡ got qs → budgetIn (past newline (past newline t)) ≡ Number w → Third t ps qs w
+  pub third-fit : (ps qs : List ℤ) (w : ℤ) → length t ≤ 65536 → line_in program_name (up_to newline t) ≡ got ps
+      → line_in proposals_name (up_to newline (past newline t)) ≡ got qs → budget_in (past newline (past newline t)) ≡ Number w → Third t ps qs w
   third-fit ps qs w h e k l =
       let b = budget-alone (past newline (past newline t)) w l in
       record {
@@ -104,19 +104,19 @@ module _ (t : List ℕ) where
         opens = rw b.1 at (opens (past newline (past newline t)));
       }
 
-  pub third-read : {ps qs : List ℤ} {w : ℤ} → Third t ps qs w → budgetIn (past newline (past newline t)) ≡ Number w
+  pub third-read : {ps qs : List ℤ} {w : ℤ} → Third t ps qs w → budget_in (past newline (past newline t)) ≡ Number w
   third-read {ps = ps} {qs = qs} {w = w} f =
       let b : SecondRead ps qs f.rest = second-read f.before in
-      let o : (up_to newline f.rest ≡ f.text) × (past newline f.rest ≡ []) = opens_one (budget-over (over_by 11 budgetName refl) f.line) f.opens in
-      ap budgetIn b.rest ∙ budget-only f.rest (ap budgetLine o.0 ∙ budget-complete f.line) o.1
+      let o : (up_to newline f.rest ≡ f.text) × (past newline f.rest ≡ []) = opens_one (budget-over (over_by 11 budget_name refl) f.line) f.opens in
+      ap budget_in b.rest ∙ budget-only f.rest (ap budget_line o.0 ∙ budget-complete f.line) o.1
 
 -- ---- the whole input
 
 reads-unfit {ℓ} : {X : Type ℓ} {n m k : ℕ} {w : ℤ} → Reads n m w ≡ Unfit k → X
 reads-unfit e = absurd (let z : ◌≡◌ {A = ℕ} 0 1 = cc in omega arith)
 
-no_number : {X : Type 0} {w : ℤ} → NoNumber ≡ Number w → X
-no_number e = absurd (let z : ◌≡◌ {A = ℕ} 0 1 = cc in omega arith)
+no_number_lem : {X : Type 0} {w : ℤ} → NoNumber ≡ Number w → X
+no_number_lem e = absurd (let z : ◌≡◌ {A = ℕ} 0 1 = cc in omega arith)
 
 -- what is read: three fit lines, whose numbers are stored, and the answer counts them
 pub record Takes (t : List ℕ) (g : Given) (n m : ℕ) (w : ℤ) : Type 0 where
@@ -130,27 +130,27 @@ Says t g (Reads n m w) = Takes t g n m w
 Says t g (Unfit k) = FirstUnfit t k
 
 module _ (t : List ℕ) (small : length t ≤ 65536) where
-  said : (a l : Line) (b : Reading) → lineIn programName (up_to newline t) ≡ a → lineIn proposalsName (up_to newline (past newline t)) ≡ l
-      → budgetIn (past newline (past newline t)) ≡ b → Says t (withProgram a l b) (withProgram a l b).answer
+  said : (a l : Line) (b : Reading) → line_in program_name (up_to newline t) ≡ a → line_in proposals_name (up_to newline (past newline t)) ≡ l
+      → budget_in (past newline (past newline t)) ≡ b → Says t (with_program a l b) (with_program a l b).answer
   said (stop ps) l b e k h = FirstUnfit.one (λ qs r f. stop≢got (sym e ∙ (first_read t f).reads))
   said (got ps) (stop qs) b e k h = FirstUnfit.two (first-fit t ps small e) (λ us vs r f. stop≢got (sym k ∙ (second-read t f).reads))
-  said (got ps) (got qs) NoNumber e k h = FirstUnfit.three (second-fit t ps qs small e k) (λ us vs w f. no_number (sym h ∙ third-read t f))
+  said (got ps) (got qs) NoNumber e k h = FirstUnfit.three (second-fit t ps qs small e k) (λ us vs w f. no_number_lem (sym h ∙ third-read t f))
   said (got ps) (got qs) (Number w) e k h = record { fit = third-fit t ps qs w small e k h; program = refl; proposals = refl }
 
-too_long : (t : List ℕ) → 65536 < length t → Says t (inputIn t) (inputIn t).answer
-unfolding inputIn
-too_long t h = rw (lt-ltb 65536 (length t) h) (FirstUnfit.one (λ ps r f. let z : length t ≤ 65536 = f.small in omega arith))
+too_long_lem : (t : List ℕ) → 65536 < length t → Says t (input_in t) (input_in t).answer
+unfolding input_in
+too_long_lem t h = rw (lt-ltb 65536 (length t) h) (FirstUnfit.one (λ ps r f. let z : length t ≤ 65536 = f.small in omega arith))
 
 -- sound: an input that is read is one of the grammar, with its numbers; a line that is named is the first unfit one
-pub input-says : (t : List ℕ) → Says t (inputIn t) (inputIn t).answer
+pub input-says : (t : List ℕ) → Says t (input_in t) (input_in t).answer
 input-says t =
     cases (ltb 65536 (length t))
-    (λ y. too_long t (ltb-true 65536 (length t) y))
+    (λ y. too_long_lem t (ltb-true 65536 (length t) y))
     (λ y. let l : length t ≤ 65536 = ltb-false 65536 (length t) y in
-    rw (input-lines t l) at (said t l (lineIn programName (up_to newline t)) (lineIn proposalsName (up_to newline (past newline t))) (budgetIn (past newline (past newline t))) refl refl refl))
+    rw (input-lines t l) at (said t l (line_in program_name (up_to newline t)) (line_in proposals_name (up_to newline (past newline t))) (budget_in (past newline (past newline t))) refl refl refl))
 
 -- complete: an input of the grammar is read
-pub input-complete : (t : List ℕ) {ps qs : List ℤ} {w : ℤ} → Third t ps qs w → inputIn t ≡ given (Reads (length ps) (length qs) w) ps qs
+pub input-complete : (t : List ℕ) {ps qs : List ℤ} {w : ℤ} → Third t ps qs w → input_in t ≡ given (Reads (length ps) (length qs) w) ps qs
 input-complete t {ps = ps} {qs = qs} {w = w} f =
     let b : SecondRead t ps qs f.rest = second-read t f.before in
     sym (input-lines t b.before.small) ∙ (rw (b.before.reads, b.reads, third-read t f))
@@ -173,9 +173,9 @@ unfit-fit (FirstUnfit.two a f) h = f _ _ _ h.before
 unfit-fit (FirstUnfit.three a f) h = f _ _ _ h
 
 -- complete: the first unfit line is named
-pub unfit-complete : (t : List ℕ) {k : ℕ} → FirstUnfit t k → (inputIn t).answer ≡ Unfit k
-unfit-complete t {k = k} f = go (inputIn t).answer (input-says t)
+pub unfit-complete : (t : List ℕ) {k : ℕ} → FirstUnfit t k → (input_in t).answer ≡ Unfit k
+unfit-complete t {k = k} f = go (input_in t).answer (input-says t)
   where
-    go : (a : Input) → Says t (inputIn t) a → a ≡ Unfit k
+    go : (a : Input) → Says t (input_in t) a → a ≡ Unfit k
     go (Reads n m w) s = absurd (unfit-fit f s.fit)
     go (Unfit j) s = ap Unfit (unfit-once s f)

@@ -17,26 +17,26 @@ use Rattle.words.proofs.Signed.{back32}
 use Rattle.tables.proofs.SearchLaws.{cases}
 use Rattle.lister.specs.declared.Numeral.TheVariants.{Number, Unfit}
 use Rattle.lister.specs.Bytes.{Puts}
-use Rattle.lister.specs.Numerals.{noNumber, minus, digitOf, valueFrom, naturalIn, positiveOf, negativeOf, numeralIn, digitsBy, digits, numeral}
+use Rattle.lister.specs.Numerals.{no_number, minus, digit_of, value_from, natural_in, positive_of, negative_of, numeral_in, digits_by, digits, numeral}
 use Rattle.words.proofs.Laws.{drop-next}
 use Rattle.lister.proofs.BufferLaws.{then, puts_none, puts-as}
 
 -- ---- a digit
 
 module _ (b : ℕ) where
-  pub digit_low : b < 48 → digitOf b ≡ 10
-  unfolding digitOf
+  pub digit_low : b < 48 → digit_of b ≡ 10
+  unfolding digit_of
   digit_low h = rw (lt-ltb b 48 h)
 
-  pub digit-high : 57 < b → digitOf b ≡ 10
-  unfolding digitOf
+  pub digit-high : 57 < b → digit_of b ≡ 10
+  unfolding digit_of
   digit-high h = rw (le-ltb b 48 (omega arith), lt-ltb 57 b h)
 
-  pub digit-is : 48 ≤ b → b ≤ 57 → digitOf b ≡ b - 48
-  unfolding digitOf
+  pub digit-is : 48 ≤ b → b ≤ 57 → digit_of b ≡ b - 48
+  unfolding digit_of
   digit-is h k = rw (le-ltb b 48 h, le-ltb 57 b k)
 
-  pub digit-small : digitOf b ≤ 10
+  pub digit-small : digit_of b ≤ 10
   digit-small =
       cases (ltb b 48) (λ e. rw (digit_low (ltb-true b 48 e)) (omega arith))
       (λ e. cases (ltb 57 b) (λ f. rw (digit-high (ltb-true 57 b f)) (omega arith))
@@ -44,43 +44,43 @@ module _ (b : ℕ) where
 
 -- ---- digits in a row
 
-pub value_none : (n : ℕ) → valueFrom n [] ≡ n
-unfolding valueFrom
+pub value_none : (n : ℕ) → value_from n [] ≡ n
+unfolding value_from
 value_none n = refl
 
 module _ (n b : ℕ) (s : List ℕ) where
-  pub value-no-digit : digitOf b ≡ 10 → valueFrom n (b ∷ s) ≡ noNumber
-  unfolding valueFrom
-  value-no-digit e = rw (eq-eqb (digitOf b) 10 e)
+  pub value-no-digit : digit_of b ≡ 10 → value_from n (b ∷ s) ≡ no_number
+  unfolding value_from
+  value-no-digit e = rw (eq-eqb (digit_of b) 10 e)
 
-  module _ (digit : digitOf b ≡ 10 → ⊥) where
-    pub value-too-great : 2147483648 < 10 * n + digitOf b → valueFrom n (b ∷ s) ≡ noNumber
-    unfolding valueFrom
-    value-too-great h = rw (ne_eqb (digitOf b) 10 digit, lt-ltb 2147483648 (10 * n + digitOf b) h)
+  module _ (digit : digit_of b ≡ 10 → ⊥) where
+    pub value-too-great : 2147483648 < 10 * n + digit_of b → value_from n (b ∷ s) ≡ no_number
+    unfolding value_from
+    value-too-great h = rw (ne_eqb (digit_of b) 10 digit, lt-ltb 2147483648 (10 * n + digit_of b) h)
 
-    pub value-more : 10 * n + digitOf b ≤ 2147483648 → valueFrom n (b ∷ s) ≡ valueFrom (10 * n + digitOf b) s
-    unfolding valueFrom
-    value-more h = rw (ne_eqb (digitOf b) 10 digit, le-ltb 2147483648 (10 * n + digitOf b) h)
+    pub value-more : 10 * n + digit_of b ≤ 2147483648 → value_from n (b ∷ s) ≡ value_from (10 * n + digit_of b) s
+    unfolding value_from
+    value-more h = rw (ne_eqb (digit_of b) 10 digit, le-ltb 2147483648 (10 * n + digit_of b) h)
 
 -- the loop: i digits are read and make n
 pub record Valuing (s : List ℕ) (n i : ℕ) : Type 0 where
   pub inside : i ≤ length s
   pub small : n ≤ 2147483648
-  pub rest : valueFrom n (drop i s) ≡ valueFrom 0 s
+  pub rest : value_from n (drop i s) ≡ value_from 0 s
 
 pub valuing-starts : {s : List ℕ} → Valuing s 0 0
 valuing-starts = record { inside = omega arith; small = omega arith; rest = refl }
 
 module _ {s : List ℕ} {n i : ℕ} (inv : Valuing s n i) where
-  module _ (more : i < length s) {d : ℕ} (e : d ≡ digitOf (get_or s i 0)) where
-    at : valueFrom n (get_or s i 0 ∷ drop (i + 1) s) ≡ valueFrom 0 s
+  module _ (more : i < length s) {d : ℕ} (e : d ≡ digit_of (get_or s i 0)) where
+    at : value_from n (get_or s i 0 ∷ drop (i + 1) s) ≡ value_from 0 s
     at = rw (drop-next s i more) at inv.rest
 
-    pub valuing-stops : d ≡ 10 → 2147483649 ≡ valueFrom 0 s
+    pub valuing-stops : d ≡ 10 → 2147483649 ≡ value_from 0 s
     valuing-stops h = sym (value-no-digit n (get_or s i 0) (drop (i + 1) s) (sym e ∙ h)) ∙ at
 
     module _ (digit : d ≡ 10 → ⊥) where
-      pub valuing-passes : 2147483648 < 10 * n + d → 2147483649 ≡ valueFrom 0 s
+      pub valuing-passes : 2147483648 < 10 * n + d → 2147483649 ≡ value_from 0 s
       valuing-passes h = sym (value-too-great n (get_or s i 0) (drop (i + 1) s) (λ k. digit (e ∙ k)) (omega arith)) ∙ at
 
       pub valuing-goes-on : 10 * n + d ≤ 2147483648 → Valuing s (10 * n + d) (i + 1)
@@ -90,57 +90,57 @@ module _ {s : List ℕ} {n i : ℕ} (inv : Valuing s n i) where
         rest = rw e (sym (value-more n (get_or s i 0) (drop (i + 1) s) (λ k. digit (e ∙ k)) (omega arith)) ∙ at);
       }
 
-  pub valuing-ends : length s ≤ i → n ≡ valueFrom 0 s
+  pub valuing-ends : length s ≤ i → n ≡ value_from 0 s
   valuing-ends h = sym (value_none n) ∙ rw (drop_of_length-le s {i = i} h) at inv.rest
 
 -- at least one digit, and no 0 before others
-pub natural-none : (s : List ℕ) → length s ≡ 0 → 2147483649 ≡ naturalIn s
-unfolding naturalIn
+pub natural-none : (s : List ℕ) → length s ≡ 0 → 2147483649 ≡ natural_in s
+unfolding natural_in
 natural-none [] h = refl
 natural-none (b ∷ s) h = let z : ⊥ = omega arith in absurd z
 
-pub natural-one : (s : List ℕ) → length s ≡ 1 → valueFrom 0 s ≡ naturalIn s
-unfolding naturalIn
+pub natural-one : (s : List ℕ) → length s ≡ 1 → value_from 0 s ≡ natural_in s
+unfolding natural_in
 natural-one [] h = let z : ⊥ = omega arith in absurd z
 natural-one (b ∷ []) h = refl
 natural-one (b ∷ c ∷ s) h = let z : ⊥ = omega arith in absurd z
 
 module _ (s : List ℕ) (some : length s ≡ 0 → ⊥) (more : length s ≡ 1 → ⊥) where
-  pub natural-zero : digitOf (get_or s 0 0) ≡ 0 → 2147483649 ≡ naturalIn s
-  unfolding naturalIn
+  pub natural-zero : digit_of (get_or s 0 0) ≡ 0 → 2147483649 ≡ natural_in s
+  unfolding natural_in
   natural-zero = go s some more
     where
-      go : (s : List ℕ) → (length s ≡ 0 → ⊥) → (length s ≡ 1 → ⊥) → digitOf (get_or s 0 0) ≡ 0 → 2147483649 ≡ naturalIn s
+      go : (s : List ℕ) → (length s ≡ 0 → ⊥) → (length s ≡ 1 → ⊥) → digit_of (get_or s 0 0) ≡ 0 → 2147483649 ≡ natural_in s
       go [] a b h = absurd (a refl)
       go (b ∷ []) a c h = absurd (c refl)
-      go (b ∷ c ∷ s) a d h = rw (eq-eqb (digitOf b) 0 h)
+      go (b ∷ c ∷ s) a d h = rw (eq-eqb (digit_of b) 0 h)
 
-  pub natural-more : (digitOf (get_or s 0 0) ≡ 0 → ⊥) → valueFrom 0 s ≡ naturalIn s
-  unfolding naturalIn
+  pub natural-more : (digit_of (get_or s 0 0) ≡ 0 → ⊥) → value_from 0 s ≡ natural_in s
+  unfolding natural_in
   natural-more = go s some more
     where
-      go : (s : List ℕ) → (length s ≡ 0 → ⊥) → (length s ≡ 1 → ⊥) → (digitOf (get_or s 0 0) ≡ 0 → ⊥) → valueFrom 0 s ≡ naturalIn s
+      go : (s : List ℕ) → (length s ≡ 0 → ⊥) → (length s ≡ 1 → ⊥) → (digit_of (get_or s 0 0) ≡ 0 → ⊥) → value_from 0 s ≡ natural_in s
       go [] a b h = absurd (a refl)
       go (b ∷ []) a c h = absurd (c refl)
-      go (b ∷ c ∷ s) a d h = rw (ne_eqb (digitOf b) 0 h)
+      go (b ∷ c ∷ s) a d h = rw (ne_eqb (digit_of b) 0 h)
 
 -- ---- with its sign
 
-pub positive-fits : (n : ℕ) → n < 2147483648 → {w : ℤ} → w ≡ word_of n → Number w ≡ positiveOf n
-unfolding positiveOf
+pub positive-fits : (n : ℕ) → n < 2147483648 → {w : ℤ} → w ≡ word_of n → Number w ≡ positive_of n
+unfolding positive_of
 positive-fits n h e = rw (lt-ltb n 2147483648 h, e, word-is n h)
 
-pub positive-unfit : (n : ℕ) → 2147483648 ≤ n → Unfit ≡ positiveOf n
-unfolding positiveOf
+pub positive-unfit : (n : ℕ) → 2147483648 ≤ n → Unfit ≡ positive_of n
+unfolding positive_of
 positive-unfit n h = rw (le-ltb n 2147483648 h)
 
-pub negative-none : (n : ℕ) → n ≡ 0 → Unfit ≡ negativeOf n
-unfolding negativeOf
+pub negative-none : (n : ℕ) → n ≡ 0 → Unfit ≡ negative_of n
+unfolding negative_of
 negative-none zero h = refl
 negative-none (suc n) h = let z : ⊥ = omega arith in absurd z
 
-pub negative-unfit : (n : ℕ) → 2147483648 < n → Unfit ≡ negativeOf n
-unfolding negativeOf
+pub negative-unfit : (n : ℕ) → 2147483648 < n → Unfit ≡ negative_of n
+unfolding negative_of
 negative-unfit zero h = refl
 negative-unfit (suc n) h = rw (le-ltb n 2147483648 (omega arith))
 
@@ -159,55 +159,55 @@ module _ (n : ℕ) (some : n ≡ 0 → ⊥) (h : n ≤ 2147483648) {w : ℤ} (ok
   pub negative-in-range : SFits w32 (negsuc 0 -ℤ to_z w32 (of_z w32 w))
   negative-in-range = rw below (record { sfits = omega (arith, some) })
 
-  pub negative_fits : Number (to_z w32 (of_z w32 (negsuc 0 -ℤ to_z w32 (of_z w32 w)))) ≡ negativeOf n
-  unfolding negativeOf
+  pub negative_fits : Number (to_z w32 (of_z w32 (negsuc 0 -ℤ to_z w32 (of_z w32 w)))) ≡ negative_of n
+  unfolding negative_of
   negative_fits = ap Number (back32 (negsuc 0 -ℤ to_z w32 (of_z w32 w)) negative-in-range ∙ below) ∙ go n some h
     where
-      go : (n : ℕ) → (n ≡ 0 → ⊥) → n ≤ 2147483648 → Number (negsuc (n - 1)) ≡ negativeOf n
+      go : (n : ℕ) → (n ≡ 0 → ⊥) → n ≤ 2147483648 → Number (negsuc (n - 1)) ≡ negative_of n
       go zero a l = absurd (a refl)
       go (suc n) a l = let z : suc n - 1 ≡ n = omega arith in rw (z, lt-ltb n 2147483648 (omega arith))
 
 -- a text with a minus sign, and one without
-pub numeral-none : (s : List ℕ) → length s ≡ 0 → Unfit ≡ numeralIn s
-unfolding numeralIn
+pub numeral-none : (s : List ℕ) → length s ≡ 0 → Unfit ≡ numeral_in s
+unfolding numeral_in
 numeral-none [] h = refl
 numeral-none (b ∷ s) h = let z : ⊥ = omega arith in absurd z
 
-pub numeral-negative : (s : List ℕ) → (length s ≡ 0 → ⊥) → get_or s 0 0 ≡ 45 → negativeOf (naturalIn (drop 1 s)) ≡ numeralIn s
-unfolding numeralIn
+pub numeral-negative : (s : List ℕ) → (length s ≡ 0 → ⊥) → get_or s 0 0 ≡ 45 → negative_of (natural_in (drop 1 s)) ≡ numeral_in s
+unfolding numeral_in
 numeral-negative [] a h = absurd (a refl)
 numeral-negative (b ∷ s) a h = rw (eq-eqb b 45 h)
 
-pub numeral-positive : (s : List ℕ) → (length s ≡ 0 → ⊥) → (get_or s 0 0 ≡ 45 → ⊥) → positiveOf (naturalIn s) ≡ numeralIn s
-unfolding numeralIn
+pub numeral-positive : (s : List ℕ) → (length s ≡ 0 → ⊥) → (get_or s 0 0 ≡ 45 → ⊥) → positive_of (natural_in s) ≡ numeral_in s
+unfolding numeral_in
 numeral-positive [] a h = absurd (a refl)
 numeral-positive (b ∷ s) a h = rw (ne_eqb b 45 h)
 
 -- ---- writing
 
 module _ (n places : ℕ) {s : List ℕ} {a : ℕ} where
-  pub put-digits-none : places ≡ 0 → Puts s a (digitsBy places n) s a
-  unfolding digitsBy
+  pub put-digits-none : places ≡ 0 → Puts s a (digits_by places n) s a
+  unfolding digits_by
   put-digits-none h = rw h puts_none
 
   module _ (some : places ≡ 0 → ⊥) where
-    pub put-digits-one : {e : List ℕ} {r d : ℕ} → n < 10 → d ≡ 48 + n → Puts s a (d ∷ []) e r → Puts s a (digitsBy places n) e r
-    unfolding digitsBy
+    pub put-digits-one : {e : List ℕ} {r d : ℕ} → n < 10 → d ≡ 48 + n → Puts s a (d ∷ []) e r → Puts s a (digits_by places n) e r
+    unfolding digits_by
     put-digits-one {d = d} h k p = puts-as (go places some) p
       where
-        go : (places : ℕ) → (places ≡ 0 → ⊥) → d ∷ [] ≡ digitsBy places n
+        go : (places : ℕ) → (places ≡ 0 → ⊥) → d ∷ [] ≡ digits_by places n
         go zero b = absurd (b refl)
         go (suc places) b = rw (lt-ltb n 10 h, k)
 
-    pub put-digits-more : {m e : List ℕ} {q r d : ℕ} → 10 ≤ n → Puts s a (digitsBy (places - 1) (n / 10)) m q → d ≡ 48 + n % 10 → Puts m q (d ∷ []) e r → Puts s a (digitsBy places n) e r
-    unfolding digitsBy
+    pub put-digits-more : {m e : List ℕ} {q r d : ℕ} → 10 ≤ n → Puts s a (digits_by (places - 1) (n / 10)) m q → d ≡ 48 + n % 10 → Puts m q (d ∷ []) e r → Puts s a (digits_by places n) e r
+    unfolding digits_by
     put-digits-more {d = d} h p k l = puts-as (go places some) (then p l)
       where
-        go : (places : ℕ) → (places ≡ 0 → ⊥) → digitsBy (places - 1) (n / 10) ++ (d ∷ []) ≡ digitsBy places n
+        go : (places : ℕ) → (places ≡ 0 → ⊥) → digits_by (places - 1) (n / 10) ++ (d ∷ []) ≡ digits_by places n
         go zero b = absurd (b refl)
         go (suc places) b = let z : suc places - 1 ≡ places = omega arith in rw (le-ltb n 10 h, k, z)
 
-pub digits_are : (n : ℕ) → digitsBy 20 n ≡ digits n
+pub digits_are : (n : ℕ) → digits_by 20 n ≡ digits n
 unfolding digits
 digits_are n = refl
 

@@ -9,7 +9,7 @@ use lib.Seq.{take-append_seam}
 use Rattle.lister.specs.declared.Input.TheVariants.{Reads}
 use Rattle.lister.specs.Bytes.{laid}
 use Rattle.lister.specs.Grammar.{ListLine}
-use Rattle.lister.specs.Reading.{InputRead, inputIn}
+use Rattle.lister.specs.Reading.{InputRead, input_in}
 use Rattle.lister.proofs.BufferLaws.{laid-fits}
 use Rattle.lister.proofs.InputGrammar.{Takes, Says, input-says}
 
@@ -19,12 +19,12 @@ line-short (ListLine.line f h) = h
 stored_is : (ws s : List ℤ) (n : ℕ) → length ws ≡ n → length ws ≤ 4096 → length s ≡ 4096 → take n (laid ws s) ≡ ws
 stored_is ws s n e h l = rw (laid-fits ws s (omega arith), ← e) (take-append_seam ws (drop (length ws) s))
 
-module _ (t : List ℕ) {p p' q q' : List ℤ} {n m : ℕ} {b : ℤ} (r : InputRead (inputIn t) p p' q q' (Reads n m b)) where
-  said : Takes t (inputIn t) n m b
-  said = subst (Says t (inputIn t)) (sym r.told) (input-says t)
+module _ (t : List ℕ) {p p' q q' : List ℤ} {n m : ℕ} {b : ℤ} (r : InputRead (input_in t) p p' q q' (Reads n m b)) where
+  said : Takes t (input_in t) n m b
+  said = subst (Says t (input_in t)) (sym r.told) (input-says t)
 
-  pub program-stored : length p ≡ 4096 → take n p' ≡ (inputIn t).program
-  program-stored l = ap (take n) r.program ∙ stored_is (inputIn t).program p n said.program (line-short said.fit.before.before.line) l
+  pub program-stored : length p ≡ 4096 → take n p' ≡ (input_in t).program
+  program-stored l = ap (take n) r.program ∙ stored_is (input_in t).program p n said.program (line-short said.fit.before.before.line) l
 
-  pub proposals-stored : length q ≡ 4096 → take m q' ≡ (inputIn t).proposals
-  proposals-stored l = ap (take m) r.proposals ∙ stored_is (inputIn t).proposals q m said.proposals (line-short said.fit.before.line) l
+  pub proposals-stored : length q ≡ 4096 → take m q' ≡ (input_in t).proposals
+  proposals-stored l = ap (take m) r.proposals ∙ stored_is (input_in t).proposals q m said.proposals (line-short said.fit.before.line) l

@@ -21,13 +21,13 @@ past b [] = []
 past b (x ∷ s) = cond (eqb x b) s (past b s)
 
 -- the pieces between the bytes b, one more than there are such bytes
-abbrev pub onFirst : ℕ → List (List ℕ) → List (List ℕ)
-onFirst x [] = (x ∷ []) ∷ []
-onFirst x (p ∷ ps) = (x ∷ p) ∷ ps
+abbrev pub on_first : ℕ → List (List ℕ) → List (List ℕ)
+on_first x [] = (x ∷ []) ∷ []
+on_first x (p ∷ ps) = (x ∷ p) ∷ ps
 
 unfoldable pub pieces : ℕ → List ℕ → List (List ℕ)
 pieces b [] = [] ∷ []
-pieces b (x ∷ s) = cond (eqb x b) ([] ∷ pieces b s) (onFirst x (pieces b s))
+pieces b (x ∷ s) = cond (eqb x b) ([] ∷ pieces b s) (on_first x (pieces b s))
 
 -- the text begins with the name
 unfoldable pub begins : List ℕ → List ℕ → Bool
@@ -52,13 +52,13 @@ abbrev pub buffer : List ℕ → ℕ → Buffer
 buffer s n = record { bytes = s; at = n }
 
 -- a byte more; past the end nothing is stored
-unfoldable pub withByte : Buffer → ℕ → Buffer
-withByte s b = cond (ltb s.at (length s.bytes)) (buffer (set s.bytes s.at b) (s.at + 1)) s
+unfoldable pub with_byte : Buffer → ℕ → Buffer
+with_byte s b = cond (ltb s.at (length s.bytes)) (buffer (set s.bytes s.at b) (s.at + 1)) s
 
 -- the bytes of a text more
 unfoldable pub written : Buffer → List ℕ → Buffer
 written s [] = s
-written s (b ∷ t) = written (withByte s b) t
+written s (b ∷ t) = written (with_byte s b) t
 
 -- the text t, written into s from the place `at` on, leaves s' and the place at'
 pub record Puts (s : List ℕ) (at : ℕ) (t s' : List ℕ) (at' : ℕ) : Type 0 where

@@ -1,6 +1,6 @@
 -- The grammar of the input's text, in the words of document 01, "The run lister", and apart from how it is read. Assumes nothing: these are definitions.
 use Rattle.std.specs.Prelude.{ℕ, suc, ◌+◌, ◌*◌, ◌<◌, ◌≤◌, List, [], ◌∷◌, ◌++◌, ℤ, pos, negsuc, length}
-use Rattle.lister.specs.Reading.{mostNumbers, mostBytes, programName, proposalsName, budgetName}
+use Rattle.lister.specs.Reading.{most_numbers, most_bytes, program_name, proposals_name, budget_name}
 
 -- "in decimal, without .. leading zeros": digits, of which the first is not 0, and the number that they are
 pub data Digits : List ℕ → ℕ → Type 0 where
@@ -25,10 +25,10 @@ pub data Numbers : List ℕ → List ℤ → Type 0 where
 
 -- a line of a list: its name, its numbers, "at most 4,096 numbers each"
 pub data ListLine (name : List ℕ) : List ℕ → List ℤ → Type 0 where
-  line : {s : List ℕ} {ws : List ℤ} → Numbers s ws → length ws ≤ mostNumbers → ListLine name (name ++ s) ws
+  line : {s : List ℕ} {ws : List ℤ} → Numbers s ws → length ws ≤ most_numbers → ListLine name (name ++ s) ws
 
 pub data BudgetLine : List ℕ → ℤ → Type 0 where
-  line : {s : List ℕ} {w : ℤ} → Numeral s w → BudgetLine (budgetName ++ s) w
+  line : {s : List ℕ} {w : ℤ} → Numeral s w → BudgetLine (budget_name ++ s) w
 
 -- a text is a line and what follows its newline; "the last newline may be missing"
 pub data Opens (s : List ℕ) : List ℕ → List ℕ → Type 0 where
@@ -37,9 +37,9 @@ pub data Opens (s : List ℕ) : List ℕ → List ℕ → Type 0 where
 
 -- the first line of t is fit and gives ps; t' follows it. "1 for size"
 pub record First (t : List ℕ) (ps : List ℤ) (t' : List ℕ) : Type 0 where
-  pub small : length t ≤ mostBytes
+  pub small : length t ≤ most_bytes
   pub text : List ℕ
-  pub line : ListLine programName text ps
+  pub line : ListLine program_name text ps
   pub opens : Opens text t t'
 
 -- the first two lines are fit
@@ -47,7 +47,7 @@ pub record Second (t : List ℕ) (ps qs : List ℤ) (t' : List ℕ) : Type 0 whe
   pub rest : List ℕ
   pub before : First t ps rest
   pub text : List ℕ
-  pub line : ListLine proposalsName text qs
+  pub line : ListLine proposals_name text qs
   pub opens : Opens text rest t'
 
 -- all three are fit; "anything after line 3 makes line 3 unfit"

@@ -6,110 +6,110 @@ use Rattle.tables.specs.declared.Slot.{Slot}
 use Rattle.tables.specs.declared.Slot.TheVariants.{Absent, Has}
 use Rattle.tables.specs.declared.Sort.{Sort}
 use Rattle.tables.specs.declared.Sort.TheVariants.{Values, Identities}
-use Rattle.tables.specs.Sizes.{variables, mostRecords}
-use Rattle.tables.specs.Values.{slotOf}
+use Rattle.tables.specs.Sizes.{variables, most_records}
+use Rattle.tables.specs.Values.{slot_of}
 use Rattle.tables.specs.Cells.{Cells, cell_at}
-use Rattle.tables.specs.Records.{recordCount, fieldCount, labelAt, field_at}
-use Rattle.tables.specs.Kept.{keptCount, positionAt}
+use Rattle.tables.specs.Records.{record_count, field_count, label_at, field_at}
+use Rattle.tables.specs.Kept.{kept_count, position_at}
 use Rattle.lister.specs.Bytes.{laid}
 use Rattle.lister.specs.Numerals.{digits, numeral}
-use Rattle.lister.specs.Reading.{proposalsName}
+use Rattle.lister.specs.Reading.{proposals_name}
 
 -- ---- a line
 
 -- "Values print as `nil`, `bool 1`, `int -5`, `ref 0`."
-unfoldable pub valueText : Value → List ℕ
-valueText Nil = 110 ∷ 105 ∷ 108 ∷ []
-valueText (Truth b) = 98 ∷ 111 ∷ 111 ∷ 108 ∷ 32 ∷ cond b 49 48 ∷ []
-valueText (Int w) = (105 ∷ 110 ∷ 116 ∷ 32 ∷ []) ++ numeral w
-valueText (Ref r) = (114 ∷ 101 ∷ 102 ∷ 32 ∷ []) ++ digits r
+unfoldable pub value_text : Value → List ℕ
+value_text Nil = 110 ∷ 105 ∷ 108 ∷ []
+value_text (Truth b) = 98 ∷ 111 ∷ 111 ∷ 108 ∷ 32 ∷ cond b 49 48 ∷ []
+value_text (Int w) = (105 ∷ 110 ∷ 116 ∷ 32 ∷ []) ++ numeral w
+value_text (Ref r) = (114 ∷ 101 ∷ 102 ∷ 32 ∷ []) ++ digits r
 
 -- `=`, the value, and a newline
-unfoldable pub givenText : Value → List ℕ
-givenText v = (61 ∷ []) ++ valueText v ++ (10 ∷ [])
+unfoldable pub given_text : Value → List ℕ
+given_text v = (61 ∷ []) ++ value_text v ++ (10 ∷ [])
 
 -- a name with its `=`, a number, and a newline
-unfoldable pub namedLine : List ℕ → ℕ → List ℕ
-namedLine name n = name ++ digits n ++ (10 ∷ [])
+unfoldable pub named_line : List ℕ → ℕ → List ℕ
+named_line name n = name ++ digits n ++ (10 ∷ [])
 
 -- a letter with number i, `=`, a number, and a newline
-unfoldable pub countedLine : ℕ → ℕ → ℕ → List ℕ
-countedLine letter i n = (letter ∷ []) ++ digits i ++ namedLine (61 ∷ []) n
+unfoldable pub counted_line : ℕ → ℕ → ℕ → List ℕ
+counted_line letter i n = (letter ∷ []) ++ digits i ++ named_line (61 ∷ []) n
 
 -- ---- the tables
 
 -- the texts of the numbers below n, in order
-unfoldable pub eachBelow : (ℕ → List ℕ) → ℕ → List ℕ
-eachBelow f zero = []
-eachBelow f (suc n) = eachBelow f n ++ f n
+unfoldable pub each_below : (ℕ → List ℕ) → ℕ → List ℕ
+each_below f zero = []
+each_below f (suc n) = each_below f n ++ f n
 
 -- a cell by its name; an absent cell prints nothing
-abbrev pub cellLine : List ℕ → Slot → List ℕ
-cellLine name Absent = []
-cellLine name (Has v) = name ++ givenText v
+abbrev pub cell_line : List ℕ → Slot → List ℕ
+cell_line name Absent = []
+cell_line name (Has v) = name ++ given_text v
 
--- "vN is a present variable"
-unfoldable pub variableText : Cells → ℕ → List ℕ
-variableText S x = cellLine ((118 ∷ []) ++ digits x) (slotOf (cell_at S x))
+-- "v_n is a present variable"
+unfoldable pub variable_text : Cells → ℕ → List ℕ
+variable_text S x = cell_line ((118 ∷ []) ++ digits x) (slot_of (cell_at S x))
 
-unfoldable pub variablesText : Cells → List ℕ
-variablesText S = eachBelow (variableText S) variables
+unfoldable pub variables_text : Cells → List ℕ
+variables_text S = each_below (variable_text S) variables
 
--- "rN.L a field by label in its own order"
-unfoldable pub fieldText : List ℤ → ℕ → ℕ → List ℕ
-fieldText h r f = cellLine ((114 ∷ []) ++ digits r ++ (46 ∷ []) ++ digits (labelAt h r f)) (slotOf (field_at h r f))
+-- "r_n.L a field by label in its own order"
+unfoldable pub field_text : List ℤ → ℕ → ℕ → List ℕ
+field_text h r f = cell_line ((114 ∷ []) ++ digits r ++ (46 ∷ []) ++ digits (label_at h r f)) (slot_of (field_at h r f))
 
-unfoldable pub fieldsText : List ℤ → ℕ → List ℕ
-fieldsText h r = eachBelow (fieldText h r) (fieldCount h r)
+unfoldable pub fields_text : List ℤ → ℕ → List ℕ
+fields_text h r = each_below (field_text h r) (field_count h r)
 
--- "rN a record's field count"
-unfoldable pub recordText : List ℤ → ℕ → List ℕ
-recordText h r = countedLine 114 r (fieldCount h r) ++ fieldsText h r
+-- "r_n a record's field count"
+unfoldable pub record_text : List ℤ → ℕ → List ℕ
+record_text h r = counted_line 114 r (field_count h r) ++ fields_text h r
 
 -- the records that the heap has; no more than there is room for, whatever its count word says
-unfoldable pub shownRecords : List ℤ → ℕ
-shownRecords h = cond (leb (recordCount h) mostRecords) (recordCount h) mostRecords
+unfoldable pub shown_records : List ℤ → ℕ
+shown_records h = cond (leb (record_count h) most_records) (record_count h) most_records
 
-unfoldable pub recordsText : List ℤ → List ℕ
-recordsText h = eachBelow (recordText h) (shownRecords h)
+unfoldable pub records_text : List ℤ → List ℕ
+records_text h = each_below (record_text h) (shown_records h)
 
--- "cN a kept position", "Then come identities, as `i0=`"
-unfoldable pub positionsText : List ℤ → Sort → ℕ → List ℕ
-positionsText c s letter = eachBelow (λ i. countedLine letter i (positionAt c s i)) (keptCount c s)
+-- "c_n a kept position", "Then come identities, as `i0=`"
+unfoldable pub positions_text : List ℤ → Sort → ℕ → List ℕ
+positions_text c s letter = each_below (λ i. counted_line letter i (position_at c s i)) (kept_count c s)
 
-unfoldable pub tablesText : Cells → List ℤ → List ℕ
-tablesText S c = variablesText S ++ recordsText S.heap ++ positionsText c Values 99 ++ positionsText c Identities 105
+unfoldable pub tables_text : Cells → List ℤ → List ℕ
+tables_text S c = variables_text S ++ records_text S.heap ++ positions_text c Values 99 ++ positions_text c Identities 105
 
 -- ---- the whole output
 
 -- the names of the four numbers: `outcome=`, `place=`, `steps=`, and `proposals=` as in the input; and `input=`
-abbrev pub outcomeName : List ℕ
-outcomeName = 111 ∷ 117 ∷ 116 ∷ 99 ∷ 111 ∷ 109 ∷ 101 ∷ 61 ∷ []
+abbrev pub outcome_name : List ℕ
+outcome_name = 111 ∷ 117 ∷ 116 ∷ 99 ∷ 111 ∷ 109 ∷ 101 ∷ 61 ∷ []
 
-abbrev pub placeName : List ℕ
-placeName = 112 ∷ 108 ∷ 97 ∷ 99 ∷ 101 ∷ 61 ∷ []
+abbrev pub place_name : List ℕ
+place_name = 112 ∷ 108 ∷ 97 ∷ 99 ∷ 101 ∷ 61 ∷ []
 
-abbrev pub stepsName : List ℕ
-stepsName = 115 ∷ 116 ∷ 101 ∷ 112 ∷ 115 ∷ 61 ∷ []
+abbrev pub steps_name : List ℕ
+steps_name = 115 ∷ 116 ∷ 101 ∷ 112 ∷ 115 ∷ 61 ∷ []
 
-abbrev pub inputName : List ℕ
-inputName = 105 ∷ 110 ∷ 112 ∷ 117 ∷ 116 ∷ 61 ∷ []
+abbrev pub input_name : List ℕ
+input_name = 105 ∷ 110 ∷ 112 ∷ 117 ∷ 116 ∷ 61 ∷ []
 
-unfoldable pub answerText : ℕ → ℕ → ℕ → ℕ → List ℕ
-answerText outcome place steps proposals = namedLine outcomeName outcome ++ namedLine placeName place ++ namedLine stepsName steps ++ namedLine proposalsName proposals
+unfoldable pub answer_text : ℕ → ℕ → ℕ → ℕ → List ℕ
+answer_text outcome place steps proposals = named_line outcome_name outcome ++ named_line place_name place ++ named_line steps_name steps ++ named_line proposals_name proposals
 
 unfoldable pub listing : ℕ → ℕ → ℕ → ℕ → Cells → List ℤ → List ℕ
-listing outcome place steps proposals S c = answerText outcome place steps proposals ++ tablesText S c
+listing outcome place steps proposals S c = answer_text outcome place steps proposals ++ tables_text S c
 
 -- "an unfit line prints `input=` and the first unfit line's number"
-unfoldable pub unfitText : ℕ → List ℕ
-unfitText line = namedLine inputName line
+unfoldable pub unfit_text : ℕ → List ℕ
+unfit_text line = named_line input_name line
 
 -- ---- what a writer promises
 
 -- enough bytes for every listing
-abbrev pub listingBytes : ℕ
-listingBytes = 30930
+abbrev pub listing_bytes : ℕ
+listing_bytes = 30930
 
 -- the text is laid over the bytes from the first on, and the answer counts the bytes that were written
 pub record Listed (text before after : List ℕ) (n : ℕ) : Type 0 where

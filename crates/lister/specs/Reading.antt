@@ -2,7 +2,7 @@
 use Rattle.std.specs.Prelude.{ℕ, zero, suc, ◌≡◌, cond, List, [], ◌∷◌, ◌++◌, ltb, ℤ, length, drop}
 use Rattle.words.specs.Answer.{Answer, got, stop}
 use Rattle.lister.specs.Bytes.{newline, space, up_to, past, pieces, begins, laid}
-use Rattle.lister.specs.Numerals.{numeralIn}
+use Rattle.lister.specs.Numerals.{numeral_in}
 use Rattle.lister.specs.declared.Numeral.{Numeral}
 use Rattle.lister.specs.declared.Numeral.TheVariants.{Number, Unfit as NoNumber}
 use Rattle.lister.specs.declared.Row.{Row}
@@ -11,21 +11,21 @@ use Rattle.lister.specs.declared.Input.{Input}
 use Rattle.lister.specs.declared.Input.TheVariants.{Reads, Unfit}
 
 -- "at most 4,096 numbers each", "a file above 64 KiB"
-abbrev pub mostNumbers : ℕ
-mostNumbers = 4096
+abbrev pub most_numbers : ℕ
+most_numbers = 4096
 
-abbrev pub mostBytes : ℕ
-mostBytes = 65536
+abbrev pub most_bytes : ℕ
+most_bytes = 65536
 
 -- the names of the three lines: `program=`, `proposals=`, `budget=`
-abbrev pub programName : List ℕ
-programName = 112 ∷ 114 ∷ 111 ∷ 103 ∷ 114 ∷ 97 ∷ 109 ∷ 61 ∷ []
+abbrev pub program_name : List ℕ
+program_name = 112 ∷ 114 ∷ 111 ∷ 103 ∷ 114 ∷ 97 ∷ 109 ∷ 61 ∷ []
 
-abbrev pub proposalsName : List ℕ
-proposalsName = 112 ∷ 114 ∷ 111 ∷ 112 ∷ 111 ∷ 115 ∷ 97 ∷ 108 ∷ 115 ∷ 61 ∷ []
+abbrev pub proposals_name : List ℕ
+proposals_name = 112 ∷ 114 ∷ 111 ∷ 112 ∷ 111 ∷ 115 ∷ 97 ∷ 108 ∷ 115 ∷ 61 ∷ []
 
-abbrev pub budgetName : List ℕ
-budgetName = 98 ∷ 117 ∷ 100 ∷ 103 ∷ 101 ∷ 116 ∷ 61 ∷ []
+abbrev pub budget_name : List ℕ
+budget_name = 98 ∷ 117 ∷ 100 ∷ 103 ∷ 101 ∷ 116 ∷ 61 ∷ []
 
 -- the numbers of a line, or, where it is unfit, those before the first unfit piece
 abbrev pub Line : Type 0
@@ -42,32 +42,32 @@ ahead_of (Number w) a = ahead (w ∷ []) a
 ahead_of NoNumber a = stop []
 
 -- the numbers of pieces, of which there may be n
-unfoldable pub numbersIn : ℕ → List (List ℕ) → Line
-numbersIn n [] = got []
-numbersIn zero (p ∷ ps) = stop []
-numbersIn (suc n) (p ∷ ps) = ahead_of (numeralIn p) (numbersIn n ps)
+unfoldable pub numbers_in : ℕ → List (List ℕ) → Line
+numbers_in n [] = got []
+numbers_in zero (p ∷ ps) = stop []
+numbers_in (suc n) (p ∷ ps) = ahead_of (numeral_in p) (numbers_in n ps)
 
 unfoldable pub row_in : List ℕ → Line
-row_in s = numbersIn mostNumbers (pieces space s)
+row_in s = numbers_in most_numbers (pieces space s)
 
 -- "either list may be empty"
-unfoldable pub listIn : List ℕ → Line
-listIn [] = got []
-listIn (b ∷ s) = row_in (b ∷ s)
+unfoldable pub list_in : List ℕ → Line
+list_in [] = got []
+list_in (b ∷ s) = row_in (b ∷ s)
 
-unfoldable pub lineIn : List ℕ → List ℕ → Line
-lineIn name s = cond (begins name s) (listIn (drop (length name) s)) (stop [])
+unfoldable pub line_in : List ℕ → List ℕ → Line
+line_in name s = cond (begins name s) (list_in (drop (length name) s)) (stop [])
 
 -- the third line, from its first byte to the end of the text: a number, and nothing after its newline
-abbrev pub onlyBy : Numeral → List ℕ → Numeral
-onlyBy n [] = n
-onlyBy n (b ∷ s) = NoNumber
+abbrev pub only_by : Numeral → List ℕ → Numeral
+only_by n [] = n
+only_by n (b ∷ s) = NoNumber
 
-unfoldable pub budgetLine : List ℕ → Numeral
-budgetLine s = cond (begins budgetName s) (numeralIn (drop (length budgetName) s)) NoNumber
+unfoldable pub budget_line : List ℕ → Numeral
+budget_line s = cond (begins budget_name s) (numeral_in (drop (length budget_name) s)) NoNumber
 
-unfoldable pub budgetIn : List ℕ → Numeral
-budgetIn t = onlyBy (budgetLine (up_to newline t)) (past newline t)
+unfoldable pub budget_in : List ℕ → Numeral
+budget_in t = only_by (budget_line (up_to newline t)) (past newline t)
 
 -- what the input comes to: the answer, and the numbers that are stored for the program and for the proposals
 pub record Given : Type 0 where
@@ -78,31 +78,31 @@ pub record Given : Type 0 where
 abbrev pub given : Input → List ℤ → List ℤ → Given
 given a ps qs = record { answer = a; program = ps; proposals = qs }
 
-abbrev pub withBudget : List ℤ → List ℤ → Numeral → Given
-withBudget ps qs (Number w) = given (Reads (length ps) (length qs) w) ps qs
-withBudget ps qs NoNumber = given (Unfit 3) ps qs
+abbrev pub with_budget : List ℤ → List ℤ → Numeral → Given
+with_budget ps qs (Number w) = given (Reads (length ps) (length qs) w) ps qs
+with_budget ps qs NoNumber = given (Unfit 3) ps qs
 
-abbrev pub withProposals : List ℤ → Line → Numeral → Given
-withProposals ps (got qs) b = withBudget ps qs b
-withProposals ps (stop qs) b = given (Unfit 2) ps qs
+abbrev pub with_proposals : List ℤ → Line → Numeral → Given
+with_proposals ps (got qs) b = with_budget ps qs b
+with_proposals ps (stop qs) b = given (Unfit 2) ps qs
 
-abbrev pub withProgram : Line → Line → Numeral → Given
-withProgram (got ps) l b = withProposals ps l b
-withProgram (stop ps) l b = given (Unfit 1) ps []
+abbrev pub with_program : Line → Line → Numeral → Given
+with_program (got ps) l b = with_proposals ps l b
+with_program (stop ps) l b = given (Unfit 1) ps []
 
 -- the lines in order; "1 for size"
-unfoldable pub linesIn : List ℕ → Given
-linesIn t =
-    withProgram (lineIn programName (up_to newline t)) (lineIn proposalsName (up_to newline (past newline t))) (budgetIn (past newline (past newline t)))
+unfoldable pub lines_in : List ℕ → Given
+lines_in t =
+    with_program (line_in program_name (up_to newline t)) (line_in proposals_name (up_to newline (past newline t))) (budget_in (past newline (past newline t)))
 
-unfoldable pub inputIn : List ℕ → Given
-inputIn t = cond (ltb mostBytes (length t)) (given (Unfit 1) [] []) (linesIn t)
+unfoldable pub input_in : List ℕ → Given
+input_in t = cond (ltb most_bytes (length t)) (given (Unfit 1) [] []) (lines_in t)
 
 -- ---- what a reader promises: its answer, and the words that it stored
 
-abbrev pub numbersOf : Line → List ℤ
-numbersOf (got ws) = ws
-numbersOf (stop ws) = ws
+abbrev pub numbers_of : Line → List ℤ
+numbers_of (got ws) = ws
+numbers_of (stop ws) = ws
 
 abbrev pub row_of : Line → Row
 row_of (got ws) = Numbers (length ws)
@@ -110,7 +110,7 @@ row_of (stop ws) = NoRow
 
 pub record RowRead (a : Line) (before after : List ℤ) (r : Row) : Type 0 where
   pub told : r ≡ row_of a
-  pub stored : after ≡ laid (numbersOf a) before
+  pub stored : after ≡ laid (numbers_of a) before
 
 pub record InputRead (g : Given) (p p' q q' : List ℤ) (r : Input) : Type 0 where
   pub told : r ≡ g.answer

@@ -2,14 +2,14 @@
 ghost use Rattle.std.specs.Prelude.{◌≡◌, ◌<◌};
 ghost use Rattle.tables.specs.Cells.{cells};
 ghost use Rattle.lister.specs.Bytes.{Puts};
-ghost use Rattle.lister.specs.Listing.{valueText, givenText, namedLine, countedLine, variableText, variablesText, fieldText, fieldsText, shownRecords, recordsText, positionsText, answerText, tablesText, listing, unfitText, Listed};
+ghost use Rattle.lister.specs.Listing.{value_text, given_text, named_line, counted_line, variable_text, variables_text, field_text, fields_text, shown_records, records_text, positions_text, answer_text, tables_text, listing, unfit_text, Listed};
 
 use super::bytes::{put, put_all};
 use super::numerals::{put_natural, put_number};
 use tables::{Slot, Sort, Value};
 
 fn put_value(out: &mut [u8], at: usize, v: Value) -> usize
-    ensures { Puts out.old at (valueText v) out.new result }
+    ensures { Puts out.old at (value_text v) out.new result }
 {
     match v {
         Value::Nil => put_all(out, at, b"nil"),
@@ -32,7 +32,7 @@ fn put_value(out: &mut [u8], at: usize, v: Value) -> usize
 
 // What follows the name of a cell.
 fn put_given(out: &mut [u8], at: usize, v: Value) -> usize
-    ensures { Puts out.old at (givenText v) out.new result }
+    ensures { Puts out.old at (given_text v) out.new result }
 {
     let value = put(out, at, b'=');
     let end = put_value(out, value, v);
@@ -41,7 +41,7 @@ fn put_given(out: &mut [u8], at: usize, v: Value) -> usize
 
 // A name with its `=`, and a number.
 pub fn put_named(out: &mut [u8], at: usize, name: &[u8], n: usize) -> usize
-    ensures { Puts out.old at (namedLine name.now n) out.new result }
+    ensures { Puts out.old at (named_line name.now n) out.new result }
 {
     let number = put_all(out, at, name);
     let end = put_natural(out, number, n);
@@ -50,7 +50,7 @@ pub fn put_named(out: &mut [u8], at: usize, name: &[u8], n: usize) -> usize
 
 // A letter with number i, and a number.
 fn put_counted(out: &mut [u8], at: usize, letter: u8, i: usize, n: usize) -> usize
-    ensures { Puts out.old at (countedLine letter i n) out.new result }
+    ensures { Puts out.old at (counted_line letter i n) out.new result }
 {
     let index = put(out, at, letter);
     let equals = put_natural(out, index, i);
@@ -59,7 +59,7 @@ fn put_counted(out: &mut [u8], at: usize, letter: u8, i: usize, n: usize) -> usi
 
 // Variable x, if it is present.
 fn put_variable(out: &mut [u8], at: usize, environment: &[i32], heap: &[i32], x: usize) -> usize
-    ensures { Puts out.old at (variableText (cells environment.now heap.now) x) out.new result }
+    ensures { Puts out.old at (variable_text (cells environment.now heap.now) x) out.new result }
 {
     let slot = tables::cells::slot_of(tables::cells::read_cell(environment, heap, x));
     match slot {
@@ -74,7 +74,7 @@ fn put_variable(out: &mut [u8], at: usize, environment: &[i32], heap: &[i32], x:
 
 // The variables that are present, in order.
 fn put_variables(out: &mut [u8], at: usize, environment: &[i32], heap: &[i32]) -> usize
-    ensures { Puts out.old at (variablesText (cells environment.now heap.now)) out.new result }
+    ensures { Puts out.old at (variables_text (cells environment.now heap.now)) out.new result }
 {
     let mut to = at;
     let mut x: usize = 0;
@@ -87,7 +87,7 @@ fn put_variables(out: &mut [u8], at: usize, environment: &[i32], heap: &[i32]) -
 
 // Field place f of record r, by its label.
 fn put_field(out: &mut [u8], at: usize, heap: &[i32], r: usize, f: usize) -> usize
-    ensures { Puts out.old at (fieldText heap.now r f) out.new result }
+    ensures { Puts out.old at (field_text heap.now r f) out.new result }
 {
     let slot = tables::cells::slot_of(tables::records::field_at(heap, r, f));
     match slot {
@@ -105,7 +105,7 @@ fn put_field(out: &mut [u8], at: usize, heap: &[i32], r: usize, f: usize) -> usi
 
 // The fields of record r, in their own order.
 fn put_fields(out: &mut [u8], at: usize, heap: &[i32], r: usize) -> usize
-    ensures { Puts out.old at (fieldsText heap.now r) out.new result }
+    ensures { Puts out.old at (fields_text heap.now r) out.new result }
 {
     let n = tables::records::field_count(heap, r);
     let mut to = at;
@@ -119,7 +119,7 @@ fn put_fields(out: &mut [u8], at: usize, heap: &[i32], r: usize) -> usize
 
 // How many records there are; no more than there is room for, whatever the count word says.
 fn shown_records(heap: &[i32]) -> usize
-    ensures { result ≡ shownRecords heap.now }
+    ensures { result ≡ shown_records heap.now }
 {
     let n = tables::records::record_count(heap);
     if tables::RECORDS < n {
@@ -130,7 +130,7 @@ fn shown_records(heap: &[i32]) -> usize
 
 // Each record with its field count and its fields.
 fn put_records(out: &mut [u8], at: usize, heap: &[i32]) -> usize
-    ensures { Puts out.old at (recordsText heap.now) out.new result }
+    ensures { Puts out.old at (records_text heap.now) out.new result }
 {
     let n = shown_records(heap);
     let mut to = at;
@@ -145,7 +145,7 @@ fn put_records(out: &mut [u8], at: usize, heap: &[i32]) -> usize
 
 // The kept positions of a sort, each after its letter and number.
 fn put_positions(out: &mut [u8], at: usize, constraints: &[i32], s: Sort, letter: u8) -> usize
-    ensures { Puts out.old at (positionsText constraints.now s letter) out.new result }
+    ensures { Puts out.old at (positions_text constraints.now s letter) out.new result }
 {
     let n = tables::kept::kept_count(constraints, s);
     let mut to = at;
@@ -165,7 +165,7 @@ fn put_positions(out: &mut [u8], at: usize, constraints: &[i32], s: Sort, letter
 
 // The four numbers of the answer.
 fn put_answer(out: &mut [u8], outcome: usize, place: usize, steps: usize, proposals: usize) -> usize
-    ensures { Puts out.old 0 (answerText outcome place steps proposals) out.new result }
+    ensures { Puts out.old 0 (answer_text outcome place steps proposals) out.new result }
 {
     let first = put_named(out, 0, b"outcome=", outcome);
     let second = put_named(out, first, b"place=", place);
@@ -181,7 +181,7 @@ fn put_tables(
     heap: &[i32],
     constraints: &[i32],
 ) -> usize
-    ensures { Puts out.old at (tablesText (cells environment.now heap.now) constraints.now) out.new result }
+    ensures { Puts out.old at (tables_text (cells environment.now heap.now) constraints.now) out.new result }
 {
     let records = put_variables(out, at, environment, heap);
     let values = put_records(out, records, heap);
@@ -208,7 +208,7 @@ pub fn write_listing(
 
 // The whole output for an input whose first unfit line is this one.
 pub fn write_unfit(out: &mut [u8], line: usize) -> usize
-    ensures { Listed (unfitText line) out.old out.new result }
+    ensures { Listed (unfit_text line) out.old out.new result }
 {
     put_named(out, 0, b"input=", line)
 }

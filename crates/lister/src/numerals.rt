@@ -1,7 +1,7 @@
 // Decimal numbers, read and written.
 ghost use Rattle.std.specs.Prelude.{◌≡◌, ◌<◌, ◌+◌, nat_abs};
 ghost use Rattle.lister.specs.Bytes.{Puts};
-ghost use Rattle.lister.specs.Numerals.{digitOf, valueFrom, naturalIn, positiveOf, negativeOf, numeralIn, digitsBy, digits, numeral};
+ghost use Rattle.lister.specs.Numerals.{digit_of, value_from, natural_in, positive_of, negative_of, numeral_in, digits_by, digits, numeral};
 
 use super::bytes::put;
 use crate::Numeral;
@@ -17,7 +17,7 @@ const MINUS: u8 = 45;
 
 // The digit that a byte is; 10 where it is none.
 fn digit(b: u8) -> usize
-    ensures { result ≡ digitOf b }
+    ensures { result ≡ digit_of b }
 {
     if b < 48 {
         return 10;
@@ -30,7 +30,7 @@ fn digit(b: u8) -> usize
 
 // The number of a row of digits; NO_NUMBER where a byte is none or where it would pass GREATEST.
 fn value(s: &[u8]) -> usize
-    ensures { result ≡ valueFrom 0 s.now }
+    ensures { result ≡ value_from 0 s.now }
 {
     let mut n: usize = 0;
     let mut i: usize = 0;
@@ -50,7 +50,7 @@ fn value(s: &[u8]) -> usize
 
 // The number of a text of digits without leading zeros.
 fn natural(s: &[u8]) -> usize
-    ensures { result ≡ naturalIn s.now }
+    ensures { result ≡ natural_in s.now }
 {
     if s.len() == 0 {
         return NO_NUMBER;
@@ -65,7 +65,7 @@ fn natural(s: &[u8]) -> usize
 }
 
 fn positive(n: usize) -> Numeral
-    ensures { result ≡ positiveOf n }
+    ensures { result ≡ positive_of n }
 {
     if n < GREATEST {
         return Numeral::Number(words::word_of(n));
@@ -75,7 +75,7 @@ fn positive(n: usize) -> Numeral
 
 // The number after a minus sign.
 fn negative(n: usize) -> Numeral
-    ensures { result ≡ negativeOf n }
+    ensures { result ≡ negative_of n }
 {
     if n == 0 {
         return Numeral::Unfit;
@@ -88,7 +88,7 @@ fn negative(n: usize) -> Numeral
 
 // A 32-bit number in decimal, without plus sign, leading zeros or -0.
 pub fn number(s: &[u8]) -> Numeral
-    ensures { result ≡ numeralIn s.now }
+    ensures { result ≡ numeral_in s.now }
 {
     if s.len() == 0 {
         return Numeral::Unfit;
@@ -109,7 +109,7 @@ fn digit_byte(d: usize) -> u8
 
 // The digits of n, at most as many as `places` allows.
 fn put_digits(out: &mut [u8], at: usize, n: usize, places: usize) -> usize
-    ensures { Puts out.old at (digitsBy places n) out.new result }
+    ensures { Puts out.old at (digits_by places n) out.new result }
 {
     if places == 0 {
         return at;

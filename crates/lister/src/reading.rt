@@ -1,6 +1,6 @@
 // The three lines of the input.
 ghost use Rattle.std.specs.Prelude.{◌≡◌};
-ghost use Rattle.lister.specs.Reading.{row_in, lineIn, budgetIn, inputIn, RowRead, InputRead};
+ghost use Rattle.lister.specs.Reading.{row_in, line_in, budget_in, input_in, RowRead, InputRead};
 
 use super::bytes::{after, begins_with, up_to};
 use super::numerals::number;
@@ -35,7 +35,7 @@ fn read_row(s: &[u8], out: &mut [i32]) -> Row
 
 // A line: its name, and then numbers with one space between, or none.
 pub fn read_line(line: &[u8], name: &[u8], out: &mut [i32]) -> Row
-    ensures { RowRead (lineIn name.now line.now) out.old out.new result }
+    ensures { RowRead (line_in name.now line.now) out.old out.new result }
 {
     if !begins_with(line, name) {
         return Row::Unfit;
@@ -49,7 +49,7 @@ pub fn read_line(line: &[u8], name: &[u8], out: &mut [i32]) -> Row
 
 // The third line: its name, one number, and nothing after it but a newline.
 fn read_budget(text: &[u8]) -> Numeral
-    ensures { result ≡ budgetIn text.now }
+    ensures { result ≡ budget_in text.now }
 {
     if 0 < after(text, NEWLINE).len() {
         return Numeral::Unfit;
@@ -63,7 +63,7 @@ fn read_budget(text: &[u8]) -> Numeral
 
 // The whole input. The numbers of the first two lines are stored as they are read.
 pub fn read_input(text: &[u8], program: &mut [i32], proposals: &mut [i32]) -> Input
-    ensures { InputRead (inputIn text.now) program.old program.new proposals.old proposals.new result }
+    ensures { InputRead (input_in text.now) program.old program.new proposals.old proposals.new result }
 {
     if MOST_BYTES < text.len() {
         return Input::Unfit(1);

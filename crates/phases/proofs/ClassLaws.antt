@@ -10,17 +10,17 @@ use lib.Dec.{eqb}
 use lib.IntN.{ℤ}
 use lib.ListN.{length, replicate, length-replicate}
 use Rattle.words.specs.Answer.{got, stop}
-use Rattle.words.specs.Bits.{marked, withMark}
+use Rattle.words.specs.Bits.{marked, with_mark}
 use Rattle.words.proofs.BitLaws.{none-marked}
 use Rattle.tables.specs.declared.Sort.TheVariants.{Identities}
 use Rattle.tables.specs.declared.Value.{Value}
 use Rattle.tables.specs.Sizes.{locations}
 use Rattle.tables.specs.Cells.{Cells}
-use Rattle.tables.specs.Kept.{keptCount}
+use Rattle.tables.specs.Kept.{kept_count}
 use Rattle.tables.proofs.FindLaws.{kept_in}
 use Rattle.tables.proofs.SearchLaws.{cases}
 use Rattle.rules.specs.State.{Res}
-use Rattle.rules.specs.Identities.{Tie, isNode, ties, member, frozenBy, class_of, names, clashFree}
+use Rattle.rules.specs.Identities.{Tie, is_node, ties, member, frozen_by, class_of, names, clash_free}
 use Rattle.rules.specs.Rules.Identities.{IsNamed, by_tie, backwards, onwards}
 use Rattle.rules.proofs.ClassLaws.{or_left, or_right, or_cases, false≢true, class-all, class-target, class-iff}
 use Rattle.rules.proofs.PhaseLaws.{names-iff}
@@ -28,18 +28,18 @@ use Rattle.proposals.proofs.FormLaws.{unlike}
 use Rattle.phases.specs.declared.Passed.{Passed}
 use Rattle.phases.specs.declared.Passed.TheVariants.{Over, Lost as Astray}
 use Rattle.phases.specs.declared.Classed.TheVariants.{May, Refuses}
-use Rattle.phases.specs.Sizes.{marksWords}
-use Rattle.phases.specs.Tying.{identityAt, tieNo, joins, named_by, Found, Even, Grows, Walked, Passes, PassesOn}
-use Rattle.phases.specs.Freezing.{freeTies}
-use Rattle.phases.specs.Classing.{classFor, Unmarked, Finds, Classes}
+use Rattle.phases.specs.Sizes.{marks_words}
+use Rattle.phases.specs.Tying.{identity_at, tie_no, joins, named_by, Found, Even, Grows, Walked, Passes, PassesOn}
+use Rattle.phases.specs.Freezing.{free_ties}
+use Rattle.phases.specs.Classing.{class_for, Unmarked, Finds, Classes}
 use Rattle.phases.proofs.CountLaws.{many-least}
 use Rattle.phases.proofs.MarkLaws.{both_ways, mark-long, cells-size, cells-member, first-only, first-there, first-size, grows_none, grows_then}
 use Rattle.phases.proofs.TieLaws.{ties-found, ties-lost, ties-have, ties-number}
 use Rattle.phases.proofs.FreeLaws.{free-clash, ties-free, ties-none-free}
 
 -- marks as they are made
-pub unmarked-none : Unmarked (replicate marksWords 0)
-unmarked-none = record { long = length-replicate {A = ℕ} marksWords 0; none = none-marked marksWords }
+pub unmarked-none : Unmarked (replicate marks_words 0)
+unmarked-none = record { long = length-replicate {A = ℕ} marks_words 0; none = none-marked marks_words }
 
 classed-refuses : {class : List ℕ} {a w : ℕ} {m : Res (List ℕ)} → m ≡ stop (record { number = a; word = w }) → Classes class (Refuses a w) m
 classed-refuses {a = a} {w = w} e = record {
@@ -52,10 +52,10 @@ classed-finds f = record { refuses = λ b x h. unlike (cc); finds = λ h. f }
 
 module _ (program kept : List ℤ) (S : Cells) (word : List ℤ) (target : ℕ) (v : Value) where
   abbrev T : ℕ → Res Tie
-  T = tieNo program kept S
+  T = tie_no program kept S
 
   abbrev n : ℕ
-  n = keptCount kept Identities
+  n = kept_count kept Identities
 
   -- ---- what the ties name
 
@@ -82,7 +82,7 @@ module _ (program kept : List ℤ) (S : Cells) (word : List ℤ) (target : ℕ) 
 
     -- ---- marks that grew from the target's, as far as ties reach
 
-    module _ {clear : List ℕ} (u : Unmarked clear) (low : target < locations) {class : List ℕ} (g : Grows T n (withMark clear target) class) (closed : Even T n (marked class)) where
+    module _ {clear : List ℕ} (u : Unmarked clear) (low : target < locations) {class : List ℕ} (g : Grows T n (with_mark clear target) class) (closed : Even T n (marked class)) where
       abbrev inside : ℕ → Bool
       inside l = member l (class_of ts target)
 
@@ -100,7 +100,7 @@ module _ (program kept : List ℤ) (S : Cells) (word : List ℤ) (target : ℕ) 
           (λ t o. let k = ties-number program kept S ts followed t o in let q = closed k.0 k.1.0 t k.1.1 in (λ e. sym q ∙ e, λ e. q ∙ e))
           (g.keeps target (first-there clear u.long u.none target low)) l)
 
-      class-long : length class ≡ marksWords
+      class-long : length class ≡ marks_words
       class-long = g.long ∙ mark-long clear u.long target
 
       class-finds : {m : Res (List ℕ)} → m ≡ got (class_of ts target) → Finds class m
@@ -115,24 +115,24 @@ module _ (program kept : List ℤ) (S : Cells) (word : List ℤ) (target : ℕ) 
 
   -- ---- where no tie is kept
 
-  pub class-alone : {clear class : List ℕ} → Unmarked clear → target < locations → class ≡ withMark clear target → n ≡ 0 → Classes class May (classFor program kept S word target v)
-  unfolding classFor
+  pub class-alone : {clear class : List ℕ} → Unmarked clear → target < locations → class ≡ with_mark clear target → n ≡ 0 → Classes class May (class_for program kept S word target v)
+  unfolding class_for
   class-alone {clear = clear} {class = class} u low e none =
       let no_tie : (X : ℕ → Type 0) (k : ℕ) → k < n → X k = λ X k b. let z : ⊥ = omega arith in absurd z in
       let w = ties-found program kept S (no_tie (λ k. (t : Tie) × (T k ≡ got t))) in
-      let g : Grows T n (withMark clear target) class = rw e (grows_none (withMark clear target)) in
+      let g : Grows T n (with_mark clear target) class = rw e (grows_none (with_mark clear target)) in
       let c : Even T n (marked class) = no_tie (λ k. (t : Tie) → T k ≡ got t → marked class t.one ≡ marked class t.two) in
       let unnamed : names w.0 target ≡ false = cases (names w.0 target)
       (λ q. let x = (names-iff w.0 target).0 q in let k = ties-number program kept S w.0 w.1 x.0 x.1.0 in no_tie (λ j. names w.0 target ≡ false) k.0 k.1.0) (λ q. q) in
-      let free : clashFree S (frozenBy w.0) v (class_of w.0 target) ≡ true =
-      sym (free-clash S (marked class) v (class_of w.0 target) (class-marks w.0 w.1 u low g c) (frozenBy w.0)) ∙ sym (ties-free S (marked class) v program kept w.0 w.1) ∙ (rw none (ties-none-free S (marked class) v (identityAt program kept) 0)) in
+      let free : clash_free S (frozen_by w.0) v (class_of w.0 target) ≡ true =
+      sym (free-clash S (marked class) v (class_of w.0 target) (class-marks w.0 w.1 u low g c) (frozen_by w.0)) ∙ sym (ties-free S (marked class) v program kept w.0 w.1) ∙ (rw none (ties-none-free S (marked class) v (identity_at program kept) 0)) in
       classed-finds (class-finds w.0 w.1 u low g c (rw (w.1, unnamed, free)))
 
   -- ---- where ties are kept
 
-  module _ {count : ℕ} (kept-so-many : count ≡ n) {clear first class : List ℕ} (u : Unmarked clear) (low : target < locations) (start : first ≡ withMark clear target) {r : Passed} (p : Passes T count false target first class r) where
-    pub class-lost : {class' : List ℕ} {a w : ℕ} → r ≡ Astray a w → Classes class' (Refuses a w) (classFor program kept S word target v)
-    unfolding classFor
+  module _ {count : ℕ} (kept-so-many : count ≡ n) {clear first class : List ℕ} (u : Unmarked clear) (low : target < locations) (start : first ≡ with_mark clear target) {r : Passed} (p : Passes T count false target first class r) where
+    pub class-lost : {class' : List ℕ} {a w : ℕ} → r ≡ Astray a w → Classes class' (Refuses a w) (class_for program kept S word target v)
+    unfolding class_for
     class-lost {a = a} {w = w} e =
         let s = p.lost a w e in
         classed-refuses (rw (ties-lost program kept S (record { number = a; word = w }) s.at (omega (arith, s.inside)) s.is (s.first refl)))
@@ -151,9 +151,9 @@ module _ (program kept : List ℤ) (S : Cells) (word : List ℤ) (target : ℕ) 
       followed = (ties-found program kept S walked-over.found).1
 
       abbrev node : Bool
-      node = not (names list target) || isNode v
+      node = not (names list target) || is_node v
 
-      module _ {is : Bool} (what : is ≡ isNode v) where
+      module _ {is : Bool} (what : is ≡ is_node v) where
         node-is : node ≡ not (named && not is)
         node-is = rw (← (names-are list followed walked-over), ← what) (by named is)
           where
@@ -162,25 +162,25 @@ module _ (program kept : List ℤ) (S : Cells) (word : List ℤ) (target : ℕ) 
             by true false = refl
             by false b = refl
 
-        pub class-unfit : {class' : List ℕ} → named && not is ≡ true → Classes class' (Refuses 13 (length word)) (classFor program kept S word target v)
-        unfolding classFor
+        pub class-unfit : {class' : List ℕ} → named && not is ≡ true → Classes class' (Refuses 13 (length word)) (class_for program kept S word target v)
+        unfolding class_for
         class-unfit q = classed-refuses (rw (followed, node-is, q))
 
-        module _ (fits : named && not is ≡ false) {class' : List ℕ} (o : PassesOn T count again class class') {free : Bool} (f : free ≡ freeTies S (marked class') v (identityAt program kept) 0 count) where
-          all-grows : Grows T n (withMark clear target) class'
+        module _ (fits : named && not is ≡ false) {class' : List ℕ} (o : PassesOn T count again class class') {free : Bool} (f : free ≡ free_ties S (marked class') v (identity_at program kept) 0 count) where
+          all-grows : Grows T n (with_mark clear target) class'
           all-grows = rw start at (grows_then walked-over.grows (rw kept-so-many at o.grows))
 
           all_closed : Even T n (marked class')
           all_closed = rw kept-so-many at (o.closed (rw (← kept-so-many) at walked-over.closed))
 
-          free-is : clashFree S (frozenBy list) v (class_of list target) ≡ free
-          free-is = sym (free-clash S (marked class') v (class_of list target) (class-marks list followed u low all-grows all_closed) (frozenBy list))
+          free-is : clash_free S (frozen_by list) v (class_of list target) ≡ free
+          free-is = sym (free-clash S (marked class') v (class_of list target) (class-marks list followed u low all-grows all_closed) (frozen_by list))
               ∙ sym (ties-free S (marked class') v program kept list followed) ∙ sym (rw kept-so-many at f)
 
-          pub class-clashes : free ≡ false → Classes class' (Refuses 12 (length word)) (classFor program kept S word target v)
-          unfolding classFor
+          pub class-clashes : free ≡ false → Classes class' (Refuses 12 (length word)) (class_for program kept S word target v)
+          unfolding class_for
           class-clashes q = classed-refuses (rw (followed, node-is, fits, free-is, q))
 
-          pub class-found : free ≡ true → Classes class' May (classFor program kept S word target v)
-          unfolding classFor
+          pub class-found : free ≡ true → Classes class' May (class_for program kept S word target v)
+          unfolding class_for
           class-found q = classed-finds (class-finds list followed u low all-grows all_closed (rw (followed, node-is, fits, free-is, q)))

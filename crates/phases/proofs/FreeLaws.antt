@@ -8,7 +8,7 @@ use native.Mathlib.Numerals.{add-one}
 use lib.IntN.{ℤ}
 use lib.ListN.{drop}
 use lib.Seq.{drop-drop}
-use Rattle.words.specs.Words.{numberAt}
+use Rattle.words.specs.Words.{number_at}
 use Rattle.words.specs.Answer.{got}
 use Rattle.words.proofs.Laws.{number-drop}
 use Rattle.tables.specs.declared.Value.{Value}
@@ -16,17 +16,17 @@ use Rattle.tables.specs.declared.Found.{Found}
 use Rattle.tables.specs.declared.Found.TheVariants.{At, Nothing}
 use Rattle.tables.specs.declared.Sort.TheVariants.{Identities}
 use Rattle.tables.specs.Cells.{Cells}
-use Rattle.tables.specs.Kept.{keptCount}
+use Rattle.tables.specs.Kept.{kept_count}
 use Rattle.tables.proofs.SearchLaws.{cases, and_left, and_right, and-true}
 use Rattle.rules.specs.State.{slot_at}
-use Rattle.rules.specs.Paths.{Way, wayAt}
-use Rattle.rules.specs.Identities.{Tie, tieAt, ties, member, frozenBy, is, clashFree}
+use Rattle.rules.specs.Paths.{Way, way_at}
+use Rattle.rules.specs.Identities.{Tie, tie_at, ties, member, frozen_by, is, clash_free}
 use Rattle.rules.proofs.ClassLaws.{member-head, member-tail, member-cons, member-none}
 use Rattle.rules.proofs.PhaseLaws.{clash-iff}
-use Rattle.expressions.specs.Following.{stepTo, passed}
+use Rattle.expressions.specs.Following.{step_to, passed}
 use Rattle.expressions.proofs.TraceLaws.{passed_none, passed-lost, passed-more, way-prefix, way-rest}
-use Rattle.phases.specs.Tying.{identityAt}
-use Rattle.phases.specs.Freezing.{freeOf, freeWay, freeTie, freeTies}
+use Rattle.phases.specs.Tying.{identity_at}
+use Rattle.phases.specs.Freezing.{free_of, free_way, free_tie, free_ties}
 use Rattle.phases.proofs.MarkLaws.{both_ways}
 use Rattle.phases.proofs.TieLaws.{tie-sides, ties-row, row-frozen}
 
@@ -36,29 +36,29 @@ and_both false b c = refl
 
 -- one label leads through one cell, wherever it leads
 passed-one : (S : Cells) (l : ℕ) (p : List ℤ) → passed S 1 l p ≡ l ∷ []
-passed-one S l p = go (stepTo S l (numberAt p 0)) refl
+passed-one S l p = go (step_to S l (number_at p 0)) refl
   where
-    go : (s : Found) → stepTo S l (numberAt p 0) ≡ s → passed S 1 l p ≡ l ∷ []
+    go : (s : Found) → step_to S l (number_at p 0) ≡ s → passed S 1 l p ≡ l ∷ []
     go (At next) e = passed-more S 0 l next p e ∙ ap (λ ls. l ∷ ls) (passed_none S next (drop 1 p))
     go Nothing e = passed-lost S 0 l p e
 
 module _ (S : Cells) (f : ℕ → Bool) (v : Value) where
   abbrev F : List ℕ → Bool
-  F = freeOf S f v
+  F = free_of S f v
 
   abbrev may : ℕ → Bool
   may l = not (f l) || is (slot_at S l) v
 
   pub free-none : F [] ≡ true
-  unfolding freeOf
+  unfolding free_of
   free-none = refl
 
   pub free_more : (l : ℕ) (ls : List ℕ) → F (l ∷ ls) ≡ (may l && F ls)
-  unfolding freeOf
+  unfolding free_of
   free_more l ls = refl
 
   pub free-both : (a b : List ℕ) → F (a ++ b) ≡ (F a && F b)
-  unfolding freeOf
+  unfolding free_of
   free-both [] b = refl
   free-both (l ∷ a) b = rw (free-both a b) (sym (and_both (may l) (F a) (F b)))
 
@@ -80,110 +80,110 @@ module _ (S : Cells) (f : ℕ → Bool) (v : Value) where
       (free-iff-back ls (λ l m p. h l (member-tail l k ls m) p))
 
   -- where the cells that pass are those of a class
-  pub free-clash : (c : List ℕ) → ((l : ℕ) → f l ≡ member l c) → (ls : List ℕ) → F ls ≡ clashFree S ls v c
-  free-clash c h ls = both_ways (F ls) (clashFree S ls v c)
+  pub free-clash : (c : List ℕ) → ((l : ℕ) → f l ≡ member l c) → (ls : List ℕ) → F ls ≡ clash_free S ls v c
+  free-clash c h ls = both_ways (F ls) (clash_free S ls v c)
       (λ e. (clash-iff S ls v c).1 (λ l m n. free-iff-on ls e l n (h l ∙ m)))
       (λ e. free-iff-back ls (λ l m p. (clash-iff S ls v c).0 e l (sym (h l) ∙ p) m))
 
   -- ---- an L, an identity, and all that are kept
 
-  pub way-free : (p : List ℤ) (w : Way) → wayAt S p ≡ got w → freeWay S f v p ≡ F w.prefix
+  pub way-free : (p : List ℤ) (w : Way) → way_at S p ≡ got w → free_way S f v p ≡ F w.prefix
   way-free p w e = rw (way-prefix S p w e)
 
-  pub tie-free : (p : List ℤ) (t : Tie) → tieAt S p ≡ got t → freeTie S f v p ≡ F t.prefix
+  pub tie-free : (p : List ℤ) (t : Tie) → tie_at S p ≡ got t → free_tie S f v p ≡ F t.prefix
   tie-free p t e =
       let s = tie-sides S p t e in
       rw (s.made, free-both s.one.prefix s.two.prefix, ← (way-free p s.one s.is_one), ← (way-free s.one.rest s.two s.is-two), way-rest S p s.one s.is_one)
 
-  pub ties-free : (program kept : List ℤ) (ts : List Tie) → ties program kept S ≡ got ts → freeTies S f v (identityAt program kept) 0 (keptCount kept Identities) ≡ F (frozenBy ts)
-  unfolding freeTies
+  pub ties-free : (program kept : List ℤ) (ts : List Tie) → ties program kept S ≡ got ts → free_ties S f v (identity_at program kept) 0 (kept_count kept Identities) ≡ F (frozen_by ts)
+  unfolding free_ties
   ties-free program kept ts e =
-      row-frozen program kept S (freeTies S f v (identityAt program kept)) F (λ i. refl) free-none free-both
-      (λ i m t q. ap (λ b. b && freeTies S f v (identityAt program kept) (suc i) m) (tie-free (identityAt program kept i) t q))
-      0 (keptCount kept Identities) ts (sym (ties-row program kept S) ∙ e)
+      row-frozen program kept S (free_ties S f v (identity_at program kept)) F (λ i. refl) free-none free-both
+      (λ i m t q. ap (λ b. b && free_ties S f v (identity_at program kept) (suc i) m) (tie-free (identity_at program kept i) t q))
+      0 (kept_count kept Identities) ts (sym (ties-row program kept S) ∙ e)
 
-  pub ties-none-free : (at : ℕ → List ℤ) (i : ℕ) → freeTies S f v at i 0 ≡ true
-  unfolding freeTies
+  pub ties-none-free : (at : ℕ → List ℤ) (i : ℕ) → free_ties S f v at i 0 ≡ true
+  unfolding free_ties
   ties-none-free at i = refl
 
   -- ---- the loop over the labels: i are followed, the cell reached is `at`, and the rest gives the whole's answer
 
   pub record Freeing (p : List ℤ) (i at : ℕ) : Type 0 where
-    pub inside : i ≤ numberAt p 1
-    pub rest : F (passed S (numberAt p 1 - i) at (drop i (drop 2 p))) ≡ freeWay S f v p
+    pub inside : i ≤ number_at p 1
+    pub rest : F (passed S (number_at p 1 - i) at (drop i (drop 2 p))) ≡ free_way S f v p
 
-  pub freeing-starts : {p : List ℤ} {at : ℕ} → at ≡ numberAt p 0 → Freeing p 0 at
-  freeing-starts {p = p} e = let z : numberAt p 1 - 0 ≡ numberAt p 1 = omega arith in record { inside = omega arith; rest = rw (z, e) }
+  pub freeing-starts : {p : List ℤ} {at : ℕ} → at ≡ number_at p 0 → Freeing p 0 at
+  freeing-starts {p = p} e = let z : number_at p 1 - 0 ≡ number_at p 1 = omega arith in record { inside = omega arith; rest = rw (z, e) }
 
   module _ {p : List ℤ} {i at : ℕ} (inv : Freeing p i at) where
-    module _ (turn : i < numberAt p 1) {r : Bool} (e : r ≡ may at) where
+    module _ (turn : i < number_at p 1) {r : Bool} (e : r ≡ may at) where
       abbrev labels : List ℤ
       labels = drop i (drop 2 p)
 
-      more : suc (numberAt p 1 - (i + 1)) ≡ numberAt p 1 - i
+      more : suc (number_at p 1 - (i + 1)) ≡ number_at p 1 - i
       more = omega arith
 
-      label : numberAt labels 0 ≡ numberAt (drop 2 p) i
+      label : number_at labels 0 ≡ number_at (drop 2 p) i
       label = number-drop (drop 2 p) i 0 ∙ (let y : i + 0 ≡ i = omega arith in rw y)
 
-      pub freeing-fails : r ≡ false → false ≡ freeWay S f v p
-      freeing-fails q = sym (clash (stepTo S at (numberAt labels 0)) refl) ∙ inv.rest
+      pub freeing-fails : r ≡ false → false ≡ free_way S f v p
+      freeing-fails q = sym (clash (step_to S at (number_at labels 0)) refl) ∙ inv.rest
         where
-          clash : (s : Found) → stepTo S at (numberAt labels 0) ≡ s → F (passed S (numberAt p 1 - i) at labels) ≡ false
-          clash (At next) w = rw (← more, passed-more S (numberAt p 1 - (i + 1)) at next labels w, free_more at (passed S (numberAt p 1 - (i + 1)) next (drop 1 labels)), ← e, q)
-          clash Nothing w = rw (← more, passed-lost S (numberAt p 1 - (i + 1)) at labels w, free_more at [], ← e, q)
+          clash : (s : Found) → step_to S at (number_at labels 0) ≡ s → F (passed S (number_at p 1 - i) at labels) ≡ false
+          clash (At next) w = rw (← more, passed-more S (number_at p 1 - (i + 1)) at next labels w, free_more at (passed S (number_at p 1 - (i + 1)) next (drop 1 labels)), ← e, q)
+          clash Nothing w = rw (← more, passed-lost S (number_at p 1 - (i + 1)) at labels w, free_more at [], ← e, q)
 
       -- the last prefix cell is looked at
-      pub freeing-last : r ≡ true → i + 1 ≡ numberAt p 1 → true ≡ freeWay S f v p
+      pub freeing-last : r ≡ true → i + 1 ≡ number_at p 1 → true ≡ free_way S f v p
       freeing-last q z =
-          let one : numberAt p 1 - i ≡ 1 = omega arith in
-          let w : F (passed S (numberAt p 1 - i) at labels) ≡ true = rw (one, passed-one S at labels, free_more at [], ← e, q, free-none) in
+          let one : number_at p 1 - i ≡ 1 = omega arith in
+          let w : F (passed S (number_at p 1 - i) at labels) ≡ true = rw (one, passed-one S at labels, free_more at [], ← e, q, free-none) in
           sym w ∙ inv.rest
 
-      module _ (ok : r ≡ true) {s : Found} {k : ℕ} {l : List ℤ} (part : l ≡ drop 2 p) (which : k ≡ numberAt l i) (stepped : s ≡ stepTo S at k) where
-        there : stepTo S at (numberAt labels 0) ≡ s
+      module _ (ok : r ≡ true) {s : Found} {k : ℕ} {l : List ℤ} (part : l ≡ drop 2 p) (which : k ≡ number_at l i) (stepped : s ≡ step_to S at k) where
+        there : step_to S at (number_at labels 0) ≡ s
         there = rw (label, ← part, ← which) (sym stepped)
 
-        pub freeing-lost : s ≡ Nothing → true ≡ freeWay S f v p
+        pub freeing-lost : s ≡ Nothing → true ≡ free_way S f v p
         freeing-lost q =
-            let w : F (passed S (numberAt p 1 - i) at labels) ≡ true = rw (← more, passed-lost S (numberAt p 1 - (i + 1)) at labels (there ∙ q), free_more at [], ← e, ok, free-none) in
+            let w : F (passed S (number_at p 1 - i) at labels) ≡ true = rw (← more, passed-lost S (number_at p 1 - (i + 1)) at labels (there ∙ q), free_more at [], ← e, ok, free-none) in
             sym w ∙ inv.rest
 
         pub freeing-goes-on : {next : ℕ} → s ≡ At next → Freeing p (i + 1) next
         freeing-goes-on {next = next} q =
-            let w : F (passed S (numberAt p 1 - i) at labels) ≡ F (passed S (numberAt p 1 - (i + 1)) next (drop 1 labels))
-            = rw (← more, passed-more S (numberAt p 1 - (i + 1)) at next labels (there ∙ q), free_more at (passed S (numberAt p 1 - (i + 1)) next (drop 1 labels)), ← e, ok) in
+            let w : F (passed S (number_at p 1 - i) at labels) ≡ F (passed S (number_at p 1 - (i + 1)) next (drop 1 labels))
+            = rw (← more, passed-more S (number_at p 1 - (i + 1)) at next labels (there ∙ q), free_more at (passed S (number_at p 1 - (i + 1)) next (drop 1 labels)), ← e, ok) in
             record { inside = omega arith; rest = rw (← (drop-drop 1 i (drop 2 p))) (sym w ∙ inv.rest) }
 
-    pub freeing-ends : numberAt p 1 ≤ i → true ≡ freeWay S f v p
-    freeing-ends h = let z : numberAt p 1 - i ≡ 0 = omega arith in rw (z, passed_none S at (drop i (drop 2 p)), free-none) at inv.rest
+    pub freeing-ends : number_at p 1 ≤ i → true ≡ free_way S f v p
+    freeing-ends h = let z : number_at p 1 - i ≡ 0 = omega arith in rw (z, passed_none S at (drop i (drop 2 p)), free-none) at inv.rest
 
   -- ---- the loop over n identities: i are walked
 
   module _ (at : ℕ → List ℤ) (n : ℕ) where
     pub record FreeingTies (i : ℕ) : Type 0 where
       pub inside : i ≤ n
-      pub rest : freeTies S f v at i (n - i) ≡ freeTies S f v at 0 n
+      pub rest : free_ties S f v at i (n - i) ≡ free_ties S f v at 0 n
 
     pub freeing-ties-starts : FreeingTies 0
     freeing-ties-starts = let z : n - 0 ≡ n = omega arith in record { inside = omega arith; rest = rw z }
 
     module _ {i : ℕ} (inv : FreeingTies i) where
-      module _ (turn : i < n) {p : List ℤ} {r : Bool} (is : p ≡ at i) (e : r ≡ freeTie S f v p) where
-        step : (r && freeTies S f v at (i + 1) (n - (i + 1))) ≡ freeTies S f v at 0 n
-        unfolding freeTies
+      module _ (turn : i < n) {p : List ℤ} {r : Bool} (is : p ≡ at i) (e : r ≡ free_tie S f v p) where
+        step : (r && free_ties S f v at (i + 1) (n - (i + 1))) ≡ free_ties S f v at 0 n
+        unfolding free_ties
         step =
             let z : n - i ≡ suc (n - (i + 1)) = omega arith in
             let y : suc i ≡ i + 1 = sym (add-one i) in
-            let w : (freeTie S f v (at i) && freeTies S f v at (suc i) (n - (i + 1))) ≡ freeTies S f v at 0 n = rw z at inv.rest in
+            let w : (free_tie S f v (at i) && free_ties S f v at (suc i) (n - (i + 1))) ≡ free_ties S f v at 0 n = rw z at inv.rest in
             rw (e, is) (rw y at w)
 
-        pub freeing-ties-fails : r ≡ false → false ≡ freeTies S f v at 0 n
+        pub freeing-ties-fails : r ≡ false → false ≡ free_ties S f v at 0 n
         freeing-ties-fails q = rw q at step
 
         pub freeing-ties-goes-on : r ≡ true → FreeingTies (i + 1)
         freeing-ties-goes-on q = record { inside = omega arith; rest = rw q at step }
 
-      pub freeing-ties-ends : n ≤ i → true ≡ freeTies S f v at 0 n
-      unfolding freeTies
+      pub freeing-ties-ends : n ≤ i → true ≡ free_ties S f v at 0 n
+      unfolding free_ties
       freeing-ties-ends h = let z : n - i ≡ 0 = omega arith in rw z at inv.rest

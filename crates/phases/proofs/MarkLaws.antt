@@ -9,7 +9,7 @@ use borrow.Author.Tests.{eqb-true, eq-eqb, ne_eqb}
 use lib.Dec.{eqb}
 use lib.ListN.{length}
 use Rattle.words.specs.Answer.{got, stop}
-use Rattle.words.specs.Bits.{marked, withMark, markedFrom}
+use Rattle.words.specs.Bits.{marked, with_mark, marked_from}
 use Rattle.words.proofs.BitLaws.{mark-length, mark-is, marked-past, from_zero, from_suc}
 use Rattle.tables.specs.Sizes.{locations}
 use Rattle.tables.proofs.SearchLaws.{cases, and_left, and_right, and-true}
@@ -17,9 +17,9 @@ use Rattle.rules.specs.State.{Res}
 use Rattle.rules.specs.Identities.{Tie, member}
 use Rattle.rules.proofs.IdentityClauses.{not-member, member-more}
 use Rattle.rules.proofs.ClassLaws.{or_left, or_right, or_cases, false≢true}
-use Rattle.phases.specs.Sizes.{marksWords}
+use Rattle.phases.specs.Sizes.{marks_words}
 use Rattle.phases.specs.Taking.{cells_of}
-use Rattle.phases.specs.Tying.{howMany, size, joins, Even, joined, Grows}
+use Rattle.phases.specs.Tying.{how_many, size, joins, Even, joined, Grows}
 use Rattle.phases.proofs.CountLaws.{many-strict, many-one, many-none}
 
 pub both_ways : (a b : Bool) → (a ≡ true → b ≡ true) → (b ≡ true → a ≡ true) → a ≡ b
@@ -29,8 +29,8 @@ both_ways false false f g = refl
 
 -- ---- marks of all locations
 
-module _ (s : List ℕ) (long : length s ≡ marksWords) where
-  pub mark-in : (l k : ℕ) → k < locations → marked (withMark s l) k ≡ (eqb k l || marked s k)
+module _ (s : List ℕ) (long : length s ≡ marks_words) where
+  pub mark-in : (l k : ℕ) → k < locations → marked (with_mark s l) k ≡ (eqb k l || marked s k)
   mark-in l k h = mark-is s l k (omega (arith, long))
 
   pub none-past : (k : ℕ) → locations ≤ k → marked s k ≡ false
@@ -43,56 +43,56 @@ module _ (s : List ℕ) (long : length s ≡ marksWords) where
       go (yes y) = y
       go (no n) = false≢true (sym (none-past k (omega arith)) ∙ e)
 
-  pub mark-long : (l : ℕ) → length (withMark s l) ≡ marksWords
+  pub mark-long : (l : ℕ) → length (with_mark s l) ≡ marks_words
   mark-long l = mark-length s l ∙ long
 
-  mark-here : (l : ℕ) → l < locations → marked (withMark s l) l ≡ true
+  mark-here : (l : ℕ) → l < locations → marked (with_mark s l) l ≡ true
   mark-here l h = mark-in l l h ∙ or_left (eqb l l) (marked s l) (eq-eqb l l refl)
 
-  mark-keeps : (l k : ℕ) → marked s k ≡ true → marked (withMark s l) k ≡ true
+  mark-keeps : (l k : ℕ) → marked s k ≡ true → marked (with_mark s l) k ≡ true
   mark-keeps l k e = mark-in l k (marked-low k e) ∙ or_right (eqb k l) (marked s k) e
 
 -- what is marked was marked, or is marked now
-mark-from {ℓ} : {X : Type ℓ} (s : List ℕ) → length s ≡ marksWords → (l k : ℕ) → marked (withMark s l) k ≡ true → (k ≡ l → X) → (marked s k ≡ true → X) → X
+mark-from {ℓ} : {X : Type ℓ} (s : List ℕ) → length s ≡ marks_words → (l k : ℕ) → marked (with_mark s l) k ≡ true → (k ≡ l → X) → (marked s k ≡ true → X) → X
 mark-from s long l k e f g =
-    or_cases (eqb k l) (marked s k) (sym (mark-in s long l k (marked-low (withMark s l) (mark-long s long l) k e)) ∙ e) (λ q. f (eqb-true k l q)) g
+    or_cases (eqb k l) (marked s k) (sym (mark-in s long l k (marked-low (with_mark s l) (mark-long s long l) k e)) ∙ e) (λ q. f (eqb-true k l q)) g
 
 -- ---- how many are marked
 
-from-size : (s : List ℕ) (i n : ℕ) → length (markedFrom s i n) ≡ howMany (marked s) i n
-unfolding howMany
+from-size : (s : List ℕ) (i n : ℕ) → length (marked_from s i n) ≡ how_many (marked s) i n
+unfolding how_many
 from-size s i zero = rw (from_zero s i)
 from-size s i (suc n) =
-    let one : suc (length (markedFrom s (suc i) n)) ≡ 1 + howMany (marked s) (suc i) n = omega (arith, from-size s (suc i) n) in
-    let none : length (markedFrom s (suc i) n) ≡ 0 + howMany (marked s) (suc i) n = omega (arith, from-size s (suc i) n) in
+    let one : suc (length (marked_from s (suc i) n)) ≡ 1 + how_many (marked s) (suc i) n = omega (arith, from-size s (suc i) n) in
+    let none : length (marked_from s (suc i) n) ≡ 0 + how_many (marked s) (suc i) n = omega (arith, from-size s (suc i) n) in
     rw (from_suc s i n) (cases (marked s i) (λ e. rw e one) (λ e. rw e none))
 
 pub cells-size : (class : List ℕ) → length (cells_of class) ≡ size class
 cells-size class = from-size class 0 locations
 
-from-below : (s : List ℕ) (l i n : ℕ) → l < i → member l (markedFrom s i n) ≡ false
+from-below : (s : List ℕ) (l i n : ℕ) → l < i → member l (marked_from s i n) ≡ false
 from-below s l i zero h = rw (from_zero s i) (not-member l)
 from-below s l i (suc n) h = rw (from_suc s i n) (cases (marked s i)
-    (λ e. rw (e, member-more l i (markedFrom s (suc i) n), ne_eqb l i (λ q. omega arith)) (from-below s l (suc i) n (omega arith)))
+    (λ e. rw (e, member-more l i (marked_from s (suc i) n), ne_eqb l i (λ q. omega arith)) (from-below s l (suc i) n (omega arith)))
     (λ e. rw e (from-below s l (suc i) n (omega arith))))
 
-from_member : (s : List ℕ) (l i n : ℕ) → i ≤ l → l < i + n → member l (markedFrom s i n) ≡ marked s l
+from_member : (s : List ℕ) (l i n : ℕ) → i ≤ l → l < i + n → member l (marked_from s i n) ≡ marked s l
 from_member s l i zero a b = let z : ⊥ = omega arith in absurd z
 from_member s l i (suc n) a b = rw (from_suc s i n) (go (ℕ_discrete l i) (λ m. from_member s l (suc i) n m (omega arith)))
   where
-    go : Dec (l ≡ i) → (suc i ≤ l → member l (markedFrom s (suc i) n) ≡ marked s l) → member l (cond (marked s i) (i ∷ markedFrom s (suc i) n) (markedFrom s (suc i) n)) ≡ marked s l
-    go (yes e) r = rw e (cases (marked s i) (λ q. rw (q, member-more i i (markedFrom s (suc i) n), eq-eqb i i refl)) (λ q. rw q (from-below s i (suc i) n (omega arith))))
+    go : Dec (l ≡ i) → (suc i ≤ l → member l (marked_from s (suc i) n) ≡ marked s l) → member l (cond (marked s i) (i ∷ marked_from s (suc i) n) (marked_from s (suc i) n)) ≡ marked s l
+    go (yes e) r = rw e (cases (marked s i) (λ q. rw (q, member-more i i (marked_from s (suc i) n), eq-eqb i i refl)) (λ q. rw q (from-below s i (suc i) n (omega arith))))
     go (no e) r = cases (marked s i)
-        (λ q. rw (q, member-more l i (markedFrom s (suc i) n), ne_eqb l i e) (r (omega arith)))
+        (λ q. rw (q, member-more l i (marked_from s (suc i) n), ne_eqb l i e) (r (omega arith)))
         (λ q. rw q (r (omega arith)))
 
-from_past : (s : List ℕ) (l i n : ℕ) → i + n ≤ l → member l (markedFrom s i n) ≡ false
+from_past : (s : List ℕ) (l i n : ℕ) → i + n ≤ l → member l (marked_from s i n) ≡ false
 from_past s l i zero h = rw (from_zero s i) (not-member l)
 from_past s l i (suc n) h = rw (from_suc s i n) (cases (marked s i)
-    (λ e. rw (e, member-more l i (markedFrom s (suc i) n), ne_eqb l i (λ q. omega arith)) (from_past s l (suc i) n (omega arith)))
+    (λ e. rw (e, member-more l i (marked_from s (suc i) n), ne_eqb l i (λ q. omega arith)) (from_past s l (suc i) n (omega arith)))
     (λ e. rw e (from_past s l (suc i) n (omega arith))))
 
-pub cells-member : (class : List ℕ) → length class ≡ marksWords → (l : ℕ) → member l (cells_of class) ≡ marked class l
+pub cells-member : (class : List ℕ) → length class ≡ marks_words → (l : ℕ) → member l (cells_of class) ≡ marked class l
 cells-member class long l = go (dec_lt l locations)
   where
     go : Dec (l < locations) → member l (cells_of class) ≡ marked class l
@@ -101,15 +101,15 @@ cells-member class long l = go (dec_lt l locations)
 
 -- ---- one mark alone
 
-module _ (s : List ℕ) (long : length s ≡ marksWords) (none : (l : ℕ) → marked s l ≡ false) (target : ℕ) where
-  pub first-only : (l : ℕ) → marked (withMark s target) l ≡ true → l ≡ target
+module _ (s : List ℕ) (long : length s ≡ marks_words) (none : (l : ℕ) → marked s l ≡ false) (target : ℕ) where
+  pub first-only : (l : ℕ) → marked (with_mark s target) l ≡ true → l ≡ target
   first-only l e = mark-from s long target l e (λ q. q) (λ q. false≢true (sym (none l) ∙ q))
 
-  pub first-there : target < locations → marked (withMark s target) target ≡ true
+  pub first-there : target < locations → marked (with_mark s target) target ≡ true
   first-there h = mark-here s long target h
 
-  pub first-size : size (withMark s target) ≤ 1
-  first-size = omega (arith, many-one (λ (l : ℕ). false) (marked (withMark s target)) target (λ l n e. absurd (n (first-only l e))) 0 locations, many-none (λ (l : ℕ). false) (λ l. refl) 0 locations)
+  pub first-size : size (with_mark s target) ≤ 1
+  first-size = omega (arith, many-one (λ (l : ℕ). false) (marked (with_mark s target)) target (λ l n e. absurd (n (first-only l e))) 0 locations, many-none (λ (l : ℕ). false) (λ l. refl) 0 locations)
 
 -- ---- growing
 
@@ -133,15 +133,15 @@ module _ {T : ℕ → Res Tie} {n : ℕ} where
 module _ (T : ℕ → Res Tie) (n : ℕ) where
   -- ---- a tie with one end marked
 
-  module _ (class : List ℕ) (long : length class ≡ marksWords) {k : ℕ} (inside : k < n) (t : Tie) (is : T k ≡ got t)
+  module _ (class : List ℕ) (long : length class ≡ marks_words) {k : ℕ} (inside : k < n) (t : Tie) (is : T k ≡ got t)
       (low-one : t.one < locations) (low-two : t.two < locations) (odd : marked class t.one ≡ not (marked class t.two)) where
     abbrev first : List ℕ
-    first = withMark class t.one
+    first = with_mark class t.one
 
     abbrev both : List ℕ
-    both = withMark first t.two
+    both = with_mark first t.two
 
-    first-long : length first ≡ marksWords
+    first-long : length first ≡ marks_words
     first-long = mark-long class long t.one
 
     tie-keeps : (l : ℕ) → marked class l ≡ true → marked both l ≡ true

@@ -15,10 +15,10 @@ use Rattle.words.proofs.AnswerLaws.{either}
 use Rattle.tables.specs.declared.Sort.TheVariants.{Identities}
 use Rattle.tables.specs.Cells.{Cells}
 use Rattle.tables.specs.Sizes.{locations}
-use Rattle.tables.specs.Kept.{keptCount, positionAt}
+use Rattle.tables.specs.Kept.{kept_count, position_at}
 use Rattle.rules.specs.State.{Fault, Res, listed}
-use Rattle.rules.specs.Paths.{Way, wayAt}
-use Rattle.rules.specs.Identities.{Tie, tieAt, tiesOf, ties, frozenBy}
+use Rattle.rules.specs.Paths.{Way, way_at}
+use Rattle.rules.specs.Identities.{Tie, tie_at, ties_of, ties, frozen_by}
 use Rattle.rules.proofs.ConstraintClauses.{positions-are, listed-none, listed_more}
 use Rattle.rules.proofs.EvaluateClauses.{way-part}
 use Rattle.rules.proofs.WayLaws.{way-below, one-of-cons}
@@ -28,7 +28,7 @@ use Rattle.expressions.specs.declared.Named.TheVariants.{Cell, Lost as Unnamed}
 use Rattle.expressions.specs.Told.{named_of}
 use Rattle.proposals.proofs.FormLaws.{unlike}
 use Rattle.phases.specs.declared.Tied.TheVariants.{Ends, Lost}
-use Rattle.phases.specs.Tying.{tieNo, tiedOf, Found}
+use Rattle.phases.specs.Tying.{tie_no, tied_of, Found}
 
 -- ---- an L
 
@@ -48,41 +48,41 @@ named-at (stop f) e = unlike (cc)
 
 -- ---- an identity: one side, and then the other
 
-module _ (S : Cells) (p : List ℤ) {r : Named} (first : r ≡ named_of (wayAt S p)) where
-  pub tie-lost : {a w : ℕ} → r ≡ Unnamed a w → Lost a w ≡ tiedOf (tieAt S p)
-  tie-lost e = rw (tie-is S p, named-lost (wayAt S p) (sym e ∙ first))
+module _ (S : Cells) (p : List ℤ) {r : Named} (first : r ≡ named_of (way_at S p)) where
+  pub tie-lost : {a w : ℕ} → r ≡ Unnamed a w → Lost a w ≡ tied_of (tie_at S p)
+  tie-lost e = rw (tie-is S p, named-lost (way_at S p) (sym e ∙ first))
 
-  module _ {one left : ℕ} (e : r ≡ Cell one left) {q : List ℤ} {r' : Named} (part : q ≡ last_of left p) (second : r' ≡ named_of (wayAt S q)) where
-    side : NamedAt (wayAt S p) one left
-    side = named-at (wayAt S p) (sym e ∙ first)
+  module _ {one left : ℕ} (e : r ≡ Cell one left) {q : List ℤ} {r' : Named} (part : q ≡ last_of left p) (second : r' ≡ named_of (way_at S q)) where
+    side : NamedAt (way_at S p) one left
+    side = named-at (way_at S p) (sym e ∙ first)
 
     other : q ≡ side.way.rest
     other = part ∙ ap (λ x. last_of x p) side.rest ∙ (way-part S p side.way side.is).is
 
-    pub tie-second-lost : {a w : ℕ} → r' ≡ Unnamed a w → Lost a w ≡ tiedOf (tieAt S p)
-    tie-second-lost h = rw (tie-is S p, side.is, ← other, named-lost (wayAt S q) (sym h ∙ second))
+    pub tie-second-lost : {a w : ℕ} → r' ≡ Unnamed a w → Lost a w ≡ tied_of (tie_at S p)
+    tie-second-lost h = rw (tie-is S p, side.is, ← other, named-lost (way_at S q) (sym h ∙ second))
 
-    pub tie-found : {two rest : ℕ} → r' ≡ Cell two rest → Ends one two ≡ tiedOf (tieAt S p)
+    pub tie-found : {two rest : ℕ} → r' ≡ Cell two rest → Ends one two ≡ tied_of (tie_at S p)
     tie-found h =
-        let w = named-at (wayAt S q) (sym h ∙ second) in
+        let w = named-at (way_at S q) (sym h ∙ second) in
         rw (tie-is S p, side.is, ← other, w.is) (ap₂ Ends side.cell w.cell)
 
 -- what a tie is made of
 pub record Sides (S : Cells) (p : List ℤ) (t : Tie) : Type 0 where
   pub one : Way
-  pub is_one : wayAt S p ≡ got one
+  pub is_one : way_at S p ≡ got one
   pub two : Way
-  pub is-two : wayAt S one.rest ≡ got two
+  pub is-two : way_at S one.rest ≡ got two
   pub made : t ≡ record { one = one.cell; two = two.cell; prefix = one.prefix ++ two.prefix }
 
-pub tie-sides : (S : Cells) (p : List ℤ) (t : Tie) → tieAt S p ≡ got t → Sides S p t
-tie-sides S p t e = either (wayAt S p)
-    (λ a f. either (wayAt S a.rest)
+pub tie-sides : (S : Cells) (p : List ℤ) (t : Tie) → tie_at S p ≡ got t → Sides S p t
+tie-sides S p t e = either (way_at S p)
+    (λ a f. either (way_at S a.rest)
     (λ b g. record { one = a; is_one = f; two = b; is-two = g; made = let z : got (record { one = a.cell; two = b.cell; prefix = a.prefix ++ b.prefix }) ≡ got t = sym (rw (f, g) at (tie-is S p)) ∙ e in sym (cc) })
     (λ h g. let z : stop h ≡ got t = sym (rw (f, g) at (tie-is S p)) ∙ e in unlike (cc)))
     (λ h f. let z : stop h ≡ got t = sym (rw f at (tie-is S p)) ∙ e in unlike (cc))
 
-pub tie-low : (S : Cells) (p : List ℤ) (t : Tie) → tieAt S p ≡ got t → (t.one < locations) × (t.two < locations)
+pub tie-low : (S : Cells) (p : List ℤ) (t : Tie) → tie_at S p ≡ got t → (t.one < locations) × (t.two < locations)
 tie-low S p t e =
     let s = tie-sides S p t e in
     rw s.made (way-below S p s.one s.is_one, way-below S s.one.rest s.two s.is-two)
@@ -91,20 +91,20 @@ tie-low S p t e =
 
 module _ (program kept : List ℤ) (S : Cells) where
   abbrev T : ℕ → Res Tie
-  T = tieNo program kept S
+  T = tie_no program kept S
 
   abbrev row : ℕ → ℕ → Res (List Tie)
-  row i n = tiesOf program S (listed (positionAt kept Identities) i n)
+  row i n = ties_of program S (listed (position_at kept Identities) i n)
 
   row-none : (i : ℕ) → row i 0 ≡ got []
-  row-none i = rw (listed-none (positionAt kept Identities) i) (ties-none program S)
+  row-none i = rw (listed-none (position_at kept Identities) i) (ties-none program S)
 
   row_more : (i n : ℕ) → row i (suc n) ≡ (T i >>= λ t. row (suc i) n >>= λ ts. got (t ∷ ts))
   row_more i n =
-      let d : drop 1 (drop (positionAt kept Identities i) program) ≡ drop (positionAt kept Identities i + 1) program = drop-drop 1 (positionAt kept Identities i) program in
-      rw (listed_more (positionAt kept Identities) i n, d) (ties-more program S (positionAt kept Identities i) (listed (positionAt kept Identities) (suc i) n))
+      let d : drop 1 (drop (position_at kept Identities i) program) ≡ drop (position_at kept Identities i + 1) program = drop-drop 1 (position_at kept Identities i) program in
+      rw (listed_more (position_at kept Identities) i n, d) (ties-more program S (position_at kept Identities i) (listed (position_at kept Identities) (suc i) n))
 
-  pub ties-row : ties program kept S ≡ row 0 (keptCount kept Identities)
+  pub ties-row : ties program kept S ≡ row 0 (kept_count kept Identities)
   ties-row = ties-are program S kept ∙ rw (positions-are kept Identities)
 
   row-found : (i n : ℕ) → ((k : ℕ) → i ≤ k → k < i + n → (t : Tie) × (T k ≡ got t)) → (ts : List Tie) × (row i n ≡ got ts)
@@ -156,7 +156,7 @@ module _ (program kept : List ℤ) (S : Cells) where
       (λ o. let r = row_number (suc i) n w.others w.are t o in (r.0, (omega (arith, r.1.0), (omega (arith, r.1.1.0), r.1.1.1))))
 
   abbrev n : ℕ
-  n = keptCount kept Identities
+  n = kept_count kept Identities
 
   pub ties-found : Found T n → (ts : List Tie) × (ties program kept S ≡ got ts)
   ties-found h = let w = row-found 0 n (λ k a b. h k (omega arith)) in (w.0, ties-row ∙ w.1)
@@ -174,9 +174,9 @@ module _ (program kept : List ℤ) (S : Cells) where
   -- what n ties freeze, in their order
   pub row-frozen : (P : ℕ → ℕ → Bool) (F : List ℕ → Bool) → ((i : ℕ) → P i 0 ≡ true) → F [] ≡ true → ((a b : List ℕ) → F (a ++ b) ≡ (F a && F b))
       → ((i m : ℕ) (t : Tie) → T i ≡ got t → P i (suc m) ≡ (F t.prefix && P (suc i) m))
-      → (i m : ℕ) (ts : List Tie) → row i m ≡ got ts → P i m ≡ F (frozenBy ts)
+      → (i m : ℕ) (ts : List Tie) → row i m ≡ got ts → P i m ≡ F (frozen_by ts)
   row-frozen P F p f both more i zero ts e = let z : got [] ≡ got ts = sym (row-none i) ∙ e in let y : ts ≡ [] = cc in rw (y, frozen-none, p i, f)
   row-frozen P F p f both more i (suc m) ts e =
       let w = row_first i m ts e in
       more i m w.first w.is ∙ ap (λ b. F w.first.prefix && b) (row-frozen P F p f both more (suc i) m w.others w.are)
-      ∙ sym (both w.first.prefix (frozenBy w.others)) ∙ ap F (sym (frozen-more w.first w.others) ∙ ap frozenBy (sym w.all))
+      ∙ sym (both w.first.prefix (frozen_by w.others)) ∙ ap F (sym (frozen-more w.first w.others) ∙ ap frozen_by (sym w.all))

@@ -8,7 +8,7 @@ use native.Mathlib.Decide.{dec_lt}
 use lib.Dec.{eqb}
 use lib.ListN.{length}
 use Rattle.words.specs.Answer.{got, stop}
-use Rattle.words.specs.Bits.{marked, withMark}
+use Rattle.words.specs.Bits.{marked, with_mark}
 use Rattle.tables.specs.Sizes.{locations}
 use Rattle.tables.proofs.SearchLaws.{cases, and-true}
 use Rattle.rules.specs.State.{Res}
@@ -20,8 +20,8 @@ use Rattle.phases.specs.declared.Tied.TheVariants.{Ends, Lost}
 use Rattle.phases.specs.declared.Grown.{Grown}
 use Rattle.phases.specs.declared.Passed.{Passed}
 use Rattle.phases.specs.declared.Passed.TheVariants.{Over, Lost as Astray}
-use Rattle.phases.specs.Sizes.{marksWords}
-use Rattle.phases.specs.Tying.{tiedOf, turn_of, joins, named_by, GrowsTie, Found, Even, joined, Grows, Walked, Passes, PassesOn}
+use Rattle.phases.specs.Sizes.{marks_words}
+use Rattle.phases.specs.Tying.{tied_of, turn_of, joins, named_by, GrowsTie, Found, Even, joined, Grows, Walked, Passes, PassesOn}
 use Rattle.phases.proofs.CountLaws.{many-least}
 use Rattle.phases.proofs.MarkLaws.{joins-most, grows_none, grows_then, tie-one, tie-two, tie-more, tie-grows}
 
@@ -65,11 +65,11 @@ pub record Told (m : Res Tie) (one two : ℕ) : Type 0 where
   pub first : tie.one ≡ one
   pub second : tie.two ≡ two
 
-pub tied-ends : (m : Res Tie) {one two : ℕ} → Ends one two ≡ tiedOf m → Told m one two
+pub tied-ends : (m : Res Tie) {one two : ℕ} → Ends one two ≡ tied_of m → Told m one two
 tied-ends (got t) e = record { tie = t; is = refl; first = cc; second = cc }
 tied-ends (stop f) e = unlike (cc)
 
-pub tied-lost : (m : Res Tie) {a w : ℕ} → Lost a w ≡ tiedOf m → m ≡ stop (record { number = a; word = w })
+pub tied-lost : (m : Res Tie) {a w : ℕ} → Lost a w ≡ tied_of m → m ≡ stop (record { number = a; word = w })
 tied-lost (got t) e = unlike (cc)
 tied-lost (stop f) {a = a} {w = w} e = let x : f.number ≡ a = cc in let y : f.word ≡ w = cc in rw (← x, ← y)
 
@@ -86,7 +86,7 @@ tie-same {a = a} {b = b} p q e = record {
     twice true = refl
     twice false = refl
 
-pub tie-new : {one two : ℕ} {class between class' : List ℕ} {a b : Bool} → a ≡ marked class one → b ≡ marked class two → (a ≡ b → ⊥) → between ≡ withMark class one → class' ≡ withMark between two
+pub tie-new : {one two : ℕ} {class between class' : List ℕ} {a b : Bool} → a ≡ marked class one → b ≡ marked class two → (a ≡ b → ⊥) → between ≡ with_mark class one → class' ≡ with_mark between two
     → GrowsTie one two class class' (record { new = true; apart = false })
 tie-new {one = one} {two = two} {class = class} {a = a} {b = b} p q n e f = record {
   same = λ r. false≢true (sym r);
@@ -125,7 +125,7 @@ turned n k false h = (k, (h, refl))
 
 pub record Walking (T : ℕ → Res Tie) (n : ℕ) (back : Bool) (target : ℕ) (class₀ class : List ℕ) (names again apart : Bool) (i : ℕ) : Type 0 where
   pub inside : i ≤ n
-  pub long : length class ≡ marksWords
+  pub long : length class ≡ marks_words
   pub grows : Grows T n class₀ class
   pub found : (j : ℕ) → j < i → (t : Tie) × (T (turn_of n j back) ≡ got t)
   pub both : apart ≡ false → (j : ℕ) → j < i → joins class (T (turn_of n j back)) ≡ true
@@ -134,7 +134,7 @@ pub record Walking (T : ℕ → Res Tie) (n : ℕ) (back : Bool) (target : ℕ) 
   pub named : names ≡ true → (k : ℕ) × ((k < n) × (named_by target (T k) ≡ true))
   pub unnamed : names ≡ false → (j : ℕ) → j < i → named_by target (T (turn_of n j back)) ≡ false
 
-pub walking-starts : {T : ℕ → Res Tie} {n : ℕ} {back : Bool} {target : ℕ} {class : List ℕ} → length class ≡ marksWords → Walking T n back target class class false false false 0
+pub walking-starts : {T : ℕ → Res Tie} {n : ℕ} {back : Bool} {target : ℕ} {class : List ℕ} → length class ≡ marks_words → Walking T n back target class class false false false 0
 walking-starts {class = class} long = record {
   inside = omega arith;
   long = long;
@@ -157,7 +157,7 @@ upto P i h p j l = go (dec_lt j i)
 
 module _ {T : ℕ → Res Tie} {n : ℕ} {back : Bool} {target : ℕ} {class₀ class : List ℕ} {names again apart : Bool} {i : ℕ}
     (inv : Walking T n back target class₀ class names again apart i) where
-  module _ (turn : i < n) {r : Tied} (is : r ≡ tiedOf (T (turn_of n i back))) where
+  module _ (turn : i < n) {r : Tied} (is : r ≡ tied_of (T (turn_of n i back))) where
     pub walking-lost : {class' : List ℕ} {a w : ℕ} → r ≡ Lost a w → Passes T n back target class₀ class' (Astray a w)
     walking-lost {a = a} {w = w} e = record {
       lost = λ b x h. let u : a ≡ b = cc in let v : w ≡ x = cc in rw (← u, ← v) (record {
@@ -228,14 +228,14 @@ module _ {T : ℕ → Res Tie} {n : ℕ} {back : Bool} {target : ℕ} {class₀ 
         odd : marked class t.one ≡ not (marked class t.two)
         odd = rw (told.first, told.second) (y.grows new).1
 
-        grew : class' ≡ withMark (withMark class t.one) t.two
+        grew : class' ≡ with_mark (with_mark class t.one) t.two
         grew = rw (told.first, told.second) (y.grows new).0
 
         ends : (t.one < locations) × (t.two < locations)
         ends = low t told.is
 
         abbrev both-now : List ℕ
-        both-now = withMark (withMark class t.one) t.two
+        both-now = with_mark (with_mark class t.one) t.two
 
         one-now : marked both-now t.one ≡ true
         one-now = tie-one T n class inv.long (turn_in n i back turn) t told.is ends.0 ends.1 odd
@@ -314,15 +314,15 @@ never-lost {a = a} {w = w} p f e =
 -- ---- walks in a row
 
 pub record WalkingOn (T : ℕ → Res Tie) (n : ℕ) (again : Bool) (class₀ class : List ℕ) (due : Bool) : Type 0 where
-  pub long : length class ≡ marksWords
+  pub long : length class ≡ marks_words
   pub grows : Grows T n class₀ class
   pub closed : due ≡ false → (again ≡ false → Even T n (marked class₀)) → Even T n (marked class)
 
 -- how many walks there can be
-abbrev pub walksLeft : (ℕ → Res Tie) → ℕ → Bool → List ℕ → ℕ
-walksLeft T n due class = cond due (suc n - joined T n class) 0
+abbrev pub walks_left : (ℕ → Res Tie) → ℕ → Bool → List ℕ → ℕ
+walks_left T n due class = cond due (suc n - joined T n class) 0
 
-pub walking-on-starts : {T : ℕ → Res Tie} {n : ℕ} {again : Bool} {class : List ℕ} → length class ≡ marksWords → WalkingOn T n again class class again
+pub walking-on-starts : {T : ℕ → Res Tie} {n : ℕ} {again : Bool} {class : List ℕ} → length class ≡ marks_words → WalkingOn T n again class class again
 walking-on-starts {class = class} long = record { long = long; grows = grows_none class; closed = λ e h. h e }
 
 module _ {T : ℕ → Res Tie} {n : ℕ} {again : Bool} {class₀ class : List ℕ} {due : Bool} (inv : WalkingOn T n again class₀ class due) where
@@ -334,7 +334,7 @@ module _ {T : ℕ → Res Tie} {n : ℕ} {again : Bool} {class₀ class : List �
       pub walking-on-goes-on : WalkingOn T n again class₀ class' more
       walking-on-goes-on = record { long = walked.grows.long ∙ inv.long; grows = grows_then inv.grows walked.grows; closed = λ q h. walked.closed q }
 
-      pub walking-on-less : due ≡ true → walksLeft T n more class' < walksLeft T n due class
+      pub walking-on-less : due ≡ true → walks_left T n more class' < walks_left T n due class
       walking-on-less d = rw d (cases more (λ q. rw q (omega (arith, walked.more q, many-least (λ k. joins class' (T k)) 0 n))) (λ q. rw q (omega (arith, many-least (λ k. joins class (T k)) 0 n))))
 
   pub walking-on-ends : due ≡ false → PassesOn T n again class₀ class

@@ -17,10 +17,10 @@ done_of (got l) = Accepted (length l.unread) l.accepted
 done_of (stop f) = Refused f.number f.word
 
 -- the tables after a statement; those before it, word for word, where it is refused
-abbrev pub doneState : State → Res Left → State
-doneState S (got l) = l.state
-doneState S (stop f) = S
+abbrev pub done_state : State → Res Left → State
+done_state S (got l) = l.state
+done_state S (stop f) = S
 
 pub record Does (S Z : State) (r : Done) (m : Res Left) : Type 0 where
   pub is : r ≡ done_of m
-  pub leaves : Z ≡ doneState S m
+  pub leaves : Z ≡ done_state S m

@@ -1,13 +1,13 @@
 -- Kept identities as ties in a row, and marks that grow with them. Assumes nothing: these are definitions.
 use Rattle.std.specs.Prelude.{ℕ, zero, suc, ◌+◌, ◌-◌, ◌≤◌, ◌<◌, ◌≡◌, Bool, true, false, not, cond, ◌&&◌, ◌||◌, List, eqb, ℤ, length, drop}
 use Rattle.words.specs.Answer.{got, stop}
-use Rattle.words.specs.Bits.{marked, withMark}
+use Rattle.words.specs.Bits.{marked, with_mark}
 use Rattle.tables.specs.declared.Sort.TheVariants.{Identities}
 use Rattle.tables.specs.Sizes.{locations}
 use Rattle.tables.specs.Cells.{Cells}
-use Rattle.tables.specs.Kept.{positionAt}
+use Rattle.tables.specs.Kept.{position_at}
 use Rattle.rules.specs.State.{Res}
-use Rattle.rules.specs.Identities.{Tie, tieAt}
+use Rattle.rules.specs.Identities.{Tie, tie_at}
 use Rattle.phases.specs.declared.Tied.{Tied}
 use Rattle.phases.specs.declared.Tied.TheVariants.{Ends, Lost}
 use Rattle.phases.specs.declared.Grown.{Grown}
@@ -17,16 +17,16 @@ use Rattle.phases.specs.declared.Passed.TheVariants.{Over, Lost as Astray}
 -- ---- ties
 
 -- kept identity number k, from its first side on, and followed in the tables
-abbrev pub identityAt : List ℤ → List ℤ → ℕ → List ℤ
-identityAt program kept k = drop 1 (drop (positionAt kept Identities k) program)
+abbrev pub identity_at : List ℤ → List ℤ → ℕ → List ℤ
+identity_at program kept k = drop 1 (drop (position_at kept Identities k) program)
 
-abbrev pub tieNo : List ℤ → List ℤ → Cells → ℕ → Res Tie
-tieNo program kept S k = tieAt S (identityAt program kept k)
+abbrev pub tie_no : List ℤ → List ℤ → Cells → ℕ → Res Tie
+tie_no program kept S k = tie_at S (identity_at program kept k)
 
 -- its two cells
-abbrev pub tiedOf : Res Tie → Tied
-tiedOf (got t) = Ends t.one t.two
-tiedOf (stop f) = Lost f.number f.word
+abbrev pub tied_of : Res Tie → Tied
+tied_of (got t) = Ends t.one t.two
+tied_of (stop f) = Lost f.number f.word
 
 -- the i-th of n, from the first on or back from the last
 abbrev pub turn_of : ℕ → ℕ → Bool → ℕ
@@ -35,13 +35,13 @@ turn_of n i back = cond back (n - i - 1) i
 -- ---- marks and ties
 
 -- how many of n numbers, from i on, pass
-unfoldable pub howMany : (ℕ → Bool) → ℕ → ℕ → ℕ
-howMany f i zero = 0
-howMany f i (suc n) = cond (f i) 1 0 + howMany f (suc i) n
+unfoldable pub how_many : (ℕ → Bool) → ℕ → ℕ → ℕ
+how_many f i zero = 0
+how_many f i (suc n) = cond (f i) 1 0 + how_many f (suc i) n
 
 -- how many cells are marked
 abbrev pub size : List ℕ → ℕ
-size class = howMany (marked class) 0 locations
+size class = how_many (marked class) 0 locations
 
 -- a tie whose two ends are marked, and one that names the target
 abbrev pub joins : List ℕ → Res Tie → Bool
@@ -55,7 +55,7 @@ named_by target (stop f) = false
 -- both ends of a tie that has one end marked are marked
 pub record GrowsTie (one two : ℕ) (class class' : List ℕ) (r : Grown) : Type 0 where
   pub same : r.new ≡ false → (class' ≡ class) × (marked class one ≡ marked class two)
-  pub grows : r.new ≡ true → (class' ≡ withMark (withMark class one) two) × (marked class one ≡ not (marked class two))
+  pub grows : r.new ≡ true → (class' ≡ with_mark (with_mark class one) two) × (marked class one ≡ not (marked class two))
   pub apart : r.apart ≡ (not (marked class one) && not (marked class two))
 
 module _ (T : ℕ → Res Tie) (n : ℕ) where
@@ -68,7 +68,7 @@ module _ (T : ℕ → Res Tie) (n : ℕ) where
   Even f = (k : ℕ) → k < n → (t : Tie) → T k ≡ got t → f t.one ≡ f t.two
 
   abbrev pub joined : List ℕ → ℕ
-  joined class = howMany (λ k. joins class (T k)) 0 n
+  joined class = how_many (λ k. joins class (T k)) 0 n
 
   -- the marks grow, by ties alone; with each mark one tie more has both ends marked
   pub record Grows (class class' : List ℕ) : Type 0 where

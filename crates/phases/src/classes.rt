@@ -4,11 +4,11 @@ ghost use Rattle.words.specs.Bits.{marked};
 ghost use Rattle.tables.specs.Sizes.{locations};
 ghost use Rattle.tables.specs.Cells.{cells};
 ghost use Rattle.rules.specs.State.{slot_at};
-ghost use Rattle.rules.specs.Identities.{tieAt, isNode, is};
-ghost use Rattle.phases.specs.Sizes.{mostTies, marksWords};
-ghost use Rattle.phases.specs.Tying.{identityAt, tiedOf, tieNo, turn_of, Found as Leads, GrowsTie, Passes, PassesOn};
-ghost use Rattle.phases.specs.Freezing.{freeWay, freeTie, freeTies};
-ghost use Rattle.phases.specs.Classing.{classFor, Unmarked, Classes};
+ghost use Rattle.rules.specs.Identities.{tie_at, is_node, is};
+ghost use Rattle.phases.specs.Sizes.{most_ties, marks_words};
+ghost use Rattle.phases.specs.Tying.{identity_at, tied_of, tie_no, turn_of, Found as Leads, GrowsTie, Passes, PassesOn};
+ghost use Rattle.phases.specs.Freezing.{free_way, free_tie, free_ties};
+ghost use Rattle.phases.specs.Classing.{class_for, Unmarked, Classes};
 
 use crate::{Classed, Grown, Passed, Tied};
 use expressions::Named;
@@ -18,7 +18,7 @@ use words::bits::{is_marked, mark};
 
 // The two cells that the identity at p names.
 fn tie_at(environment: &[i32], heap: &[i32], p: &[i32]) -> Tied
-    ensures { result ≡ tiedOf (tieAt (cells environment.now heap.now) p.now) }
+    ensures { result ≡ tied_of (tie_at (cells environment.now heap.now) p.now) }
 {
     match cell_at(environment, heap, p) {
         Named::Lost(a, w) => Tied::Lost(a, w),
@@ -31,7 +31,7 @@ fn tie_at(environment: &[i32], heap: &[i32], p: &[i32]) -> Tied
 
 // Kept identity number k, from its first side on.
 fn identity_at<'a>(program: &'a [i32], constraints: &[i32], k: usize) -> &'a [i32]
-    ensures { result.now ≡ identityAt program.now constraints.now k }
+    ensures { result.now ≡ identity_at program.now constraints.now k }
 {
     let statement = words::part_from(
         program,
@@ -42,7 +42,7 @@ fn identity_at<'a>(program: &'a [i32], constraints: &[i32], k: usize) -> &'a [i3
 
 // References and nil.
 pub fn is_node(v: Value) -> bool
-    ensures { result ≡ isNode v }
+    ensures { result ≡ is_node v }
 {
     match v {
         Value::Nil => true,
@@ -104,9 +104,9 @@ fn pass(
     target: usize,
     class: &mut [u64],
 ) -> Passed
-    requires n_le_most_ties { n ≤ mostTies }
-    requires class_len { length class.old ≡ marksWords }
-    ensures { Passes (tieNo program.now constraints.now (cells environment.now heap.now)) n back target class.old class.new result }
+    requires n_le_most_ties { n ≤ most_ties }
+    requires class_len { length class.old ≡ marks_words }
+    ensures { Passes (tie_no program.now constraints.now (cells environment.now heap.now)) n back target class.old class.new result }
 {
     let mut names = false;
     let mut apart = false;
@@ -141,10 +141,10 @@ fn pass_on(
     target: usize,
     class: &mut [u64],
 )
-    requires n_le_most_ties { n ≤ mostTies }
-    requires class_len { length class.old ≡ marksWords }
-    requires leads { Leads (tieNo program.now constraints.now (cells environment.now heap.now)) n }
-    ensures { PassesOn (tieNo program.now constraints.now (cells environment.now heap.now)) n again class.old class.new }
+    requires n_le_most_ties { n ≤ most_ties }
+    requires class_len { length class.old ≡ marks_words }
+    requires leads { Leads (tie_no program.now constraints.now (cells environment.now heap.now)) n }
+    ensures { PassesOn (tie_no program.now constraints.now (cells environment.now heap.now)) n again class.old class.new }
 {
     let mut back = true;
     let mut due = again;
@@ -188,7 +188,7 @@ pub(crate) fn is_way_free(
     class: &[u64],
     v: Value,
 ) -> bool
-    ensures { result ≡ freeWay (cells environment.now heap.now) (marked class.now) v p.now }
+    ensures { result ≡ free_way (cells environment.now heap.now) (marked class.now) v p.now }
 {
     let n = words::number_at(p, 1);
     let labels = words::part_from(p, 2);
@@ -216,7 +216,7 @@ pub(crate) fn is_way_free(
 
 // The same of both sides of the identity at p.
 fn is_tie_free(environment: &[i32], heap: &[i32], p: &[i32], class: &[u64], v: Value) -> bool
-    ensures { result ≡ freeTie (cells environment.now heap.now) (marked class.now) v p.now }
+    ensures { result ≡ free_tie (cells environment.now heap.now) (marked class.now) v p.now }
 {
     if !is_way_free(environment, heap, p, class, v) {
         return false;
@@ -235,7 +235,7 @@ fn is_clash_free(
     class: &[u64],
     v: Value,
 ) -> bool
-    ensures { result ≡ freeTies (cells environment.now heap.now) (marked class.now) v (identityAt program.now constraints.now) 0 n }
+    ensures { result ≡ free_ties (cells environment.now heap.now) (marked class.now) v (identity_at program.now constraints.now) 0 n }
 {
     let mut i: usize = 0;
     while i < n {
@@ -261,7 +261,7 @@ pub(crate) fn mark_class(
 ) -> Classed
     requires target_lt_locations { target < locations }
     requires unmarked { Unmarked class.old }
-    ensures { Classes class.new result (classFor program.now constraints.now (cells environment.now heap.now) p.now target v) }
+    ensures { Classes class.new result (class_for program.now constraints.now (cells environment.now heap.now) p.now target v) }
 {
     let n = tables::kept::kept_count(constraints, Sort::Identities);
     mark(class, target);

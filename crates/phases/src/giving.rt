@@ -1,15 +1,15 @@
 // A target's class takes a value, and then one proposal is read. A refusal leaves every word as it was.
 ghost use Rattle.std.specs.Prelude.{◌≡◌, ◌≤◌, ◌*◌, length};
-ghost use Rattle.words.specs.Bits.{nextMarked};
+ghost use Rattle.words.specs.Bits.{next_marked};
 ghost use Rattle.tables.specs.declared.Value.TheVariants.{Ref};
 ghost use Rattle.tables.specs.Cells.{cells, put_pair};
-ghost use Rattle.tables.specs.Records.{recordCount, withRecord};
+ghost use Rattle.tables.specs.Records.{record_count, with_record};
 ghost use Rattle.rules.specs.Identities.{put_all};
-ghost use Rattle.rules.specs.Statements.{valuePhase};
-ghost use Rattle.phases.specs.Sizes.{marksWords, classCells};
+ghost use Rattle.rules.specs.Statements.{value_phase};
+ghost use Rattle.phases.specs.Sizes.{marks_words, class_cells};
 ghost use Rattle.phases.specs.Told.{tables, Does};
-ghost use Rattle.phases.specs.Taking.{cells_of, heldAgain, Gives};
-ghost use Rattle.phases.specs.Classing.{gives, givesNew};
+ghost use Rattle.phases.specs.Taking.{cells_of, held_again, Gives};
+ghost use Rattle.phases.specs.Classing.{gives, gives_new};
 
 use super::classes::{is_way_free, mark_class};
 use crate::{CLASS_WORDS, Classed, Done, MARKS_WORDS, ROOM_WORDS};
@@ -21,8 +21,8 @@ use tables::Value;
 
 // The first marked cell from l on; no location where none is.
 fn next_marked(class: &[u64], l: usize) -> usize
-    requires { length class.now ≡ marksWords }
-    ensures { result ≡ nextMarked class.now l }
+    requires { length class.now ≡ marks_words }
+    ensures { result ≡ next_marked class.now l }
 {
     let mut i = l / 64;
     if class.len() <= i {
@@ -56,7 +56,7 @@ fn lay_by(saved: &mut [i32], i: usize, c: tables::Cell)
 
 // The marked cells take the value; what was there is laid by, in their order.
 fn put_class(environment: &mut [i32], heap: &mut [i32], class: &[u64], v: Value, saved: &mut [i32])
-    requires class_len { length class.now ≡ marksWords }
+    requires class_len { length class.now ≡ marks_words }
     requires class_in_bounds { 2 * length (cells_of class.now) ≤ length saved.old }
     ensures { Gives (cells environment.old heap.old) (cells environment.new heap.new) class.now saved.new v }
 {
@@ -72,8 +72,8 @@ fn put_class(environment: &mut [i32], heap: &mut [i32], class: &[u64], v: Value,
 
 // The marked cells hold again what was laid by.
 fn take_back(environment: &mut [i32], heap: &mut [i32], class: &[u64], saved: &[i32])
-    requires { length class.now ≡ marksWords }
-    ensures { cells environment.new heap.new ≡ heldAgain saved.now (cells_of class.now) 0 (cells environment.old heap.old) }
+    requires { length class.now ≡ marks_words }
+    ensures { cells environment.new heap.new ≡ held_again saved.now (cells_of class.now) 0 (cells environment.old heap.old) }
 {
     let mut i: usize = 0;
     let mut at = next_marked(class, 0);
@@ -96,9 +96,9 @@ fn move_class(
     v: Value,
     p: &[i32],
 ) -> Done
-    requires class_len { length class.now ≡ marksWords }
-    requires class_len_bound { length (cells_of class.now) ≤ classCells }
-    ensures { Does (tables environment.old heap.old constraints.now) (tables environment.new heap.new constraints.now) result (valuePhase program.now constraints.now p.now target (put_all (cells environment.old heap.old) (cells_of class.now) v) proposals.now) }
+    requires class_len { length class.now ≡ marks_words }
+    requires class_len_bound { length (cells_of class.now) ≤ class_cells }
+    ensures { Does (tables environment.old heap.old constraints.now) (tables environment.new heap.new constraints.now) result (value_phase program.now constraints.now p.now target (put_all (cells environment.old heap.old) (cells_of class.now) v) proposals.now) }
 {
     let mut saved = [0i32; CLASS_WORDS];
     put_class(environment, heap, class, v, &mut saved);
@@ -179,9 +179,9 @@ fn move_new(
     n: usize,
     p: &[i32],
 ) -> Done
-    requires class_len { length class.now ≡ marksWords }
-    requires class_len_bound { length (cells_of class.now) ≤ classCells }
-    ensures { Does (tables environment.old heap.old constraints.now) (tables environment.new heap.new constraints.now) result (valuePhase program.now constraints.now p.now x (put_all (cells environment.old (withRecord heap.old fields.now n)) (cells_of class.now) (Ref (recordCount heap.old))) proposals.now) }
+    requires class_len { length class.now ≡ marks_words }
+    requires class_len_bound { length (cells_of class.now) ≤ class_cells }
+    ensures { Does (tables environment.old heap.old constraints.now) (tables environment.new heap.new constraints.now) result (value_phase program.now constraints.now p.now x (put_all (cells environment.old (with_record heap.old fields.now n)) (cells_of class.now) (Ref (record_count heap.old))) proposals.now) }
 {
     let v = Value::Ref(tables::records::record_count(heap));
     let mut room = [0i32; ROOM_WORDS];
@@ -218,7 +218,7 @@ pub fn give_new(
     fields: &[i32],
     n: usize,
 ) -> Done
-    ensures { Does (tables environment.old heap.old constraints.now) (tables environment.new heap.new constraints.now) result (givesNew program.now p.now (tables environment.old heap.old constraints.now) proposals.now x fields.now n) }
+    ensures { Does (tables environment.old heap.old constraints.now) (tables environment.new heap.new constraints.now) result (gives_new program.now p.now (tables environment.old heap.old constraints.now) proposals.now x fields.now n) }
 {
     if tables::VARIABLES <= x {
         return Done::Refused(2, words::less(p.len(), 1));

@@ -8,23 +8,23 @@ use lib.Dec.{leb}
 use lib.IntN.{ℤ, pos}
 use lib.ListN.{get_or, drop}
 use Rattle.words.specs.Answer.{got}
-use Rattle.words.specs.Words.{numberAt}
+use Rattle.words.specs.Words.{number_at}
 use Rattle.words.proofs.Laws.{number-first, number-drop}
 use Rattle.tables.specs.Sizes.{variables, labels}
 use Rattle.tables.proofs.SearchLaws.{cases}
-use Rattle.program.specs.Forms.{aNil, aFalse, aTrue, anInteger, aPath, anOperation, anIdentity}
-use Rattle.program.specs.Forms.{skip, assign, new, always, once, alwaysSame, onceSame, branch, loop}
-use Rattle.program.specs.Reading.{readProgram}
+use Rattle.program.specs.Forms.{a_nil, a_false, a_true, an_integer, a_path, an_operation, an_identity}
+use Rattle.program.specs.Forms.{skip, assign, new, always, once, always_same, once_same, branch, loop}
+use Rattle.program.specs.Reading.{read_program}
 use Rattle.program.specs.Grammar as Grammar
-use Rattle.program.specs.Grammar.{Piece, block_of, statementsOf, statementOf, Yields}
+use Rattle.program.specs.Grammar.{Piece, block_of, statements_of, statement_of, Yields}
 use Rattle.program.proofs.FormLaws.{form-is, verb-is}
 use Rattle.program.proofs.GrammarLaws.{program-sound}
-use Rattle.text.specs.Reading.{levelOf}
-use Rattle.printing.specs.Signs.{Sign, around, before, operatorText, operatorSigns, priorityText, prioritySigns, space, line}
-use Rattle.printing.specs.Signs.{identicalSign, becomesSign, thenSign, elseSign, doSign, semicolonSign}
-use Rattle.printing.specs.Printing.{Printed, then, say, until, rowText, labelsText, path_text, sidesText, operandsText, operationText, formText, expressionText, wholeText}
-use Rattle.printing.specs.Printing.{partText, constraintText, fieldText, fieldsText, newText, assignText, branchText, loopText, verbText, verbAt}
-use Rattle.printing.specs.Printing.{braces, blockText, statementText, statementsText, programText}
+use Rattle.text.specs.Reading.{level_of}
+use Rattle.printing.specs.Signs.{Sign, around, before, operator_text, operator_signs, priority_text, priority_signs, space, line}
+use Rattle.printing.specs.Signs.{identical_sign, becomes_sign, then_sign, else_sign, do_sign, semicolon_sign}
+use Rattle.printing.specs.Printing.{Printed, then, say, until, row_text, labels_text, path_text, sides_text, operands_text, operation_text, form_text, expression_text, whole_text}
+use Rattle.printing.specs.Printing.{part_text, constraint_text, field_text, fields_text, new_text, assign_text, branch_text, loop_text, verb_text, verb_at}
+use Rattle.printing.specs.Printing.{braces, block_text, statement_text, statements_text, program_text}
 
 -- variables are below 64 and labels below 32
 pub data Bounded : List Sign → Type 0 where
@@ -51,13 +51,13 @@ plain-bounded (Sign.integer z) = (Bounded.none, Bounded.none)
 plain-bounded (Sign.variable x) = (Bounded.none, Bounded.none)
 plain-bounded (Sign.label l) = (Bounded.none, Bounded.none)
 
-operator-bounded : (k : ℕ) → Bounded (operatorText k)
-unfolding operatorText
-operator-bounded k = (plain-bounded (get_or operatorSigns k (Sign.blank []))).0
+operator-bounded : (k : ℕ) → Bounded (operator_text k)
+unfolding operator_text
+operator-bounded k = (plain-bounded (get_or operator_signs k (Sign.blank []))).0
 
-priority-bounded : (k : ℕ) → Bounded (priorityText k)
-unfolding priorityText
-priority-bounded k = (plain-bounded (get_or prioritySigns k (Sign.blank []))).1
+priority-bounded : (k : ℕ) → Bounded (priority_text k)
+unfolding priority_text
+priority-bounded k = (plain-bounded (get_or priority_signs k (Sign.blank []))).1
 
 mark-spaced : {c : ℕ} {s t u : List ℕ} → Bounded (Sign.blank t ∷ Sign.fixed c s ∷ Sign.blank u ∷ [])
 mark-spaced = Bounded.blank (Bounded.fixed (Bounded.blank Bounded.none))
@@ -86,8 +86,8 @@ write-next ss f w b x = write_then (λ u. say ss (f u)) w (write-say b x)
 
 -- ---- paths
 
-labels-write : {n : ℕ} {ws : List ℤ} → Grammar.Labels n ws → (q : List ℤ) → Writes (labelsText n (ws ++ q), drop n (ws ++ q)) q
-unfolding labelsText
+labels-write : {n : ℕ} {ws : List ℤ} → Grammar.Labels n ws → (q : List ℤ) → Writes (labels_text n (ws ++ q), drop n (ws ++ q)) q
+unfolding labels_text
 labels-write Grammar.Labels.none q = record { bounded = Bounded.none; left = refl }
 labels-write (Grammar.Labels.one h r) q =
     let w = labels-write r q in
@@ -100,9 +100,9 @@ path-writes (Grammar.Path.path {x = x} {n = n} {ls = ls} h k r) q =
     rw (number-first (pos x) (pos n ∷ ls ++ q), ← number-drop (pos x ∷ pos n ∷ ls ++ q) 1 0, number-first)
     (record { bounded = Bounded.variable h w.bounded; left = w.left })
 
-sides-write : {a b : List ℤ} → Grammar.Path a → Grammar.Path b → (q : List ℤ) → Writes (sidesText ((a ++ b) ++ q)) q
-unfolding sidesText
-sides-write {a} {b} x y q = rw (append_assoc a b q) (write-next (space ∷ identicalSign ∷ space ∷ []) path_text (path-writes x (b ++ q)) mark-spaced (path-writes y q))
+sides-write : {a b : List ℤ} → Grammar.Path a → Grammar.Path b → (q : List ℤ) → Writes (sides_text ((a ++ b) ++ q)) q
+unfolding sides_text
+sides-write {a} {b} x y q = rw (append_assoc a b q) (write-next (space ∷ identical_sign ∷ space ∷ []) path_text (path-writes x (b ++ q)) mark-spaced (path-writes y q))
 
 -- ---- expressions
 
@@ -110,53 +110,53 @@ fixed-writes : {c : ℕ} {s : List ℕ} {q : List ℤ} → Writes (Sign.fixed c 
 fixed-writes = record { bounded = Bounded.fixed Bounded.none; left = refl }
 
 module _ (go : ℕ → List ℤ → Printed) (a b q : List ℤ) (first : (low : ℕ) → Writes (go low (a ++ (b ++ q))) (b ++ q)) (second : (low : ℕ) → Writes (go low (b ++ q)) q) where
-  operands-write : (k level : ℕ) → Writes (operandsText go k level ((a ++ b) ++ q)) q
-  unfolding operandsText
-  operands-write k level = rw (append_assoc a b q) (write-next (operatorText k) (λ r. go (suc level) r) (first level) (operator-bounded k) (second (suc level)))
+  operands-write : (k level : ℕ) → Writes (operands_text go k level ((a ++ b) ++ q)) q
+  unfolding operands_text
+  operands-write k level = rw (append_assoc a b q) (write-next (operator_text k) (λ r. go (suc level) r) (first level) (operator-bounded k) (second (suc level)))
 
-  operation-writes : (low o : ℕ) → Writes (operationText go low (pos o ∷ (a ++ b) ++ q)) q
-  unfolding operationText
+  operation-writes : (low o : ℕ) → Writes (operation_text go low (pos o ∷ (a ++ b) ++ q)) q
+  unfolding operation_text
   operation-writes low o =
-      let w : Writes (operandsText go (numberAt (pos o ∷ (a ++ b) ++ q) 0) (levelOf (numberAt (pos o ∷ (a ++ b) ++ q) 0)) ((a ++ b) ++ q)) q = operands-write _ _ in
-      cases (leb low (levelOf (numberAt (pos o ∷ (a ++ b) ++ q) 0)))
+      let w : Writes (operands_text go (number_at (pos o ∷ (a ++ b) ++ q) 0) (level_of (number_at (pos o ∷ (a ++ b) ++ q) 0)) ((a ++ b) ++ q)) q = operands-write _ _ in
+      cases (leb low (level_of (number_at (pos o ∷ (a ++ b) ++ q) 0)))
       (λ e. rw e w)
       (λ e. rw e (write-say (Bounded.fixed Bounded.none) (write-until w (Bounded.fixed Bounded.none))))
 
-expression-writes : {in_c : Bool} {d : ℕ} {ws : List ℤ} → Grammar.Expression in_c d ws → (low : ℕ) (q : List ℤ) → Writes (expressionText d low (ws ++ q)) q
-unfolding expressionText formText
-expression-writes Grammar.Expression.nil low q = rw (number-first, form-is aNil (omega arith)) fixed-writes
-expression-writes Grammar.Expression.no low q = rw (number-first, form-is aFalse (omega arith)) fixed-writes
-expression-writes Grammar.Expression.yes low q = rw (number-first, form-is aTrue (omega arith)) fixed-writes
-expression-writes Grammar.Expression.integer low q = rw (number-first, form-is anInteger (omega arith)) (record { bounded = Bounded.integer Bounded.none; left = refl })
-expression-writes (Grammar.Expression.at x) low q = rw (number-first, form-is aPath (omega arith)) (path-writes x q)
-expression-writes (Grammar.Expression.identity c x y) low q = rw (number-first, form-is anIdentity (omega arith)) (sides-write x y q)
+expression-writes : {in_c : Bool} {d : ℕ} {ws : List ℤ} → Grammar.Expression in_c d ws → (low : ℕ) (q : List ℤ) → Writes (expression_text d low (ws ++ q)) q
+unfolding expression_text form_text
+expression-writes Grammar.Expression.nil low q = rw (number-first, form-is a_nil (omega arith)) fixed-writes
+expression-writes Grammar.Expression.no low q = rw (number-first, form-is a_false (omega arith)) fixed-writes
+expression-writes Grammar.Expression.yes low q = rw (number-first, form-is a_true (omega arith)) fixed-writes
+expression-writes Grammar.Expression.integer low q = rw (number-first, form-is an_integer (omega arith)) (record { bounded = Bounded.integer Bounded.none; left = refl })
+expression-writes (Grammar.Expression.at x) low q = rw (number-first, form-is a_path (omega arith)) (path-writes x q)
+expression-writes (Grammar.Expression.identity c x y) low q = rw (number-first, form-is an_identity (omega arith)) (sides-write x y q)
 expression-writes (Grammar.Expression.operation {d = d} {o = o} {a = a} {b = b} h k x y) low q =
-    rw (number-first, form-is anOperation (omega arith))
-    (operation-writes (λ l r. expressionText d l r) a b q (λ l. expression-writes x l (b ++ q)) (λ l. expression-writes y l q) low o)
+    rw (number-first, form-is an_operation (omega arith))
+    (operation-writes (λ l r. expression_text d l r) a b q (λ l. expression-writes x l (b ++ q)) (λ l. expression-writes y l q) low o)
 
 -- ---- constraints and fields
 
-parts-write : {m : ℕ} {ws : List ℤ} {lead sep : List Sign} → Bounded lead → Bounded sep → Grammar.Parts m ws → (q : List ℤ) → Writes (rowText lead sep partText m (ws ++ q)) q
-unfolding rowText partText
+parts-write : {m : ℕ} {ws : List ℤ} {lead sep : List Sign} → Bounded lead → Bounded sep → Grammar.Parts m ws → (q : List ℤ) → Writes (row_text lead sep part_text m (ws ++ q)) q
+unfolding row_text part_text
 parts-write s t Grammar.Parts.none q = record { bounded = Bounded.none; left = refl }
 parts-write {sep = sep} s t (Grammar.Parts.one {m = m} {e = e} {ps = ps} h k x y) q =
     rw (append_assoc e ps q)
-    (write-say s (write_then (λ r. rowText sep sep partText m r) (write-say (priority-bounded _) (expression-writes x 1 (ps ++ q))) (parts-write t t y q)))
+    (write-say s (write_then (λ r. row_text sep sep part_text m r) (write-say (priority-bounded _) (expression-writes x 1 (ps ++ q))) (parts-write t t y q)))
 
-constraint-writes : {ws : List ℤ} → Grammar.Constraint ws → (q : List ℤ) → Writes (constraintText (ws ++ q)) q
-unfolding constraintText
+constraint-writes : {ws : List ℤ} → Grammar.Constraint ws → (q : List ℤ) → Writes (constraint_text (ws ++ q)) q
+unfolding constraint_text
 constraint-writes (Grammar.Constraint.constraint h k x) q = rw number-first (parts-write Bounded.none mark-spaced x q)
 
 fields-write : {n : ℕ} {seen : List ℕ} {ws : List ℤ} {lead sep : List Sign}
-    → Bounded lead → Bounded sep → Grammar.Fields n seen ws → (q : List ℤ) → Writes (rowText lead sep fieldText n (ws ++ q)) q
-unfolding rowText fieldText
+    → Bounded lead → Bounded sep → Grammar.Fields n seen ws → (q : List ℤ) → Writes (row_text lead sep field_text n (ws ++ q)) q
+unfolding row_text field_text
 fields-write s t Grammar.Fields.none q = record { bounded = Bounded.none; left = refl }
 fields-write {sep = sep} s t (Grammar.Fields.one {n = n} {l = l} {e = e} {fs = fs} h k x y) q =
     rw (append_assoc e fs q, number-first)
-    (write-say s (write_then (λ r. rowText sep sep fieldText n r) (write-say (Bounded.label h mark-space) (expression-writes x 1 (fs ++ q))) (fields-write t t y q)))
+    (write-say s (write_then (λ r. row_text sep sep field_text n r) (write-say (Bounded.label h mark-space) (expression-writes x 1 (fs ++ q))) (fields-write t t y q)))
 
-new-writes : {x n : ℕ} {fs : List ℤ} → x < variables → Grammar.Fields n [] fs → (q : List ℤ) → Writes (newText (pos x ∷ pos n ∷ fs ++ q)) q
-unfolding newText fieldsText
+new-writes : {x n : ℕ} {fs : List ℤ} → x < variables → Grammar.Fields n [] fs → (q : List ℤ) → Writes (new_text (pos x ∷ pos n ∷ fs ++ q)) q
+unfolding new_text fields_text
 new-writes {x} {n} {fs} h f q =
     rw (number-first (pos x) (pos n ∷ fs ++ q), number-first (pos n) (fs ++ q))
     (write-say (Bounded.variable h (Bounded.blank (Bounded.fixed (Bounded.blank (Bounded.fixed (Bounded.blank (Bounded.fixed Bounded.none)))))))
@@ -169,40 +169,40 @@ braces-write d zero w = record { bounded = Bounded.fixed (Bounded.fixed Bounded.
 braces-write d (suc n) w = write-say mark-space (write-until w (Bounded.blank (Bounded.fixed Bounded.none)))
 
 abbrev Written : Piece → List ℤ → List ℤ → Type 0
-Written (block_of d) p q = Writes (blockText d p) q
-Written (statementsOf d n) p q = (lead sep : List Sign) → Bounded lead → Bounded sep → Writes (rowText lead sep (λ r. verbAt (λ s. blockText d s) r) n p) q
-Written (statementOf d) p q = Writes (verbAt (λ r. blockText d r) p) q
+Written (block_of d) p q = Writes (block_text d p) q
+Written (statements_of d n) p q = (lead sep : List Sign) → Bounded lead → Bounded sep → Writes (row_text lead sep (λ r. verb_at (λ s. block_text d s) r) n p) q
+Written (statement_of d) p q = Writes (verb_at (λ r. block_text d r) p) q
 
 piece-writes : {c : Piece} {ws : List ℤ} → Yields c ws → (q : List ℤ) → Written c (ws ++ q) q
-unfolding blockText rowText verbAt verbText assignText branchText loopText
-piece-writes (Yields.block {d = d} {n = n} h r) q = rw number-first (braces-write d n (piece-writes r q [] (semicolonSign ∷ line d ∷ []) Bounded.none mark-space))
+unfolding block_text row_text verb_at verb_text assign_text branch_text loop_text
+piece-writes (Yields.block {d = d} {n = n} h r) q = rw number-first (braces-write d n (piece-writes r q [] (semicolon_sign ∷ line d ∷ []) Bounded.none mark-space))
 piece-writes Yields.none q = λ lead sep s t. record { bounded = Bounded.none; left = refl }
 piece-writes (Yields.one {d = d} {n = n} {s = s} {ss = ss} x y) q = λ lead sep b c.
     rw (append_assoc s ss q)
-    (write-say b (write_then (λ r. rowText sep sep (λ u. verbAt (λ v. blockText d v) u) n r) (piece-writes x (ss ++ q)) (piece-writes y q sep sep c c)))
+    (write-say b (write_then (λ r. row_text sep sep (λ u. verb_at (λ v. block_text d v) u) n r) (piece-writes x (ss ++ q)) (piece-writes y q sep sep c c)))
 piece-writes Yields.skip q = rw (number-first, verb-is skip (omega arith)) fixed-writes
 piece-writes (Yields.assign {a = a} {e = e} x y) q =
     rw (number-first, verb-is assign (omega arith), append_assoc a e q)
-    (write-next (space ∷ becomesSign ∷ space ∷ []) wholeText (path-writes x (e ++ q)) mark-spaced (expression-writes y 1 q))
+    (write-next (space ∷ becomes_sign ∷ space ∷ []) whole_text (path-writes x (e ++ q)) mark-spaced (expression-writes y 1 q))
 piece-writes (Yields.new h k f) q = rw (number-first, verb-is new (omega arith)) (new-writes h f q)
 piece-writes (Yields.always x) q = rw (number-first, verb-is always (omega arith)) (write-say mark-space (constraint-writes x q))
 piece-writes (Yields.once x) q = rw (number-first, verb-is once (omega arith)) (write-say mark-space (constraint-writes x q))
-piece-writes (Yields.alwaysSame x y) q = rw (number-first, verb-is alwaysSame (omega arith)) (write-say mark-space (sides-write x y q))
-piece-writes (Yields.onceSame x y) q = rw (number-first, verb-is onceSame (omega arith)) (write-say mark-space (sides-write x y q))
+piece-writes (Yields.always_same x y) q = rw (number-first, verb-is always_same (omega arith)) (write-say mark-space (sides-write x y q))
+piece-writes (Yields.once_same x y) q = rw (number-first, verb-is once_same (omega arith)) (write-say mark-space (sides-write x y q))
 piece-writes (Yields.branch {d = d} {e = e} {a = a} {b = b} x y z) q =
     rw (number-first, verb-is branch (omega arith), append_assoc e (a ++ b) q, append_assoc a b q)
     (write-say mark-space
-    (write-next (space ∷ thenSign ∷ space ∷ []) (λ r. then (blockText d r) (λ u. say (space ∷ elseSign ∷ space ∷ []) (blockText d u))) (expression-writes x 1 (a ++ (b ++ q))) mark-spaced
-    (write-next (space ∷ elseSign ∷ space ∷ []) (λ r. blockText d r) (piece-writes y (b ++ q)) mark-spaced (piece-writes z q))))
+    (write-next (space ∷ then_sign ∷ space ∷ []) (λ r. then (block_text d r) (λ u. say (space ∷ else_sign ∷ space ∷ []) (block_text d u))) (expression-writes x 1 (a ++ (b ++ q))) mark-spaced
+    (write-next (space ∷ else_sign ∷ space ∷ []) (λ r. block_text d r) (piece-writes y (b ++ q)) mark-spaced (piece-writes z q))))
 piece-writes (Yields.loop {d = d} {e = e} {a = a} x y) q =
     rw (number-first, verb-is loop (omega arith), append_assoc e a q)
-    (write-say mark-space (write-next (space ∷ doSign ∷ space ∷ []) (λ r. blockText d r) (expression-writes x 1 (a ++ q)) mark-spaced (piece-writes y q)))
+    (write-say mark-space (write-next (space ∷ do_sign ∷ space ∷ []) (λ r. block_text d r) (expression-writes x 1 (a ++ q)) mark-spaced (piece-writes y q)))
 
-statements-bounded : {d : ℕ} {ws : List ℤ} → Yields (block_of (suc d)) ws → Bounded (statementsText d ws).0
-unfolding statementsText statementText
+statements-bounded : {d : ℕ} {ws : List ℤ} → Yields (block_of (suc d)) ws → Bounded (statements_text d ws).0
+unfolding statements_text statement_text
 statements-bounded {d} (Yields.block {n = n} {ss = ss} h r) =
-    rw (number-first, ← append-nil ss) (piece-writes r [] [] (semicolonSign ∷ line d ∷ []) Bounded.none mark-space).bounded
+    rw (number-first, ← append-nil ss) (piece-writes r [] [] (semicolon_sign ∷ line d ∷ []) Bounded.none mark-space).bounded
 
-pub program-bounded : (p : List ℤ) → readProgram p ≡ got tt → Bounded (programText p)
-unfolding programText
+pub program-bounded : (p : List ℤ) → read_program p ≡ got tt → Bounded (program_text p)
+unfolding program_text
 program-bounded p e = statements-bounded (program-sound p e).yields

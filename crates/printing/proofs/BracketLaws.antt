@@ -8,16 +8,16 @@ use native.Mathlib.Decide.{dec_le}
 use lib.Dec.{eqb}
 use lib.IntN.{ℤ, pos}
 use Rattle.tokens.specs.declared.Token.{Token}
-use Rattle.tokens.specs.Codes.{openBracketCode}
+use Rattle.tokens.specs.Codes.{open_bracket_code}
 use Rattle.program.proofs.GrammarLaws.{program-sound}
 use Rattle.text.specs.Grammar as Notation
 use Rattle.text.specs.Grammar.{Meaning}
 use Rattle.text.proofs.OperatorsRead.{level-of}
-use Rattle.printing.specs.Signs.{Sign, variable, label, integer, space, line, operatorText, priorityText}
-use Rattle.printing.specs.Signs.{newSign, skipSign, alwaysSign, onceSign, ifSign, thenSign, elseSign, whileSign, doSign, trueSign, falseSign, nilSign}
-use Rattle.printing.specs.Signs.{becomesSign, colonSign, commaSign, dotSign, semicolonSign, openBraceSign, closeBraceSign, openBracketSign, closeBracketSign, identicalSign, besideSign}
+use Rattle.printing.specs.Signs.{Sign, variable, label, integer, space, line, operator_text, priority_text}
+use Rattle.printing.specs.Signs.{new_sign, skip_sign, always_sign, once_sign, if_sign, then_sign, else_sign, while_sign, do_sign, true_sign, false_sign, nil_sign}
+use Rattle.printing.specs.Signs.{becomes_sign, colon_sign, comma_sign, dot_sign, semicolon_sign, open_brace_sign, close_brace_sign, open_bracket_sign, close_bracket_sign, identical_sign, beside_sign}
 use Rattle.printing.specs.Rules as Rules
-use Rattle.printing.specs.Claims.{bracketsIn, bracketsOf, FewestBrackets}
+use Rattle.printing.specs.Claims.{brackets_in, brackets_of, FewestBrackets}
 use Rattle.printing.proofs.BracketsIn.{in-append, in-joined, of-append, in-operator, in-priority}
 use Rattle.printing.proofs.StatedLaws.{program-said}
 use Rattle.printing.proofs.OneText.{branch-brackets, loop-brackets, row-brackets, block-brackets, one-text, text-brackets}
@@ -26,7 +26,7 @@ use Rattle.printing.proofs.OneText.{branch-brackets, loop-brackets, row-brackets
 record Fewer (Rule : List Sign → Type 0) (ts : List Token) : Type 0 where
   signs : List Sign
   rule : Rule signs
-  fewer : bracketsIn signs ≤ bracketsOf ts
+  fewer : brackets_in signs ≤ brackets_of ts
 
 -- ---- paths
 
@@ -34,7 +34,7 @@ labels-fewer : {M : Meaning} {n : ℕ} {ts : List Token} {ws : List ℤ} {os : L
 labels-fewer Notation.Labels.none = record { signs = []; rule = Rules.Labels.none; fewer = omega arith }
 labels-fewer {M} (Notation.Labels.one d l c e x) =
     let i = labels-fewer x in
-    record { signs = dotSign ∷ label (M.label l) ∷ i.signs; rule = Rules.Labels.one i.rule; fewer = omega (arith, i.fewer) }
+    record { signs = dot_sign ∷ label (M.label l) ∷ i.signs; rule = Rules.Labels.one i.rule; fewer = omega (arith, i.fewer) }
 
 path-fewer : {M : Meaning} {ts : List Token} {ws : List ℤ} {os : List ℕ} → Notation.Path M ts ws os → Fewer (Rules.Path ws) ts
 path-fewer {M} (Notation.Path.path x c l) =
@@ -47,16 +47,16 @@ path-fewer {M} (Notation.Path.path x c l) =
 record Relevelled (in_c : Bool) (low high : ℕ) (ws : List ℤ) (ss : List Sign) : Type 0 where
   signs : List Sign
   rule : Rules.Expression in_c high ws signs
-  most : bracketsIn signs ≤ 1 + bracketsIn ss
-  fewer : high ≤ low → bracketsIn signs ≤ bracketsIn ss
+  most : brackets_in signs ≤ 1 + brackets_in ss
+  fewer : high ≤ low → brackets_in signs ≤ brackets_in ss
 
-bracketed : (ss : List Sign) → bracketsIn (openBracketSign ∷ ss ++ closeBracketSign ∷ []) ≡ 1 + bracketsIn ss
-bracketed ss = omega (arith, in-joined ss (closeBracketSign ∷ []) [] refl)
+bracketed : (ss : List Sign) → brackets_in (open_bracket_sign ∷ ss ++ close_bracket_sign ∷ []) ≡ 1 + brackets_in ss
+bracketed ss = omega (arith, in-joined ss (close_bracket_sign ∷ []) [] refl)
 
 relevel : {in_c : Bool} {low : ℕ} {ws : List ℤ} {ss : List Sign} (high : ℕ) → Rules.Expression in_c low ws ss → Relevelled in_c low high ws ss
-relevel high Rules.Expression.nil = record { signs = nilSign ∷ []; rule = Rules.Expression.nil; most = omega arith; fewer = omega arith }
-relevel high Rules.Expression.no = record { signs = falseSign ∷ []; rule = Rules.Expression.no; most = omega arith; fewer = omega arith }
-relevel high Rules.Expression.yes = record { signs = trueSign ∷ []; rule = Rules.Expression.yes; most = omega arith; fewer = omega arith }
+relevel high Rules.Expression.nil = record { signs = nil_sign ∷ []; rule = Rules.Expression.nil; most = omega arith; fewer = omega arith }
+relevel high Rules.Expression.no = record { signs = false_sign ∷ []; rule = Rules.Expression.no; most = omega arith; fewer = omega arith }
+relevel high Rules.Expression.yes = record { signs = true_sign ∷ []; rule = Rules.Expression.yes; most = omega arith; fewer = omega arith }
 relevel high (Rules.Expression.number {w = w}) = record { signs = integer w ∷ []; rule = Rules.Expression.number; most = omega arith; fewer = omega arith }
 relevel high (Rules.Expression.at {sa = sa} x) = record { signs = sa; rule = Rules.Expression.at x; most = omega arith; fewer = omega arith }
 relevel {ss = ss} high (Rules.Expression.identity c x y) = record { signs = ss; rule = Rules.Expression.identity c x y; most = omega arith; fewer = omega arith }
@@ -65,7 +65,7 @@ relevel {ss = ss} high (Rules.Expression.operation {l = l} h k v m x y) =
       | yes c ↦ record { signs = ss; rule = Rules.Expression.operation h k v c x y; most = omega arith; fewer = omega arith }
       | no c ↦ let n : l < high = omega arith in
           record {
-            signs = openBracketSign ∷ ss ++ closeBracketSign ∷ [];
+            signs = open_bracket_sign ∷ ss ++ close_bracket_sign ∷ [];
             rule = Rules.Expression.brackets h k v n x y;
             most = omega (arith, bracketed ss);
             fewer = λ z. absurd (omega arith);
@@ -74,27 +74,27 @@ relevel {ss = ss} high (Rules.Expression.operation {l = l} h k v m x y) =
 relevel {ss = ss} high (Rules.Expression.brackets {o = o} {l = l} {sa = sa} {sb = sb} h k v m x y) =
     elim (dec_le high l) [
       | yes c ↦
-          let i : bracketsIn (sa ++ operatorText o ++ sb) ≤ bracketsIn ss = omega (arith, bracketed (sa ++ operatorText o ++ sb)) in
-          record { signs = sa ++ operatorText o ++ sb; rule = Rules.Expression.operation h k v c x y; most = omega arith; fewer = omega arith }
+          let i : brackets_in (sa ++ operator_text o ++ sb) ≤ brackets_in ss = omega (arith, bracketed (sa ++ operator_text o ++ sb)) in
+          record { signs = sa ++ operator_text o ++ sb; rule = Rules.Expression.operation h k v c x y; most = omega arith; fewer = omega arith }
       | no c ↦ let n : l < high = omega arith in record { signs = ss; rule = Rules.Expression.brackets h k v n x y; most = omega arith; fewer = omega arith }
     ]
 
-open-one : (t : Token) → t.code ≡ openBracketCode → ◌≡◌ {A = ℕ} (cond (eqb t.code openBracketCode) 1 0) 1
+open-one : (t : Token) → t.code ≡ open_bracket_code → ◌≡◌ {A = ℕ} (cond (eqb t.code open_bracket_code) 1 0) 1
 open-one t e = rw e
 
 expression-fewer : {M : Meaning} {in_c : Bool} {l : ℕ} {ts : List Token} {ws : List ℤ} {os : List ℕ} → Notation.Expression M in_c l ts ws os → Fewer (Rules.Expression in_c l ws) ts
-expression-fewer (Notation.Expression.nil t c) = record { signs = nilSign ∷ []; rule = Rules.Expression.nil; fewer = omega arith }
-expression-fewer (Notation.Expression.no t c) = record { signs = falseSign ∷ []; rule = Rules.Expression.no; fewer = omega arith }
-expression-fewer (Notation.Expression.yes t c) = record { signs = trueSign ∷ []; rule = Rules.Expression.yes; fewer = omega arith }
+expression-fewer (Notation.Expression.nil t c) = record { signs = nil_sign ∷ []; rule = Rules.Expression.nil; fewer = omega arith }
+expression-fewer (Notation.Expression.no t c) = record { signs = false_sign ∷ []; rule = Rules.Expression.no; fewer = omega arith }
+expression-fewer (Notation.Expression.yes t c) = record { signs = true_sign ∷ []; rule = Rules.Expression.yes; fewer = omega arith }
 expression-fewer {M} (Notation.Expression.number t c) = record { signs = integer (M.integer t) ∷ []; rule = Rules.Expression.number; fewer = omega arith }
 expression-fewer (Notation.Expression.at t p) = let i = path-fewer p in record { signs = i.signs; rule = Rules.Expression.at i.rule; fewer = i.fewer }
 expression-fewer (Notation.Expression.identity {a = a} {b = b} e h p n q) =
     let i = path-fewer p in
     let j = path-fewer q in
     record {
-      signs = i.signs ++ space ∷ identicalSign ∷ space ∷ j.signs;
+      signs = i.signs ++ space ∷ identical_sign ∷ space ∷ j.signs;
       rule = Rules.Expression.identity h i.rule j.rule;
-      fewer = omega (arith, in-joined i.signs (space ∷ identicalSign ∷ space ∷ []) j.signs refl, of-append a (e ∷ b), i.fewer, j.fewer);
+      fewer = omega (arith, in-joined i.signs (space ∷ identical_sign ∷ space ∷ []) j.signs refl, of-append a (e ∷ b), i.fewer, j.fewer);
     }
 expression-fewer (Notation.Expression.brackets {ts = ts} o c m p n) =
     let i = expression-fewer p in
@@ -110,11 +110,11 @@ expression-fewer (Notation.Expression.operation {k = k} {l = l} {a = a} {b = b} 
     let least = (level-of v).1.0 in
     let most = (level-of v).1.1.0 in
     record {
-      signs = i.signs ++ operatorText k ++ j.signs;
+      signs = i.signs ++ operator_text k ++ j.signs;
       rule = Rules.Expression.operation {low = l} least most v (omega arith) i.rule j.rule;
       fewer =
           omega
-          (arith, in-append (i.signs ++ operatorText k) j.signs, in-append i.signs (operatorText k), in-operator k least most, of-append a (o ∷ b), i.fewer, j.fewer);
+          (arith, in-append (i.signs ++ operator_text k) j.signs, in-append i.signs (operator_text k), in-operator k least most, of-append a (o ∷ b), i.fewer, j.fewer);
     }
 
 -- ---- constraints and fields
@@ -139,9 +139,9 @@ parts-fewer (Notation.Parts.one x) =
     let k = i.priority in
     let e = i.expression in
     rw i.is record {
-      signs = priorityText k ++ e.signs;
+      signs = priority_text k ++ e.signs;
       rule = Rules.Parts.one i.least i.most e.rule;
-      fewer = omega (arith, in-append (priorityText k) e.signs, in-priority k i.least i.most, e.fewer);
+      fewer = omega (arith, in-append (priority_text k) e.signs, in-priority k i.least i.most, e.fewer);
     }
 parts-fewer (Notation.Parts.more {a = a} {b = b} j x n y) =
     let i = part-fewer x in
@@ -149,13 +149,13 @@ parts-fewer (Notation.Parts.more {a = a} {b = b} j x n y) =
     let e = i.expression in
     let l = parts-fewer y in
     rw i.is record {
-      signs = (priorityText k ++ e.signs) ++ space ∷ besideSign ∷ space ∷ l.signs;
+      signs = (priority_text k ++ e.signs) ++ space ∷ beside_sign ∷ space ∷ l.signs;
       rule = Rules.Parts.more i.least i.most e.rule l.rule;
       fewer =
           omega (
             arith,
-            in-joined (priorityText k ++ e.signs) (space ∷ besideSign ∷ space ∷ []) l.signs refl,
-            in-append (priorityText k) e.signs,
+            in-joined (priority_text k ++ e.signs) (space ∷ beside_sign ∷ space ∷ []) l.signs refl,
+            in-append (priority_text k) e.signs,
             in-priority k i.least i.most,
             of-append a (j ∷ b),
             e.fewer,
@@ -166,16 +166,16 @@ parts-fewer (Notation.Parts.more {a = a} {b = b} j x n y) =
 fields-fewer : {M : Meaning} {n : ℕ} {ts : List Token} {ws : List ℤ} {os : List ℕ} → Notation.Fields M n ts ws os → Fewer (Rules.Fields n ws) ts
 fields-fewer {M} (Notation.Fields.one l c h k x) =
     let i = expression-fewer x in
-    record { signs = label (M.label l) ∷ colonSign ∷ space ∷ i.signs; rule = Rules.Fields.one i.rule; fewer = omega (arith, i.fewer) }
+    record { signs = label (M.label l) ∷ colon_sign ∷ space ∷ i.signs; rule = Rules.Fields.one i.rule; fewer = omega (arith, i.fewer) }
 fields-fewer {M} (Notation.Fields.more l c j {a = a} {b = b} h k x n y) =
     let i = expression-fewer x in
     let m = fields-fewer y in
     record {
-      signs = (label (M.label l) ∷ colonSign ∷ space ∷ i.signs) ++ commaSign ∷ space ∷ m.signs;
+      signs = (label (M.label l) ∷ colon_sign ∷ space ∷ i.signs) ++ comma_sign ∷ space ∷ m.signs;
       rule = Rules.Fields.more i.rule m.rule;
       fewer =
           omega
-          (arith, in-joined (label (M.label l) ∷ colonSign ∷ space ∷ i.signs) (commaSign ∷ space ∷ []) m.signs refl, of-append a (j ∷ b), i.fewer, m.fewer);
+          (arith, in-joined (label (M.label l) ∷ colon_sign ∷ space ∷ i.signs) (comma_sign ∷ space ∷ []) m.signs refl, of-append a (j ∷ b), i.fewer, m.fewer);
     }
 
 -- ---- statements, rows and blocks: where blocks may nest deep enough
@@ -197,11 +197,11 @@ DeepOf c ts ws = Deep (λ d ss. Rules.Prints (piece_at c d) ws ss) ts
 
 sides-fewer : {M : Meaning} {a b : List Token} {va vb : List ℤ} {oa ob : List ℕ} (e : Token)
     → Notation.Path M a va oa → Notation.Path M b vb ob
-    → (sa sb : List Sign) × Rules.Path va sa × Rules.Path vb sb × (bracketsIn (sa ++ space ∷ identicalSign ∷ space ∷ sb) ≤ bracketsOf (a ++ e ∷ b))
+    → (sa sb : List Sign) × Rules.Path va sa × Rules.Path vb sb × (brackets_in (sa ++ space ∷ identical_sign ∷ space ∷ sb) ≤ brackets_of (a ++ e ∷ b))
 sides-fewer {a = a} {b = b} e x y =
     let i = path-fewer x in
     let j = path-fewer y in
-    (i.signs, j.signs, i.rule, j.rule, omega (arith, in-joined i.signs (space ∷ identicalSign ∷ space ∷ []) j.signs refl, of-append a (e ∷ b), i.fewer, j.fewer))
+    (i.signs, j.signs, i.rule, j.rule, omega (arith, in-joined i.signs (space ∷ identical_sign ∷ space ∷ []) j.signs refl, of-append a (e ∷ b), i.fewer, j.fewer))
 
 block-deep : {n : ℕ} (ts : List Token) {ws : List ℤ} (o c : Token) → DeepOf (Notation.Piece.row n) ts ws → DeepOf Notation.Piece.block (o ∷ ts ++ c ∷ []) (pos n ∷ ws)
 block-deep {n} ts {ws} o c x = record { depth = suc x.depth; at = go }
@@ -211,46 +211,46 @@ block-deep {n} ts {ws} o c x = record { depth = suc x.depth; at = go }
     go (suc d) h =
         let i = x.at d (omega arith) in
         record {
-          signs = openBraceSign ∷ line d ∷ i.signs ++ line (suc d) ∷ closeBraceSign ∷ [];
+          signs = open_brace_sign ∷ line d ∷ i.signs ++ line (suc d) ∷ close_brace_sign ∷ [];
           rule = Rules.Prints.braces i.rule;
           fewer = omega (arith, block-brackets d i.signs, of-append ts (c ∷ []), i.fewer);
         }
 
 yields-fewer : {M : Meaning} {c : Notation.Piece} {ts : List Token} {ws : List ℤ} {os : List ℕ} → Notation.Yields M c ts ws os → DeepOf c ts ws
-yields-fewer (Notation.Yields.skip t c) = anywhere (λ d. record { signs = skipSign ∷ []; rule = Rules.Prints.skip; fewer = omega arith })
+yields-fewer (Notation.Yields.skip t c) = anywhere (λ d. record { signs = skip_sign ∷ []; rule = Rules.Prints.skip; fewer = omega arith })
 yields-fewer (Notation.Yields.assign x b {a = a} {ts = ts} p n q) =
     let i = path-fewer p in
     let j = expression-fewer q in
     anywhere (λ d. record {
-      signs = i.signs ++ space ∷ becomesSign ∷ space ∷ j.signs;
+      signs = i.signs ++ space ∷ becomes_sign ∷ space ∷ j.signs;
       rule = Rules.Prints.assign i.rule j.rule;
-      fewer = omega (arith, in-joined i.signs (space ∷ becomesSign ∷ space ∷ []) j.signs refl, of-append (x ∷ a) (b ∷ ts), i.fewer, j.fewer);
+      fewer = omega (arith, in-joined i.signs (space ∷ becomes_sign ∷ space ∷ []) j.signs refl, of-append (x ∷ a) (b ∷ ts), i.fewer, j.fewer);
     })
-yields-fewer {M} (Notation.Yields.new-empty x b w o c e f g h k) =
+yields-fewer {M} (Notation.Yields.new_empty x b w o c e f g h k) =
     anywhere (λ d. record {
-      signs = variable (M.variable x) ∷ space ∷ becomesSign ∷ space ∷ newSign ∷ space ∷ openBraceSign ∷ closeBraceSign ∷ [];
-      rule = Rules.Prints.new-empty;
+      signs = variable (M.variable x) ∷ space ∷ becomes_sign ∷ space ∷ new_sign ∷ space ∷ open_brace_sign ∷ close_brace_sign ∷ [];
+      rule = Rules.Prints.new_empty;
       fewer = omega arith;
     })
 yields-fewer {M} (Notation.Yields.new x b w o c {ts = ts} e f g h k m) =
     let i = fields-fewer k in
     anywhere (λ d. record {
-      signs = variable (M.variable x) ∷ space ∷ becomesSign ∷ space ∷ newSign ∷ space ∷ openBraceSign ∷ i.signs ++ closeBraceSign ∷ [];
+      signs = variable (M.variable x) ∷ space ∷ becomes_sign ∷ space ∷ new_sign ∷ space ∷ open_brace_sign ∷ i.signs ++ close_brace_sign ∷ [];
       rule = Rules.Prints.new i.rule;
-      fewer = omega (arith, in-joined i.signs (closeBraceSign ∷ []) [] refl, of-append ts (c ∷ []), i.fewer);
+      fewer = omega (arith, in-joined i.signs (close_brace_sign ∷ []) [] refl, of-append ts (c ∷ []), i.fewer);
     })
 yields-fewer (Notation.Yields.always t n (Notation.Constraint.constraint u x)) =
     let i = parts-fewer x in
-    anywhere (λ d. record { signs = alwaysSign ∷ space ∷ i.signs; rule = Rules.Prints.always i.rule; fewer = omega (arith, i.fewer) })
+    anywhere (λ d. record { signs = always_sign ∷ space ∷ i.signs; rule = Rules.Prints.always i.rule; fewer = omega (arith, i.fewer) })
 yields-fewer (Notation.Yields.once t n (Notation.Constraint.constraint u x)) =
     let i = parts-fewer x in
-    anywhere (λ d. record { signs = onceSign ∷ space ∷ i.signs; rule = Rules.Prints.once i.rule; fewer = omega (arith, i.fewer) })
+    anywhere (λ d. record { signs = once_sign ∷ space ∷ i.signs; rule = Rules.Prints.once i.rule; fewer = omega (arith, i.fewer) })
 yields-fewer (Notation.Yields.always-same t e n x m y) =
     let i = sides-fewer e x y in
-    anywhere (λ d. record { signs = alwaysSign ∷ space ∷ i.0 ++ space ∷ identicalSign ∷ space ∷ i.1; rule = Rules.Prints.always-same i.2 i.3; fewer = omega (arith, i.4) })
+    anywhere (λ d. record { signs = always_sign ∷ space ∷ i.0 ++ space ∷ identical_sign ∷ space ∷ i.1; rule = Rules.Prints.always-same i.2 i.3; fewer = omega (arith, i.4) })
 yields-fewer (Notation.Yields.once-same t e n x m y) =
     let i = sides-fewer e x y in
-    anywhere (λ d. record { signs = onceSign ∷ space ∷ i.0 ++ space ∷ identicalSign ∷ space ∷ i.1; rule = Rules.Prints.once-same i.2 i.3; fewer = omega (arith, i.4) })
+    anywhere (λ d. record { signs = once_sign ∷ space ∷ i.0 ++ space ∷ identical_sign ∷ space ∷ i.1; rule = Rules.Prints.once-same i.2 i.3; fewer = omega (arith, i.4) })
 yields-fewer (Notation.Yields.branch t h s {a = a} {b = b} {c = c} k x l y m z) =
     let e = expression-fewer x in
     let i = yields-fewer y in
@@ -261,7 +261,7 @@ yields-fewer (Notation.Yields.branch t h s {a = a} {b = b} {c = c} k x l y m z) 
           let u = i.at d (omega arith) in
           let v = j.at d (omega arith) in
           record {
-            signs = ifSign ∷ space ∷ e.signs ++ space ∷ thenSign ∷ space ∷ u.signs ++ space ∷ elseSign ∷ space ∷ v.signs;
+            signs = if_sign ∷ space ∷ e.signs ++ space ∷ then_sign ∷ space ∷ u.signs ++ space ∷ else_sign ∷ space ∷ v.signs;
             rule = Rules.Prints.branch e.rule u.rule v.rule;
             fewer =
                 omega
@@ -276,7 +276,7 @@ yields-fewer (Notation.Yields.loop w t {a = a} {b = b} k x l y) =
       at = λ d n.
           let u = i.at d n in
           record {
-            signs = whileSign ∷ space ∷ e.signs ++ space ∷ doSign ∷ space ∷ u.signs;
+            signs = while_sign ∷ space ∷ e.signs ++ space ∷ do_sign ∷ space ∷ u.signs;
             rule = Rules.Prints.loop e.rule u.rule;
             fewer = omega (arith, loop-brackets e.signs u.signs, of-append a (t ∷ b), e.fewer, u.fewer);
           };
@@ -293,15 +293,15 @@ yields-fewer (Notation.Yields.more {a = a} {b = b} s x k y) =
           let u = i.at d (omega arith) in
           let v = j.at d (omega arith) in
           record {
-            signs = u.signs ++ semicolonSign ∷ line d ∷ v.signs;
+            signs = u.signs ++ semicolon_sign ∷ line d ∷ v.signs;
             rule = Rules.Prints.more u.rule v.rule;
             fewer = omega (arith, row-brackets d u.signs v.signs, of-append a (s ∷ b), u.fewer, v.fewer);
           };
     }
-yields-fewer (Notation.Yields.empty o c h k) = anywhere (λ d. record { signs = openBraceSign ∷ closeBraceSign ∷ []; rule = Rules.Prints.empty; fewer = omega arith })
+yields-fewer (Notation.Yields.empty o c h k) = anywhere (λ d. record { signs = open_brace_sign ∷ close_brace_sign ∷ []; rule = Rules.Prints.empty; fewer = omega arith })
 yields-fewer (Notation.Yields.braces o c {ts = ts} h x k) = block-deep ts o c (yields-fewer x)
 
-text-fewest : {M : Meaning} {ts : List Token} {p : List ℤ} {os : List ℕ} {ss : List Sign} → Rules.Text p ss → Notation.Text M ts p os → bracketsIn ss ≤ bracketsOf ts
+text-fewest : {M : Meaning} {ts : List Token} {p : List ℤ} {os : List ℕ} {ss : List Sign} → Rules.Text p ss → Notation.Text M ts p os → brackets_in ss ≤ brackets_of ts
 text-fewest t Notation.Text.nothing = rw (one-text t Rules.Text.nothing) (omega arith)
 text-fewest t (Notation.Text.some y) =
     let i = yields-fewer y in

@@ -8,10 +8,10 @@ use lib.ListN.{length, take, drop, length-append, length-drop, get_or-append}
 use lib.Seq.{length-take-le, get_or-append_seam}
 use Rattle.tokens.specs.declared.Token.{Token}
 use Rattle.tokens.proofs.SameLaws.{same-itself}
-use Rattle.text.specs.Reading.{Named, number_in, withName}
+use Rattle.text.specs.Reading.{Named, number_in, with_name}
 use Rattle.text.specs.Claims.{NamesAre}
 use Rattle.text.specs.Names.{named, Alike}
-use Rattle.text.specs.Names.{name_of as tokenName}
+use Rattle.text.specs.Names.{name_of as token_name}
 use Rattle.text.proofs.NameLaws.{names-extend, number-most, number-stays, with-known, with-new}
 use Rattle.text.proofs.NamesClaims.{number-alike, number-unlike}
 use Rattle.printing.specs.Spaced.{Spelling, Called, InOrder}
@@ -29,7 +29,7 @@ pub record Stands (text s : List ℕ) (n : Named) : Type 0 where
   pub inside : n.place + n.length ≤ length text
 
 module _ (text : List ℕ) where
-  token-stands : {s : List ℕ} (t : Token) → Spelling text s t → Stands text s (tokenName t)
+  token-stands : {s : List ℕ} (t : Token) → Spelling text s t → Stands text s (token_name t)
   token-stands t p = record { bytes = p.spelt; whole = omega arith; inside = omega arith }
 
   stands-long : {s : List ℕ} (n : Named) → Stands text s n → (n.length ≤ length (drop n.place text)) × (length s ≡ n.length)
@@ -68,14 +68,14 @@ module _ (text : List ℕ) (name : ℕ → List ℕ) (n : ℕ) (apart : (i j : �
     number-called : {x : ℕ} → Spelling text (name x) t → x < n → number_in text ns t < length ns → number_in text ns t ≡ x
     number-called {x} p h k =
         apart (number_in text ns t) x (omega arith) h
-        (alike-stands text (named ns (number_in text ns t)) (tokenName t) (stand (number_in text ns t) k) (token-stands text t p) (number-alike text ns t k))
+        (alike-stands text (named ns (number_in text ns t)) (token_name t) (stand (number_in text ns t) k) (token-stands text t p) (number-alike text ns t k))
 
     called-known : {x : ℕ} → Spelling text (name x) t → x < length ns → number_in text ns t < length ns
     called-known {x} p h = go (dec_lt (number_in text ns t) (length ns))
       where
         go : Dec (number_in text ns t < length ns) → number_in text ns t < length ns
         go (yes y) = y
-        go (no m) = absurd (number-unlike text ns t x (omega arith) h (stands_alike text (named ns x) (tokenName t) (stand x h) (token-stands text t p)))
+        go (no m) = absurd (number-unlike text ns t x (omega arith) h (stands_alike text (named ns x) (token_name t) (stand x h) (token-stands text t p)))
 
     called-new : Spelling text (name (length ns)) t → length ns < n → length ns ≤ number_in text ns t
     called-new p h = go (dec_lt (number_in text ns t) (length ns))
@@ -84,17 +84,17 @@ module _ (text : List ℕ) (name : ℕ → List ℕ) (n : ℕ) (apart : (i j : �
         go (yes y) = absurd (let z : number_in text ns t ≡ length ns = number-called p h y in omega arith)
         go (no m) = omega arith
 
-    stand-new : Spelling text (name (length ns)) t → (i : ℕ) → i < suc (length ns) → Stands text (name i) (named (ns ++ tokenName t ∷ []) i)
+    stand-new : Spelling text (name (length ns)) t → (i : ℕ) → i < suc (length ns) → Stands text (name i) (named (ns ++ token_name t ∷ []) i)
     stand-new p i h = go (dec_lt i (length ns))
       where
-        go : Dec (i < length ns) → Stands text (name i) (named (ns ++ tokenName t ∷ []) i)
-        go (yes y) = rw (get_or-append ns (tokenName t ∷ []) (record { place = 0; length = 0 }) i y) (stand i y)
+        go : Dec (i < length ns) → Stands text (name i) (named (ns ++ token_name t ∷ []) i)
+        go (yes y) = rw (get_or-append ns (token_name t ∷ []) (record { place = 0; length = 0 }) i y) (stand i y)
         go (no m) =
             let e : i ≡ length ns = omega arith in
-            rw (e, get_or-append_seam ns (tokenName t) [] (record { place = 0; length = 0 })) (token-stands text t p)
+            rw (e, get_or-append_seam ns (token_name t) [] (record { place = 0; length = 0 })) (token-stands text t p)
 
   found-more : {ns : List Named} {t : Token} {ts : List Token} {x : ℕ} {xs : List ℕ} → Spelling text (name x) t → number_in text ns t ≡ x
-      → NamesFound text name (withName text ns t) ts xs n → NamesFound text name ns (t ∷ ts) (x ∷ xs) n
+      → NamesFound text name (with_name text ns t) ts xs n → NamesFound text name ns (t ∷ ts) (x ∷ xs) n
   found-more {ns} {t} p e f =
       record {
         names = f.names;
@@ -121,7 +121,7 @@ module _ (text : List ℕ) (name : ℕ → List ℕ) (n : ℕ) (apart : (i j : �
       let q : Spelling text (name (length ns)) t = rw l p in
       let y : length ns ≤ number_in text ns t = called-new ns (omega arith) s t q (omega arith) in
       found-more p (omega (arith, number-most text ns t))
-      (rw (with-new text ns t y) (names-from (ns ++ tokenName t ∷ []) (rw length-append (omega arith)) (λ i h. stand-new ns (omega arith) s t q i (omega arith)) d o))
+      (rw (with-new text ns t y) (names-from (ns ++ token_name t ∷ []) (rw length-append (omega arith)) (λ i h. stand-new ns (omega arith) s t q i (omega arith)) d o))
 
   pub names-found : {ts : List Token} {xs : List ℕ} → Called text name ts xs → InOrder 0 xs n → NamesFound text name [] ts xs n
   names-found d o = names-from [] refl (λ i h. absurd (omega arith)) d o

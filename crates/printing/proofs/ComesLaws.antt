@@ -10,43 +10,43 @@ use lib.IntN.{ℤ}
 use lib.ListN.{length}
 use Rattle.words.specs.Answer.{Answer, got, stop}
 use Rattle.tables.proofs.SearchLaws.{cases}
-use Rattle.program.specs.Reading.{readProgram}
-use Rattle.tokens.specs.Tokens.{mostBytes}
+use Rattle.program.specs.Reading.{read_program}
+use Rattle.tokens.specs.Tokens.{most_bytes}
 use Rattle.printing.specs.Naming.{Naming, naming, numbers}
-use Rattle.printing.specs.Whole.{Answered, text_of, firstFault, fitsIn, refused, printed, write}
+use Rattle.printing.specs.Whole.{Answered, text_of, first_fault, fits_in, refused, printed, write}
 use Rattle.printing.specs.Claims.{FirstAtFault, TooLong, Comes, ComesExactly}
 use Rattle.printing.proofs.FaultsExactly.{faults-exactly}
 use Rattle.printing.proofs.WholeLaws.{fits-small}
 
-too_long : (room n : ℕ) → fitsIn room n ≡ false → TooLong room n
-too_long room n e =
+too_long_lem : (room n : ℕ) → fits_in room n ≡ false → TooLong room n
+too_long_lem room n e =
     cases (leb n room)
-    (λ a. TooLong.bytes (leb-false n mostBytes (rw a at e)))
+    (λ a. TooLong.bytes (leb-false n most_bytes (rw a at e)))
     (λ a. TooLong.buffer (leb-false n room a))
 
-module _ (N : Naming) (p : List ℤ) (text : List ℕ) (l : length N.names ≡ 192) (r : readProgram p ≡ got tt) where
-  first : FirstAtFault N p (firstFault N p)
+module _ (N : Naming) (p : List ℤ) (text : List ℕ) (l : length N.names ≡ 192) (r : read_program p ≡ got tt) where
+  first : FirstAtFault N p (first_fault N p)
   first = faults-exactly N p r
 
   printed-comes : Comes N p text (printed N p text)
   unfolding printed
   printed-comes =
-      cases (ltb (firstFault N p) numbers)
-      (λ a. rw a (Comes.unnamed l r first (ltb-true (firstFault N p) numbers a)))
-      (λ a. let z : firstFault N p ≡ numbers = omega (arith, first.most, ltb-false (firstFault N p) numbers a) in
+      cases (ltb (first_fault N p) numbers)
+      (λ a. rw a (Comes.unnamed l r first (ltb-true (first_fault N p) numbers a)))
+      (λ a. let z : first_fault N p ≡ numbers = omega (arith, first.most, ltb-false (first_fault N p) numbers a) in
       let f : FirstAtFault N p numbers = subst (FirstAtFault N p) z first in
-      cases (fitsIn (length text) (length (text_of N p)))
+      cases (fits_in (length text) (length (text_of N p)))
       (λ b. let h = fits-small (length text) (length (text_of N p)) b in rw (a, b) (Comes.whole l r f h.0 h.1))
-      (λ b. rw (a, b) (Comes.long l r f (too_long (length text) (length (text_of N p)) b))))
+      (λ b. rw (a, b) (Comes.long l r f (too_long_lem (length text) (length (text_of N p)) b))))
 
 pub comes-exactly : ComesExactly
 unfolding write
 comes-exactly N p text =
     cases (eqb (length N.names) 192)
-    (λ a. let l : length N.names ≡ 192 = eqb-true (length N.names) 192 a in rw a (by-reading l (readProgram p) refl))
+    (λ a. let l : length N.names ≡ 192 = eqb-true (length N.names) 192 a in rw a (by-reading l (read_program p) refl))
     (λ a. rw a (Comes.sized (eqb-false (length N.names) 192 a)))
   where
-    by-reading : length N.names ≡ 192 → (v : Answer ℕ (Unit {0})) → readProgram p ≡ v → Comes N p text (elim (v) [ got u ↦ printed N p text | stop place ↦ refused text 2 place ])
+    by-reading : length N.names ≡ 192 → (v : Answer ℕ (Unit {0})) → read_program p ≡ v → Comes N p text (elim (v) [ got u ↦ printed N p text | stop place ↦ refused text 2 place ])
     by-reading l (got u) e = printed-comes N p text l e
     by-reading l (stop place) e = Comes.unread l e
 
@@ -59,7 +59,7 @@ four (Comes.unnamed l r f h) = refl
 four (Comes.long l r f t) = refl
 four (Comes.whole l r f h b) = refl
 
-few : {N : Naming} {p : List ℤ} {text : List ℕ} {a : Answered} → Comes N p text a → a.bytes ≤ mostBytes
+few : {N : Naming} {p : List ℤ} {text : List ℕ} {a : Answered} → Comes N p text a → a.bytes ≤ most_bytes
 few (Comes.sized n) = omega arith
 few (Comes.unread l r) = omega arith
 few (Comes.unnamed l r f h) = omega arith
@@ -70,5 +70,5 @@ module _ (p : List ℤ) (source : List ℕ) (names : List ℤ) (text : List ℕ)
   pub four-words : length (write p source names text).answer ≡ 4
   four-words = four (comes-exactly (naming source names) p text)
 
-  pub bytes_most : (write p source names text).bytes ≤ mostBytes
+  pub bytes_most : (write p source names text).bytes ≤ most_bytes
   bytes_most = few (comes-exactly (naming source names) p text)

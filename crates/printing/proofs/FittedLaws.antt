@@ -5,7 +5,7 @@ use lib.IntN.{ℤ}
 use Prim.Native.Nat.{ℕ, zero, suc, ◌≤◌}
 use native.Mathlib.Omega.{arith}
 use Rattle.text.proofs.LevelLaws.{by-operator}
-use Rattle.printing.specs.Signs.{Sign, space, identicalSign, operatorText, priorityText}
+use Rattle.printing.specs.Signs.{Sign, space, identical_sign, operator_text, priority_text}
 use Rattle.printing.specs.Rules.{Labels, Path, Expression, Parts, Fields, Piece, Prints, Text}
 use Rattle.printing.specs.Claims.{Words}
 use Rattle.printing.proofs.SignTokens.{Fitted}
@@ -33,12 +33,12 @@ fitted-append (Fitted.label f) g = Fitted.label (fitted-append f g)
 spaced : {c : ℕ} {s t u : List ℕ} → Fitted (Sign.blank t ∷ Sign.fixed c s ∷ Sign.blank u ∷ [])
 spaced = Fitted.blank (Fitted.fixed (Fitted.blank Fitted.none))
 
-operator-fitted : (o : ℕ) → 1 ≤ o → o ≤ 11 → Fitted (operatorText o)
-unfolding operatorText
-operator-fitted o l h = by-operator (λ n. Fitted (operatorText n)) o l h spaced spaced spaced spaced spaced spaced spaced spaced spaced spaced spaced
+operator-fitted : (o : ℕ) → 1 ≤ o → o ≤ 11 → Fitted (operator_text o)
+unfolding operator_text
+operator-fitted o l h = by-operator (λ n. Fitted (operator_text n)) o l h spaced spaced spaced spaced spaced spaced spaced spaced spaced spaced spaced
 
-priority-fitted : (k : ℕ) → 1 ≤ k → k ≤ 3 → Fitted (priorityText k)
-unfolding priorityText
+priority-fitted : (k : ℕ) → 1 ≤ k → k ≤ 3 → Fitted (priority_text k)
+unfolding priority_text
 priority-fitted zero l h = let z : ⊥ = omega arith in absurd z
 priority-fitted (suc zero) l h = Fitted.fixed (Fitted.blank Fitted.none)
 priority-fitted (suc (suc zero)) l h = Fitted.fixed (Fitted.blank Fitted.none)
@@ -52,7 +52,7 @@ labels-fitted (Labels.one d) = Fitted.fixed (Fitted.label (labels-fitted d))
 path-fitted : {ws : List ℤ} {ss : List Sign} → Path ws ss → Fitted ss
 path-fitted (Path.path d) = Fitted.variable (labels-fitted d)
 
-sides-fitted : {a b : List ℤ} {sa sb : List Sign} → Path a sa → Path b sb → Fitted (sa ++ space ∷ identicalSign ∷ space ∷ sb)
+sides-fitted : {a b : List ℤ} {sa sb : List Sign} → Path a sa → Path b sb → Fitted (sa ++ space ∷ identical_sign ∷ space ∷ sb)
 sides-fitted x y = fitted-append (path-fitted x) (Fitted.blank (Fitted.fixed (Fitted.blank (path-fitted y))))
 
 expression-fitted : {in_c : Bool} {low : ℕ} {ws : List ℤ} {ss : List Sign} → Expression in_c low ws ss → Words ws → Fitted ss
@@ -88,7 +88,7 @@ prints-fitted : {x : Piece} {ws : List ℤ} {ss : List Sign} → Prints x ws ss 
 prints-fitted Prints.skip w = Fitted.fixed Fitted.none
 prints-fitted (Prints.assign {a = a} x y) w =
     fitted-append (path-fitted x) (Fitted.blank (Fitted.fixed (Fitted.blank (expression-fitted y (words_right a _ (behind w))))))
-prints-fitted Prints.new-empty w =
+prints-fitted Prints.new_empty w =
     Fitted.variable (Fitted.blank (Fitted.fixed (Fitted.blank (Fitted.fixed (Fitted.blank (Fitted.fixed (Fitted.fixed Fitted.none)))))))
 prints-fitted (Prints.new d) w =
     Fitted.variable (Fitted.blank (Fitted.fixed (Fitted.blank (Fitted.fixed (Fitted.blank (Fitted.fixed

@@ -9,12 +9,12 @@ use lib.Dec.{ltb}
 use lib.IntN.{ℤ}
 use lib.ListN.{length, get_or, set, take, drop}
 use lib.Seq.{take-append_seam, set_out}
-use Rattle.words.specs.Words.{wordAt, number_of}
+use Rattle.words.specs.Words.{word_at, number_of}
 use Rattle.lister.specs.Bytes.{Puts}
 use Rattle.lister.specs.Numerals.{digits}
 use Rattle.lister.proofs.BufferLaws.{then, puts-start, counted, laid-fits, laid-length}
 use Rattle.lister.proofs.SizeLaws.{digits-twenty}
-use Rattle.printing.specs.Naming.{Naming, place_of, length_of, givenName, defaultName, name_of, isLed, noted}
+use Rattle.printing.specs.Naming.{Naming, place_of, length_of, given_name, default_name, name_of, is_led, noted}
 
 -- ---- the words of a name
 
@@ -23,7 +23,7 @@ module _ (names : List ℤ) (i : ℕ) where
   unfolding place_of
   place_none h = rw (le-ltb i 96 h)
 
-  pub place_is : i < 96 → {n : ℕ} → n ≡ number_of (wordAt names (2 * i)) → n ≡ place_of names i
+  pub place_is : i < 96 → {n : ℕ} → n ≡ number_of (word_at names (2 * i)) → n ≡ place_of names i
   unfolding place_of
   place_is h e = rw (lt-ltb i 96 h) e
 
@@ -31,7 +31,7 @@ module _ (names : List ℤ) (i : ℕ) where
   unfolding length_of
   length_none h = rw (le-ltb i 96 h)
 
-  pub length-is : i < 96 → {n : ℕ} → n ≡ number_of (wordAt names (2 * i + 1)) → n ≡ length_of names i
+  pub length-is : i < 96 → {n : ℕ} → n ≡ number_of (word_at names (2 * i + 1)) → n ≡ length_of names i
   unfolding length_of
   length-is h e = rw (lt-ltb i 96 h) e
 
@@ -53,36 +53,36 @@ put-short j {b = b} l p q =
     (w.0, w.1 ∙ l)
 
 module _ (i : ℕ) where
-  pub default-variable : i < 64 → 118 ∷ digits i ≡ defaultName i
-  unfolding defaultName
+  pub default-variable : i < 64 → 118 ∷ digits i ≡ default_name i
+  unfolding default_name
   default-variable h = rw (lt-ltb i 64 h)
 
-  pub default-label : 64 ≤ i → 102 ∷ digits (i - 64) ≡ defaultName i
-  unfolding defaultName
+  pub default-label : 64 ≤ i → 102 ∷ digits (i - 64) ≡ default_name i
+  unfolding default_name
   default-label h = rw (le-ltb i 64 h)
 
 module _ (N : Naming) (i : ℕ) {n : ℕ} (is : n ≡ length_of N.names i) where
-  pub name-given : (n ≡ 0 → ⊥) → {s : List ℕ} → s ≡ givenName N i → s ≡ name_of N i
+  pub name-given : (n ≡ 0 → ⊥) → {s : List ℕ} → s ≡ given_name N i → s ≡ name_of N i
   unfolding name_of
   name-given h e = rw (← is, ne_eqb n 0 h) e
 
-  pub name-default : n ≡ 0 → {s : List ℕ} → s ≡ defaultName i → s ≡ name_of N i
+  pub name-default : n ≡ 0 → {s : List ℕ} → s ≡ default_name i → s ≡ name_of N i
   unfolding name_of
   name-default h e = rw (← is, eq-eqb n 0 h) e
 
 -- ---- standings
 
 module _ (seen : List ℕ) (i : ℕ) where
-  pub led-first : i ≡ 0 → true ≡ isLed seen i
-  unfolding isLed
+  pub led-first : i ≡ 0 → true ≡ is_led seen i
+  unfolding is_led
   led-first h = rw (eq-eqb i 0 h)
 
-  pub led-label : (i ≡ 0 → ⊥) → i ≡ 64 → true ≡ isLed seen i
-  unfolding isLed
+  pub led-label : (i ≡ 0 → ⊥) → i ≡ 64 → true ≡ is_led seen i
+  unfolding is_led
   led-label h k = rw (ne_eqb i 0 h, eq-eqb i 64 k)
 
-  pub led-behind : (i ≡ 0 → ⊥) → (i ≡ 64 → ⊥) → {n : ℕ} → n ≡ get_or seen (i - 1) 0 → ltb 0 n ≡ isLed seen i
-  unfolding isLed
+  pub led-behind : (i ≡ 0 → ⊥) → (i ≡ 64 → ⊥) → {n : ℕ} → n ≡ get_or seen (i - 1) 0 → ltb 0 n ≡ is_led seen i
+  unfolding is_led
   led-behind h k e = rw (ne_eqb i 0 h, ne_eqb i 64 k, e)
 
 module _ (seen : List ℕ) (i : ℕ) {n : ℕ} (is : n ≡ get_or seen i 0) where
@@ -90,9 +90,9 @@ module _ (seen : List ℕ) (i : ℕ) {n : ℕ} (is : n ≡ get_or seen i 0) wher
   unfolding noted
   noted-old h = rw (← is, lt-ltb 0 n h)
 
-  pub noted-new : n ≤ 0 → {v : ℕ} → v ≡ cond (isLed seen i) 1 2 → set seen i v ≡ noted seen i
+  pub noted-new : n ≤ 0 → {v : ℕ} → v ≡ cond (is_led seen i) 1 2 → set seen i v ≡ noted seen i
   unfolding noted
   noted-new h e = rw (← is, le-ltb 0 n h, e)
 
   pub noted-past : n ≤ 0 → length seen ≤ i → seen ≡ noted seen i
-  noted-past h l = sym (set_out seen i (cond (isLed seen i) 1 2) l) ∙ noted-new h refl
+  noted-past h l = sym (set_out seen i (cond (is_led seen i) 1 2) l) ∙ noted-new h refl

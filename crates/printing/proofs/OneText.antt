@@ -5,12 +5,12 @@ use mathlib.Core.List.{List, [], ◌∷◌, ◌++◌, append_assoc}
 use Prim.Native.Nat.{ℕ, zero, suc, ◌+◌, ◌≤◌, ◌<◌}
 use native.Mathlib.Omega.{arith}
 use lib.IntN.{ℤ, pos}
-use Rattle.program.specs.Forms.{aNil, aFalse, aTrue, anInteger, aPath, anIdentity}
+use Rattle.program.specs.Forms.{a_nil, a_false, a_true, an_integer, a_path, an_identity}
 use Rattle.text.proofs.OperatorsRead.{level-of}
-use Rattle.printing.specs.Signs.{Sign, space, line, ifSign, thenSign, elseSign, whileSign, doSign, semicolonSign, openBraceSign, closeBraceSign}
-use Rattle.printing.specs.Printing.{Printed, path_text, formText, expressionText}
+use Rattle.printing.specs.Signs.{Sign, space, line, if_sign, then_sign, else_sign, while_sign, do_sign, semicolon_sign, open_brace_sign, close_brace_sign}
+use Rattle.printing.specs.Printing.{Printed, path_text, form_text, expression_text}
 use Rattle.printing.specs.Rules.{Path, Expression, Parts, Fields, statement, row, block, Prints, Text}
-use Rattle.printing.specs.Claims.{bracketsIn}
+use Rattle.printing.specs.Claims.{brackets_in}
 use Rattle.printing.proofs.RulesLaws.{path-writes, sides-write, form-text, operation-writes, brackets-write}
 use Rattle.printing.proofs.BracketsIn.{in-joined}
 
@@ -41,14 +41,14 @@ height (Expression.operation h k v m x y) = suc (height x + height y)
 height (Expression.brackets h k v m x y) = suc (height x + height y)
 
 pub expression-writes : {in_c : Bool} {low : ℕ} {ws : List ℤ} {ss : List Sign} (x : Expression in_c low ws ss) (d : ℕ) → height x ≤ d
-    → (r : List ℤ) → expressionText (suc d) low (ws ++ r) ≡ (ss, r)
-unfolding formText
-expression-writes (Expression.nil {low = low}) d h r = form-text d low aNil r (omega arith)
-expression-writes (Expression.no {low = low}) d h r = form-text d low aFalse r (omega arith)
-expression-writes (Expression.yes {low = low}) d h r = form-text d low aTrue r (omega arith)
-expression-writes (Expression.number {low = low} {w = w}) d h r = form-text d low anInteger (w ∷ r) (omega arith)
-expression-writes (Expression.at {low = low} {a = a} x) d h r = form-text d low aPath (a ++ r) (omega arith) ∙ path-writes x r
-expression-writes (Expression.identity {low = low} {a = a} {b = b} c x y) d h r = form-text d low anIdentity ((a ++ b) ++ r) (omega arith) ∙ sides-write x y r
+    → (r : List ℤ) → expression_text (suc d) low (ws ++ r) ≡ (ss, r)
+unfolding form_text
+expression-writes (Expression.nil {low = low}) d h r = form-text d low a_nil r (omega arith)
+expression-writes (Expression.no {low = low}) d h r = form-text d low a_false r (omega arith)
+expression-writes (Expression.yes {low = low}) d h r = form-text d low a_true r (omega arith)
+expression-writes (Expression.number {low = low} {w = w}) d h r = form-text d low an_integer (w ∷ r) (omega arith)
+expression-writes (Expression.at {low = low} {a = a} x) d h r = form-text d low a_path (a ++ r) (omega arith) ∙ path-writes x r
+expression-writes (Expression.identity {low = low} {a = a} {b = b} c x y) d h r = form-text d low an_identity ((a ++ b) ++ r) (omega arith) ∙ sides-write x y r
 expression-writes (Expression.operation h k v m x y) zero n r = let z : ⊥ = omega arith in absurd z
 expression-writes (Expression.operation {low = low} {o = o} {l = l} {a = a} {b = b} h k v m x y) (suc d) n r =
     operation-writes (suc d) low o l a b (level-of v).0 (λ s. expression-writes x d (omega arith) s) (λ s. expression-writes y d (omega arith) s) m r
@@ -58,7 +58,7 @@ expression-writes (Expression.brackets {low = low} {o = o} {l = l} {a = a} {b = 
 
 pub one-expression : {c k : Bool} {low : ℕ} {a b p q : List ℤ} {sa sb : List Sign} → Expression c low a sa → Expression k low b sb → a ++ p ≡ b ++ q → One p q sa sb
 one-expression {low = low} {p = p} {q = q} x y e =
-    written (λ r. expressionText (suc (height x + height y)) low r) (expression-writes x (height x + height y) (omega arith) p)
+    written (λ r. expression_text (suc (height x + height y)) low r) (expression-writes x (height x + height y) (omega arith) p)
     (expression-writes y (height x + height y) (omega arith) q)
     e
 
@@ -110,24 +110,24 @@ one-fields {p = p} {q = q} (Fields.more {e = a} {fs = b} x y) (Fields.more {e = 
 pub record Alike (d e : ℕ) (p q : List ℤ) (sa sb : List Sign) : Type 0 where
   pub rest : p ≡ q
   pub signs : d ≡ e → sa ≡ sb
-  pub brackets : bracketsIn sa ≡ bracketsIn sb
+  pub brackets : brackets_in sa ≡ brackets_in sb
 
 alike : {d e : ℕ} {p q : List ℤ} {sa sb : List Sign} → p ≡ q → sa ≡ sb → Alike d e p q sa sb
-alike i j = record { rest = i; signs = λ z. j; brackets = ap bracketsIn j }
+alike i j = record { rest = i; signs = λ z. j; brackets = ap brackets_in j }
 
 pub branch-brackets : (se sa sb : List Sign)
-    → bracketsIn (ifSign ∷ space ∷ se ++ space ∷ thenSign ∷ space ∷ sa ++ space ∷ elseSign ∷ space ∷ sb) ≡ bracketsIn se + bracketsIn sa + bracketsIn sb
+    → brackets_in (if_sign ∷ space ∷ se ++ space ∷ then_sign ∷ space ∷ sa ++ space ∷ else_sign ∷ space ∷ sb) ≡ brackets_in se + brackets_in sa + brackets_in sb
 branch-brackets se sa sb =
-    omega (arith, in-joined (se ++ space ∷ thenSign ∷ space ∷ sa) (space ∷ elseSign ∷ space ∷ []) sb refl, in-joined se (space ∷ thenSign ∷ space ∷ []) sa refl)
+    omega (arith, in-joined (se ++ space ∷ then_sign ∷ space ∷ sa) (space ∷ else_sign ∷ space ∷ []) sb refl, in-joined se (space ∷ then_sign ∷ space ∷ []) sa refl)
 
-pub loop-brackets : (se sa : List Sign) → bracketsIn (whileSign ∷ space ∷ se ++ space ∷ doSign ∷ space ∷ sa) ≡ bracketsIn se + bracketsIn sa
-loop-brackets se sa = omega (arith, in-joined se (space ∷ doSign ∷ space ∷ []) sa refl)
+pub loop-brackets : (se sa : List Sign) → brackets_in (while_sign ∷ space ∷ se ++ space ∷ do_sign ∷ space ∷ sa) ≡ brackets_in se + brackets_in sa
+loop-brackets se sa = omega (arith, in-joined se (space ∷ do_sign ∷ space ∷ []) sa refl)
 
-pub row-brackets : (d : ℕ) (ss st : List Sign) → bracketsIn (ss ++ semicolonSign ∷ line d ∷ st) ≡ bracketsIn ss + bracketsIn st
-row-brackets d ss st = in-joined ss (semicolonSign ∷ line d ∷ []) st refl
+pub row-brackets : (d : ℕ) (ss st : List Sign) → brackets_in (ss ++ semicolon_sign ∷ line d ∷ st) ≡ brackets_in ss + brackets_in st
+row-brackets d ss st = in-joined ss (semicolon_sign ∷ line d ∷ []) st refl
 
-pub block-brackets : (d : ℕ) (ss : List Sign) → bracketsIn (openBraceSign ∷ line d ∷ ss ++ line (suc d) ∷ closeBraceSign ∷ []) ≡ bracketsIn ss
-block-brackets d ss = omega (arith, in-joined ss (line (suc d) ∷ closeBraceSign ∷ []) [] refl)
+pub block-brackets : (d : ℕ) (ss : List Sign) → brackets_in (open_brace_sign ∷ line d ∷ ss ++ line (suc d) ∷ close_brace_sign ∷ []) ≡ brackets_in ss
+block-brackets d ss = omega (arith, in-joined ss (line (suc d) ∷ close_brace_sign ∷ []) [] refl)
 
 abbrev BlockOne : ℕ → ℕ → Type 0
 BlockOne d e = (a b p q : List ℤ) (sa sb : List Sign) → Prints (block d) a sa → Prints (block e) b sb → a ++ p ≡ b ++ q → Alike d e p q sa sb
@@ -142,9 +142,9 @@ verb-one ih n u v p q (Prints.assign {a = a} {e = b} x y) (Prints.assign {a = c}
     let j = one-path x x' (behind a b p c d q i) in
     let k = one-expression y y' j.rest in
     alike k.rest (rw (j.signs, k.signs))
-verb-one ih n u v p q Prints.new-empty Prints.new-empty i = alike (tail (tail i)) (rw (number i))
-verb-one ih n u v p q Prints.new-empty (Prints.new f') i = absurd (omega (arith, fields-some f', number (tail i)))
-verb-one ih n u v p q (Prints.new f) Prints.new-empty i = absurd (omega (arith, fields-some f, number (tail i)))
+verb-one ih n u v p q Prints.new_empty Prints.new_empty i = alike (tail (tail i)) (rw (number i))
+verb-one ih n u v p q Prints.new_empty (Prints.new f') i = absurd (omega (arith, fields-some f', number (tail i)))
+verb-one ih n u v p q (Prints.new f) Prints.new_empty i = absurd (omega (arith, fields-some f, number (tail i)))
 verb-one ih n u v p q (Prints.new f) (Prints.new f') i =
     let j = one-fields f f' (number (tail i)) (tail (tail i)) in
     alike j.rest (rw (number i, j.signs))
@@ -165,17 +165,17 @@ verb-one ih n u v p q (Prints.branch {e = t} {a = a} {b = b} {se = se} {sa = sa}
     record {
       rest = l.rest;
       signs = λ w. rw (j.signs, k.signs w, l.signs w);
-      brackets = omega (arith, branch-brackets se sa sb, branch-brackets sf sc sd, ap bracketsIn j.signs, k.brackets, l.brackets);
+      brackets = omega (arith, branch-brackets se sa sb, branch-brackets sf sc sd, ap brackets_in j.signs, k.brackets, l.brackets);
     }
 verb-one ih n u v p q (Prints.loop {e = t} {a = a} {se = se} {sa = sa} x y) (Prints.loop {e = s} {a = c} {se = sf} {sa = sc} x' y') i =
     let j = one-expression x x' (behind t a p s c q i) in
     let k = ih a c p q sa sc y y' j.rest in
-    record { rest = k.rest; signs = λ w. rw (j.signs, k.signs w); brackets = omega (arith, loop-brackets se sa, loop-brackets sf sc, ap bracketsIn j.signs, k.brackets) }
+    record { rest = k.rest; signs = λ w. rw (j.signs, k.signs w); brackets = omega (arith, loop-brackets se sa, loop-brackets sf sc, ap brackets_in j.signs, k.brackets) }
 
 begins : {d : ℕ} {ws : List ℤ} {ss : List Sign} → Prints (statement d) ws ss → (n : ℕ) × (v : List ℤ) × (ws ≡ pos n ∷ v)
 begins Prints.skip = (0, [], refl)
 begins (Prints.assign {a = a} {e = e} x y) = (1, a ++ e, refl)
-begins (Prints.new-empty {x = x}) = (2, pos x ∷ pos 0 ∷ [], refl)
+begins (Prints.new_empty {x = x}) = (2, pos x ∷ pos 0 ∷ [], refl)
 begins (Prints.new {x = x} {n = n} {fs = fs} f) = (2, pos x ∷ pos n ∷ fs, refl)
 begins (Prints.always {m = m} {ps = ps} x) = (3, pos m ∷ ps, refl)
 begins (Prints.once {m = m} {ps = ps} x) = (4, pos m ∷ ps, refl)
@@ -228,6 +228,6 @@ one-text (Text.some x) Text.nothing = absurd (omega (arith, row-some x))
 one-text (Text.some x) (Text.some y) = (one-row 7 7 x y).signs refl
 
 -- a text, and the same words in a row that may nest otherwise
-pub text-brackets : (e : ℕ) {n : ℕ} {ws : List ℤ} {ss st : List Sign} → Text (pos n ∷ ws) ss → Prints (row e n) ws st → bracketsIn ss ≡ bracketsIn st
+pub text-brackets : (e : ℕ) {n : ℕ} {ws : List ℤ} {ss st : List Sign} → Text (pos n ∷ ws) ss → Prints (row e n) ws st → brackets_in ss ≡ brackets_in st
 text-brackets e Text.nothing y = absurd (omega (arith, row-some y))
 text-brackets e (Text.some x) y = (one-row 7 e x y).brackets

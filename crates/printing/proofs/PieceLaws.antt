@@ -8,16 +8,16 @@ use lib.IntN.{ℤ}
 use lib.ListN.{length, drop, length-drop}
 use mir.Syntax.{w32}
 use mir.Val.{SFits, to_z, of_z}
-use Rattle.words.specs.Words.{wordAt, numberAt, last_of}
+use Rattle.words.specs.Words.{word_at, number_at, last_of}
 use Rattle.words.proofs.Signed.{back32}
 use Rattle.lister.specs.Numerals.{numeral}
-use Rattle.program.specs.Forms.{Form, noForm, form_of}
-use Rattle.program.proofs.FormLaws.{numberOfForm, form-is}
-use Rattle.text.specs.Reading.{levelOf}
-use Rattle.printing.specs.Signs.{Sign, integer, variable, label, space, colonSign, openBraceSign, closeBraceSign, openBracketSign, closeBracketSign, becomesSign, newSign}
-use Rattle.printing.specs.Signs.{operatorText, priorityText}
+use Rattle.program.specs.Forms.{Form, no_form, form_of}
+use Rattle.program.proofs.FormLaws.{number_of_form, form-is}
+use Rattle.text.specs.Reading.{level_of}
+use Rattle.printing.specs.Signs.{Sign, integer, variable, label, space, colon_sign, open_brace_sign, close_brace_sign, open_bracket_sign, close_bracket_sign, becomes_sign, new_sign}
+use Rattle.printing.specs.Signs.{operator_text, priority_text}
 use Rattle.printing.specs.Naming.{Naming}
-use Rattle.printing.specs.Printing.{Printed, then, say, until, labelsText, path_text, operandsText, operationText, formText, expressionText, wholeText, partText, fieldText, fieldsText, newText}
+use Rattle.printing.specs.Printing.{Printed, then, say, until, labels_text, path_text, operands_text, operation_text, form_text, expression_text, whole_text, part_text, field_text, fields_text, new_text}
 use Rattle.printing.specs.Page.{ink, onto, Page, page, Wrote}
 use Rattle.printing.proofs.PageLaws.{wrote_none, wrote_then, wrote-plain}
 use Rattle.printing.proofs.LeftLaws.{Leaves, behind}
@@ -48,83 +48,83 @@ module _ {N : Naming} {a : Page} where
 
 -- ---- paths
 
-pub path-gives : {N : Naming} {a b c : Page} {x n r : ℕ} {q : List ℤ} (p : List ℤ) → x ≡ numberAt p 0 → n ≡ numberAt p 1 → q ≡ drop 2 p
-    → Wrote N a (variable x ∷ []) b → Wrote N b (labelsText n q) c → r ≡ length q - n → Gives N a (path_text p) c r
+pub path-gives : {N : Naming} {a b c : Page} {x n r : ℕ} {q : List ℤ} (p : List ℤ) → x ≡ number_at p 0 → n ≡ number_at p 1 → q ≡ drop 2 p
+    → Wrote N a (variable x ∷ []) b → Wrote N b (labels_text n q) c → r ≡ length q - n → Gives N a (path_text p) c r
 unfolding path_text
 path-gives p i j k w v l =
-    (wrote_then {ss = variable (numberAt p 0) ∷ []} (rw i at w) (rw (j, k) at v), rw (j, k) at l ∙ sym (length-drop (numberAt p 1) (drop 2 p)))
+    (wrote_then {ss = variable (number_at p 0) ∷ []} (rw i at w) (rw (j, k) at v), rw (j, k) at l ∙ sym (length-drop (number_at p 1) (drop 2 p)))
 
 -- ---- expressions
 
-pub expression-deep : {N : Naming} {a : Page} (d low : ℕ) (p : List ℤ) → d ≡ 0 → Gives N a (expressionText d low p) a (length p)
-unfolding expressionText
+pub expression-deep : {N : Naming} {a : Page} (d low : ℕ) (p : List ℤ) → d ≡ 0 → Gives N a (expression_text d low p) a (length p)
+unfolding expression_text
 expression-deep d low p e = rw e (gives_none p)
 
-expression-open : (d low : ℕ) (p : List ℤ) → (d ≡ 0 → ⊥) → formText (λ l q. expressionText (d - 1) l q) low p (form_of (numberAt p 0)) ≡ expressionText d low p
-unfolding expressionText
+expression-open : (d low : ℕ) (p : List ℤ) → (d ≡ 0 → ⊥) → form_text (λ l q. expression_text (d - 1) l q) low p (form_of (number_at p 0)) ≡ expression_text d low p
+unfolding expression_text
 expression-open zero low p h = absurd (h refl)
 expression-open (suc d) low p h = rw (sub-one (suc d))
 
-module _ {N : Naming} {a : Page} {n : ℕ} (d low : ℕ) (p : List ℤ) (deep : d ≡ 0 → ⊥) (is : n ≡ numberAt p 0) where
+module _ {N : Naming} {a : Page} {n : ℕ} (d low : ℕ) (p : List ℤ) (deep : d ≡ 0 → ⊥) (is : n ≡ number_at p 0) where
   -- by the number of its form
-  pub form-gives : {b : Page} {r : ℕ} (f : Form) → n ≡ numberOfForm f → numberOfForm f < 27
-      → Gives N a (formText (λ l q. expressionText (d - 1) l q) low p f) b r → Gives N a (expressionText d low p) b r
+  pub form-gives : {b : Page} {r : ℕ} (f : Form) → n ≡ number_of_form f → number_of_form f < 27
+      → Gives N a (form_text (λ l q. expression_text (d - 1) l q) low p f) b r → Gives N a (expression_text d low p) b r
   form-gives f k h g =
-      let e : form_of (numberAt p 0) ≡ f = ap form_of (sym is ∙ k) ∙ form-is f h in
+      let e : form_of (number_at p 0) ≡ f = ap form_of (sym is ∙ k) ∙ form-is f h in
       rw (← expression-open d low p deep, e) g
 
-  pub no-form-gives : form_of n ≡ noForm → Gives N a (expressionText d low p) a (length p)
-  unfolding formText
+  pub no-form-gives : form_of n ≡ no_form → Gives N a (expression_text d low p) a (length p)
+  unfolding form_text
   no-form-gives e =
-      let z : form_of (numberAt p 0) ≡ noForm = ap form_of (sym is) ∙ e in
+      let z : form_of (number_at p 0) ≡ no_form = ap form_of (sym is) ∙ e in
       rw (← expression-open d low p deep, z) (gives_none p)
 
-pub integer-gives : {N : Naming} {a : Page} {out at : List ℕ} {q : List ℤ} {w : ℤ} {r : ℕ} (p : List ℤ) → q ≡ drop 1 p → w ≡ wordAt q 0 → SFits w32 w
+pub integer-gives : {N : Naming} {a : Page} {out at : List ℕ} {q : List ℤ} {w : ℤ} {r : ℕ} (p : List ℤ) → q ≡ drop 1 p → w ≡ word_at q 0 → SFits w32 w
     → ink out at ≡ onto (ink a.bytes a.at) (numeral (to_z w32 (of_z w32 w))) → r ≡ length q - 1
-    → Gives N a (integer (wordAt (drop 1 p) 0) ∷ [], drop 1 (drop 1 p)) (page out at a.seen) r
+    → Gives N a (integer (word_at (drop 1 p) 0) ∷ [], drop 1 (drop 1 p)) (page out at a.seen) r
 integer-gives {N} {a} {q = q} {w = w} p i j f e l =
-    let z : wordAt (drop 1 p) 0 ≡ w = sym (j ∙ ap (λ s. wordAt s 0) i) in (
-      wrote-plain {ss = integer (wordAt (drop 1 p) 0) ∷ []} (rw (append-nil (numeral (wordAt (drop 1 p) 0)), z) (rw (back32 w f) at e)) refl,
+    let z : word_at (drop 1 p) 0 ≡ w = sym (j ∙ ap (λ s. word_at s 0) i) in (
+      wrote-plain {ss = integer (word_at (drop 1 p) 0) ∷ []} (rw (append-nil (numeral (word_at (drop 1 p) 0)), z) (rw (back32 w f) at e)) refl,
       rw i at l ∙ sym (length-drop 1 (drop 1 p)),
     )
 
 module _ {N : Naming} {a : Page} {level r : ℕ} {q : List ℤ} (go : ℕ → List ℤ → Printed) (k : ℕ) where
-  pub operands-give : {b c e : Page} {left : ℕ} (p : List ℤ) → Leaves (go level) → Gives N a (go level p) b left → Wrote N b (operatorText k) c
-      → q ≡ last_of left p → Gives N c (go (level + 1) q) e r → Gives N a (operandsText go k level p) e r
-  unfolding operandsText
-  operands-give p l g w i h = gives_then (go level) (go (suc level)) (operatorText k) l g w i (rw (add-one level) at h)
+  pub operands-give : {b c e : Page} {left : ℕ} (p : List ℤ) → Leaves (go level) → Gives N a (go level p) b left → Wrote N b (operator_text k) c
+      → q ≡ last_of left p → Gives N c (go (level + 1) q) e r → Gives N a (operands_text go k level p) e r
+  unfolding operands_text
+  operands-give p l g w i h = gives_then (go level) (go (suc level)) (operator_text k) l g w i (rw (add-one level) at h)
 
-  module _ (low : ℕ) (p : List ℤ) (i : k ≡ numberAt p 0) (j : level ≡ levelOf k) (o : q ≡ drop 1 p) where
-    pub operation-gives : {b : Page} → low ≤ level → Gives N a (operandsText go k level q) b r → Gives N a (operationText go low p) b r
-    unfolding operationText
+  module _ (low : ℕ) (p : List ℤ) (i : k ≡ number_at p 0) (j : level ≡ level_of k) (o : q ≡ drop 1 p) where
+    pub operation-gives : {b : Page} → low ≤ level → Gives N a (operands_text go k level q) b r → Gives N a (operation_text go low p) b r
+    unfolding operation_text
     operation-gives h g =
-        let l : level ≡ levelOf (numberAt p 0) = j ∙ ap levelOf i in
+        let l : level ≡ level_of (number_at p 0) = j ∙ ap level_of i in
         rw (← l, le-leb low level h, ← i, ← o) g
 
-    pub brackets-give : {b c e : Page} → level < low → Wrote N a (openBracketSign ∷ []) b → Gives N b (operandsText go k level q) c r → Wrote N c (closeBracketSign ∷ []) e
-        → Gives N a (operationText go low p) e r
-    unfolding operationText
+    pub brackets-give : {b c e : Page} → level < low → Wrote N a (open_bracket_sign ∷ []) b → Gives N b (operands_text go k level q) c r → Wrote N c (close_bracket_sign ∷ []) e
+        → Gives N a (operation_text go low p) e r
+    unfolding operation_text
     brackets-give h w g v =
-        let l : level ≡ levelOf (numberAt p 0) = j ∙ ap levelOf i in
+        let l : level ≡ level_of (number_at p 0) = j ∙ ap level_of i in
         rw (← l, lt-leb low level h, ← i, ← o)
-        (gives-say (openBracketSign ∷ []) (until (operandsText go k level q) (closeBracketSign ∷ [])) w (gives-until (operandsText go k level q) (closeBracketSign ∷ []) g v))
+        (gives-say (open_bracket_sign ∷ []) (until (operands_text go k level q) (close_bracket_sign ∷ [])) w (gives-until (operands_text go k level q) (close_bracket_sign ∷ []) g v))
 
 -- ---- constraints and fields
 
 module _ {N : Naming} {a b c : Page} {r : ℕ} {q : List ℤ} (p : List ℤ) where
-  pub part_gives : {k : ℕ} → k ≡ numberAt p 0 → Wrote N a (priorityText k) b → q ≡ drop 1 p → Gives N b (wholeText q) c r → Gives N a (partText p) c r
-  unfolding partText
-  part_gives i w o g = gives-say (priorityText (numberAt p 0)) (wholeText (drop 1 p)) (rw i at w) (rw o at g)
+  pub part_gives : {k : ℕ} → k ≡ number_at p 0 → Wrote N a (priority_text k) b → q ≡ drop 1 p → Gives N b (whole_text q) c r → Gives N a (part_text p) c r
+  unfolding part_text
+  part_gives i w o g = gives-say (priority_text (number_at p 0)) (whole_text (drop 1 p)) (rw i at w) (rw o at g)
 
-  pub field-gives : {e : Page} → Wrote N a (label (numberAt p 0) ∷ []) e → Wrote N e (colonSign ∷ space ∷ []) b → q ≡ drop 1 p → Gives N b (wholeText q) c r → Gives N a (fieldText p) c r
-  unfolding fieldText
+  pub field-gives : {e : Page} → Wrote N a (label (number_at p 0) ∷ []) e → Wrote N e (colon_sign ∷ space ∷ []) b → q ≡ drop 1 p → Gives N b (whole_text q) c r → Gives N a (field_text p) c r
+  unfolding field_text
   field-gives w v o g =
-      gives-say (label (numberAt p 0) ∷ colonSign ∷ space ∷ []) (wholeText (drop 1 p)) (wrote_then {ss = label (numberAt p 0) ∷ []} {tt = colonSign ∷ space ∷ []} w v) (rw o at g)
+      gives-say (label (number_at p 0) ∷ colon_sign ∷ space ∷ []) (whole_text (drop 1 p)) (wrote_then {ss = label (number_at p 0) ∷ []} {tt = colon_sign ∷ space ∷ []} w v) (rw o at g)
 
-  pub new-gives : {e f : Page} {k : ℕ} → k ≡ numberAt p 0 → Wrote N a (variable k ∷ []) e → Wrote N e (space ∷ becomesSign ∷ space ∷ newSign ∷ space ∷ openBraceSign ∷ []) f
-      → q ≡ drop 1 p → Gives N f (fieldsText q) b r → Wrote N b (closeBraceSign ∷ []) c → Gives N a (newText p) c r
-  unfolding newText
+  pub new-gives : {e f : Page} {k : ℕ} → k ≡ number_at p 0 → Wrote N a (variable k ∷ []) e → Wrote N e (space ∷ becomes_sign ∷ space ∷ new_sign ∷ space ∷ open_brace_sign ∷ []) f
+      → q ≡ drop 1 p → Gives N f (fields_text q) b r → Wrote N b (close_brace_sign ∷ []) c → Gives N a (new_text p) c r
+  unfolding new_text
   new-gives i w v o g u =
-      gives-say (variable (numberAt p 0) ∷ space ∷ becomesSign ∷ space ∷ newSign ∷ space ∷ openBraceSign ∷ []) (until (fieldsText (drop 1 p)) (closeBraceSign ∷ []))
-      (wrote_then {ss = variable (numberAt p 0) ∷ []} {tt = space ∷ becomesSign ∷ space ∷ newSign ∷ space ∷ openBraceSign ∷ []} (rw i at w) v)
-      (gives-until (fieldsText (drop 1 p)) (closeBraceSign ∷ []) (rw o at g) u)
+      gives-say (variable (number_at p 0) ∷ space ∷ becomes_sign ∷ space ∷ new_sign ∷ space ∷ open_brace_sign ∷ []) (until (fields_text (drop 1 p)) (close_brace_sign ∷ []))
+      (wrote_then {ss = variable (number_at p 0) ∷ []} {tt = space ∷ becomes_sign ∷ space ∷ new_sign ∷ space ∷ open_brace_sign ∷ []} (rw i at w) v)
+      (gives-until (fields_text (drop 1 p)) (close_brace_sign ∷ []) (rw o at g) u)

@@ -11,24 +11,24 @@ use lib.ListN.{length}
 use Rattle.words.specs.Answer.{got}
 use Rattle.tables.specs.Sizes.{variables, labels}
 use Rattle.tables.proofs.SearchLaws.{cases}
-use Rattle.program.specs.Reading.{readProgram}
+use Rattle.program.specs.Reading.{read_program}
 use Rattle.program.proofs.GrammarLaws.{program-sound}
 use Rattle.tokens.specs.declared.Token.{Token}
-use Rattle.tokens.specs.Codes.{semicolonCode}
-use Rattle.tokens.specs.Tokens.{mostBytes, tokenFrom}
+use Rattle.tokens.specs.Codes.{semicolon_code}
+use Rattle.tokens.specs.Tokens.{most_bytes, token_from}
 use Rattle.tokens.specs.Rules.{All}
 use Rattle.lister.specs.Numerals.{numeral}
-use Rattle.text.specs.Reading.{Named, dueAfter}
+use Rattle.text.specs.Reading.{Named, due_after}
 use Rattle.text.specs.Names.{named}
 use Rattle.text.specs.Claims.{Reads, meaning}
 use Rattle.text.proofs.TextClaims.{accepted-exactly}
 use Rattle.printing.specs.Signs.{Sign}
-use Rattle.printing.specs.Printing.{programText}
-use Rattle.printing.specs.Naming.{Naming, numbers, firstLabel, isGiven, name_of, bytes_of, numbersOf}
-use Rattle.printing.specs.Faults.{isName, usedFrom}
-use Rattle.printing.specs.Whole.{text_of, standings, firstFault}
+use Rattle.printing.specs.Printing.{program_text}
+use Rattle.printing.specs.Naming.{Naming, numbers, first_label, is_given, name_of, bytes_of, numbers_of}
+use Rattle.printing.specs.Faults.{is_name, used_from}
+use Rattle.printing.specs.Whole.{text_of, standings, first_fault}
 use Rattle.printing.specs.Rules.{Text}
-use Rattle.printing.specs.Spaced.{Fine, InOrder, variablesOf, labelsOf}
+use Rattle.printing.specs.Spaced.{Fine, InOrder, variables_of, labels_of}
 use Rattle.printing.specs.Claims.{Words, Used, OfOneSort, Had, AtFault, ReadsBack}
 use Rattle.printing.proofs.StatedLaws.{program-said}
 use Rattle.printing.proofs.FineLaws.{text-fine}
@@ -43,16 +43,16 @@ use Rattle.printing.proofs.SignSorted.{SortedAs, signs-sorted}
 use Rattle.printing.proofs.ToldNaming.{Called, told, variable-called, label-called, variable-uncalled, label-uncalled}
 
 -- the same names of the numbers that are used are the same bytes
-bytes_same : (N P : Naming) (ss : List Sign) → ((i : ℕ) → Used i (numbersOf ss) → name_of N i ≡ name_of P i) → bytes_of N ss ≡ bytes_of P ss
+bytes_same : (N P : Naming) (ss : List Sign) → ((i : ℕ) → Used i (numbers_of ss) → name_of N i ≡ name_of P i) → bytes_of N ss ≡ bytes_of P ss
 bytes_same N P [] f = refl
 bytes_same N P (Sign.blank s ∷ ss) f = ap (λ t. s ++ t) (bytes_same N P ss f)
 bytes_same N P (Sign.fixed c s ∷ ss) f = ap (λ t. s ++ t) (bytes_same N P ss f)
 bytes_same N P (Sign.integer z ∷ ss) f = ap (λ t. numeral z ++ t) (bytes_same N P ss f)
 bytes_same N P (Sign.variable x ∷ ss) f = rw (f x Used.here, bytes_same N P ss (λ i u. f i (Used.later u)))
-bytes_same N P (Sign.label l ∷ ss) f = rw (f (firstLabel + l) Used.here, bytes_same N P ss (λ i u. f i (Used.later u)))
+bytes_same N P (Sign.label l ∷ ss) f = rw (f (first_label + l) Used.here, bytes_same N P ss (λ i u. f i (Used.later u)))
 
 -- a number that is used is a variable's or a label's
-by-sort {ℓ} : {X : Type ℓ} {i : ℕ} (ss : List Sign) → Used i (numbersOf ss) → (Used i (variablesOf ss) → X) → ((l : ℕ) → i ≡ firstLabel + l → Used l (labelsOf ss) → X) → X
+by-sort {ℓ} : {X : Type ℓ} {i : ℕ} (ss : List Sign) → Used i (numbers_of ss) → (Used i (variables_of ss) → X) → ((l : ℕ) → i ≡ first_label + l → Used l (labels_of ss) → X) → X
 by-sort (Sign.blank s ∷ ss) u f g = by-sort ss u f g
 by-sort (Sign.fixed c s ∷ ss) u f g = by-sort ss u f g
 by-sort (Sign.integer z ∷ ss) u f g = by-sort ss u f g
@@ -67,41 +67,41 @@ order_below (InOrder.old h o) (Used.later u) = order_below o u
 order_below (InOrder.new o) Used.here = omega (arith, order-grows o)
 order_below (InOrder.new o) (Used.later u) = order_below o u
 
-module _ (N : Naming) (p : List ℤ) (w : Words p) (reads : readProgram p ≡ got tt) (fit : firstFault N p ≡ numbers) where
+module _ (N : Naming) (p : List ℤ) (w : Words p) (reads : read_program p ≡ got tt) (fit : first_fault N p ≡ numbers) where
   abbrev signs : List Sign
-  signs = programText p
+  signs = program_text p
 
   abbrev text : List ℕ
   text = bytes_of N signs
 
   -- how many variables and labels are used
   abbrev many : ℕ
-  many = usedFrom (standings p) 0 firstLabel
+  many = used_from (standings p) 0 first_label
 
   abbrev marks : ℕ
-  marks = usedFrom (standings p) firstLabel labels
+  marks = used_from (standings p) first_label labels
 
   rule : Text p signs
   rule = program-said (program-sound p reads).yields
 
   -- ---- the names that are used
 
-  name-good : (i : ℕ) → i < numbers → isName (name_of N i) ≡ true
+  name-good : (i : ℕ) → i < numbers → is_name (name_of N i) ≡ true
   unfolding name_of
-  name-good i h = cases (isGiven N i) (λ e. rw e (given-fit N p reads fit i h e).1) (λ e. rw e (default-good i h))
+  name-good i h = cases (is_given N i) (λ e. rw e (given-fit N p reads fit i h e).1) (λ e. rw e (default-good i h))
 
-  few : many ≤ firstLabel
-  few = used-few (standings p) 0 firstLabel
+  few : many ≤ first_label
+  few = used-few (standings p) 0 first_label
 
   few-marks : marks ≤ labels
-  few-marks = used-few (standings p) firstLabel labels
+  few-marks = used-few (standings p) first_label labels
 
   -- a number that is used is one of the first of its sort
   data Among (i : ℕ) : Type 0 where
     variable : i < many → Among i
-    label : (l : ℕ) → l < marks → i ≡ firstLabel + l → Among i
+    label : (l : ℕ) → l < marks → i ≡ first_label + l → Among i
 
-  among : (i : ℕ) → Used i (numbersOf signs) → Among i
+  among : (i : ℕ) → Used i (numbers_of signs) → Among i
   among i u =
       by-sort signs u (λ v. Among.variable (order_below (variables-in-order N p reads fit) v))
       (λ l e v. Among.label l (order_below (labels-in-order N p reads fit) v) e)
@@ -115,7 +115,7 @@ module _ (N : Naming) (p : List ℤ) (w : Words p) (reads : readProgram p ≡ go
 
   -- ---- the text is read
 
-  module _ (short : length text ≤ mostBytes) where
+  module _ (short : length text ≤ most_bytes) where
     record Readable : Type 0 where
       names : List Named
       marked : List Named
@@ -124,16 +124,16 @@ module _ (N : Naming) (p : List ℤ) (w : Words p) (reads : readProgram p ≡ go
       name-count : length names ≡ many
       mark-count : length marked ≡ marks
       name-stands : (i : ℕ) → i < many → Stands text (name_of N i) (named names i)
-      mark-stands : (i : ℕ) → i < marks → Stands text (name_of N (firstLabel + i)) (named marked i)
+      mark-stands : (i : ℕ) → i < marks → Stands text (name_of N (first_label + i)) (named marked i)
 
     readable : Readable
     readable =
-        let fine : Fine semicolonCode signs = text-fine rule in
-        let k : Told N text semicolonCode 0 signs = signs-tokens N text short fine good (text-fitted rule w) 0 [] All.none (omega arith) refl in
-        let e : Token = tokenFrom (dueAfter k.behind) text k.to in
-        let s : SortedAs N text semicolonCode k.tokens e signs = signs-sorted N text e k.ends fine (text-fitted rule w) k.spells in
-        let v = names-found text (name_of N) many (variables-apart N p reads fit) s.variable-names (variables-in-order N p reads fit) in
-        let l = names-found text (λ (i : ℕ). name_of N (firstLabel + i)) marks (labels_apart N p reads fit) s.label-names (labels-in-order N p reads fit) in
+        let fine : Fine semicolon_code signs = text-fine rule in
+        let k : Told N text semicolon_code 0 signs = signs-tokens N text short fine good (text-fitted rule w) 0 [] All.none (omega arith) refl in
+        let e : Token = token_from (due_after k.behind) text k.to in
+        let s : SortedAs N text semicolon_code k.tokens e signs = signs-sorted N text e k.ends fine (text-fitted rule w) k.spells in
+        let v = names-found text (name_of N) many (variables-apart N p reads fit) s.variable_names (variables-in-order N p reads fit) in
+        let l = names-found text (λ (i : ℕ). name_of N (first_label + i)) marks (labels_apart N p reads fit) s.label_names (labels-in-order N p reads fit) in
         let y = text-yields (meaning text v.names l.names) k.tokens rule (s.tells v.names l.names v.numbers l.numbers) in
         record {
           names = v.names;
@@ -146,13 +146,13 @@ module _ (N : Naming) (p : List ℤ) (w : Words p) (reads : readProgram p ≡ go
             spelt = k.spelt;
             ends = k.ends;
             yields = y.1;
-            variable-tokens = s.variables;
-            label-tokens = s.labels;
+            variable_tokens = s.variables;
+            label_tokens = s.labels;
             sorted = s.sorted;
-            variable-names = v.are;
-            label-names = l.are;
-            few-variables = rw v.count few;
-            few-labels = rw l.count few-marks;
+            variable_names = v.are;
+            label_names = l.are;
+            few_variables = rw v.count few;
+            few_labels = rw l.count few-marks;
             numbers = s.fit;
             limits = program-sound p reads;
           };
@@ -174,16 +174,16 @@ module _ (N : Naming) (p : List ℤ) (w : Words p) (reads : readProgram p ≡ go
       among-called i (Among.label l h e) =
           rw e (label-called text short r.names r.marked l (omega (arith, few-marks)) (omega (arith, r.mark-count)) (r.mark-stands l h))
 
-      given-among : (i : ℕ) → i < numbers → isGiven again i ≡ true → Among i
+      given-among : (i : ℕ) → i < numbers → is_given again i ≡ true → Among i
       given-among i h g =
-          cases (ltb i firstLabel)
+          cases (ltb i first_label)
           (λ e. cases (ltb i many) (λ k. Among.variable (ltb-true i many k))
-          (λ k. absurd (true≢false (sym g ∙ variable-uncalled text short r.names r.marked i (ltb-true i firstLabel e) (omega (arith, ltb-false i many k, r.name-count))))))
-          (λ e. let q : firstLabel ≤ i = ltb-false i firstLabel e in
-          let z : i ≡ firstLabel + (i - firstLabel) = omega arith in
-          cases (ltb (i - firstLabel) marks) (λ k. Among.label (i - firstLabel) (ltb-true (i - firstLabel) marks k) z)
+          (λ k. absurd (true≢false (sym g ∙ variable-uncalled text short r.names r.marked i (ltb-true i first_label e) (omega (arith, ltb-false i many k, r.name-count))))))
+          (λ e. let q : first_label ≤ i = ltb-false i first_label e in
+          let z : i ≡ first_label + (i - first_label) = omega arith in
+          cases (ltb (i - first_label) marks) (λ k. Among.label (i - first_label) (ltb-true (i - first_label) marks k) z)
           (λ k.
-          let u = label-uncalled text short r.names r.marked (i - firstLabel) (omega arith) (omega (arith, ltb-false (i - firstLabel) marks k, r.mark-count)) in
+          let u = label-uncalled text short r.names r.marked (i - first_label) (omega arith) (omega (arith, ltb-false (i - first_label) marks k, r.mark-count)) in
           absurd (true≢false (sym (rw z at g) ∙ u))))
 
       same_text : bytes_of again signs ≡ text
@@ -196,8 +196,8 @@ module _ (N : Naming) (p : List ℤ) (w : Words p) (reads : readProgram p ≡ go
       apart : (i j : ℕ) → i < numbers → j < i → OfOneSort i j → Among i → Among j → name_of N i ≡ name_of N j → ⊥
       apart i j h l o (Among.variable a) (Among.variable b) e = let z : i ≡ j = variables-apart N p reads fit i j a b e in omega arith
       apart i j h l o (Among.variable a) (Among.label k b q) e = omega (arith, few)
-      apart i j h l (OfOneSort.both-variables x y) (Among.label k b q) (Among.variable c) e = omega arith
-      apart i j h l (OfOneSort.both-labels x y) (Among.label k b q) (Among.variable c) e = omega (arith, few)
+      apart i j h l (OfOneSort.both_variables x y) (Among.label k b q) (Among.variable c) e = omega arith
+      apart i j h l (OfOneSort.both_labels x y) (Among.label k b q) (Among.variable c) e = omega (arith, few)
       apart i j h l o (Among.label k b q) (Among.label m c s) e =
           let z : k ≡ m = labels_apart N p reads fit k m b c (rw (q, s) at e) in omega arith
 
@@ -211,18 +211,18 @@ module _ (N : Naming) (p : List ℤ) (w : Words p) (reads : readProgram p ≡ go
           apart i j h l o x y (sym (among-called i x).name ∙ e ∙ (among-called j y).name)
       no-fault i h (AtFault.early u q o n) = (faults-exactly N p reads).before i (rw fit h) (AtFault.early u q o n)
 
-      fit-again : firstFault again p ≡ numbers
+      fit-again : first_fault again p ≡ numbers
       fit-again =
           let f = faults-exactly again p reads in
-          cases (ltb (firstFault again p) numbers)
-          (λ e. let h : firstFault again p < numbers = ltb-true (firstFault again p) numbers e in absurd (no-fault (firstFault again p) h (f.there h)))
-          (λ e. omega (arith, f.most, ltb-false (firstFault again p) numbers e))
+          cases (ltb (first_fault again p) numbers)
+          (λ e. let h : first_fault again p < numbers = ltb-true (first_fault again p) numbers e in absurd (no-fault (first_fault again p) h (f.there h)))
+          (λ e. omega (arith, f.most, ltb-false (first_fault again p) numbers e))
 
 pub reads-back : ReadsBack
 unfolding text_of
 reads-back N p w reads fit short =
     let r : Readable N p w reads fit short = readable N p w reads fit short in
-    let x = (accepted-exactly (bytes_of N (programText p)) p r.origins r.names r.marked).1 r.back in
+    let x = (accepted-exactly (bytes_of N (program_text p)) p r.origins r.names r.marked).1 r.back in
     let q = x.1.1.1.1.1.0 in
     let l = x.1.1.1.1.1.1 in
     record {
@@ -230,8 +230,8 @@ reads-back N p w reads fit short =
       reader = x.1.0;
       reads = x.1.1.0;
       words = x.1.1.1.0;
-      variable-count = ap length q ∙ r.name-count;
-      label-count = ap length l ∙ r.mark-count;
+      variable_count = ap length q ∙ r.name-count;
+      label_count = ap length l ∙ r.mark-count;
       fit = rw (q, l) (fit-again N p w reads fit short r);
       again = rw (q, l) (same_text N p w reads fit short r);
     }

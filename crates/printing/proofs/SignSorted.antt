@@ -11,8 +11,8 @@ use Rattle.words.proofs.Laws.{ranged-is}
 use Rattle.tables.proofs.SearchLaws.{cases}
 use Rattle.tokens.specs.declared.Token.{Token}
 use Rattle.tokens.specs.Bytes.{part}
-use Rattle.tokens.specs.Codes.{endCode, nameCode, numberCode, colonCode}
-use Rattle.tokens.specs.Numbers.{integerOf}
+use Rattle.tokens.specs.Codes.{end_code, name_code, number_code, colon_code}
+use Rattle.tokens.specs.Numbers.{integer_of}
 use Rattle.tokens.specs.Rules.{Digits, Says}
 use Rattle.tokens.proofs.NumberLaws.{value-is}
 use Rattle.tokens.proofs.NumberRules.{values}
@@ -22,8 +22,8 @@ use Rattle.lister.specs.Grammar.{Digits as Written}
 use Rattle.text.specs.Reading.{Named, number_in}
 use Rattle.text.specs.Claims.{Sorted, NumbersFit, meaning}
 use Rattle.printing.specs.Signs.{Sign}
-use Rattle.printing.specs.Naming.{Naming, firstLabel, name_of}
-use Rattle.printing.specs.Spaced.{Uncoloned, Fine, Spelling, Spells, Tells, Called, variablesOf, labelsOf}
+use Rattle.printing.specs.Naming.{Naming, first_label, name_of}
+use Rattle.printing.specs.Spaced.{Uncoloned, Fine, Spelling, Spells, Tells, Called, variables_of, labels_of}
 use Rattle.printing.proofs.FineLaws.{fixed-great}
 use Rattle.printing.proofs.SignLaws.{numeral-is}
 use Rattle.printing.proofs.SignTokens.{Fitted}
@@ -47,12 +47,12 @@ ranged-one y z h e =
     (λ a. let q : Within y ≡ Within z = sym (ranged-is y ∙ rw a) ∙ e ∙ ranged-is z ∙ rw h in cc)
     (λ a. let q : Outside ≡ Within z = sym (ranged-is y ∙ rw a) ∙ e ∙ ranged-is z ∙ rw h in let n : ◌≡◌ {A = ℕ} 0 1 = cc in let k : ⊥ = omega arith in absurd k)
 
-integer-is : (z : ℤ) → fits z ≡ true → integerOf (numeral z) ≡ z
-integer-is z h = ranged-one (integerOf (numeral z)) z h (sym (value-is (numeral z)) ∙ values (numeral z) z (numeral-says (numeral-is z h)))
+integer-is : (z : ℤ) → fits z ≡ true → integer_of (numeral z) ≡ z
+integer-is z h = ranged-one (integer_of (numeral z)) z h (sym (value-is (numeral z)) ∙ values (numeral z) z (numeral-says (numeral-is z h)))
 
 module _ (N : Naming) (text : List ℕ) where
-  integer-told : (z : ℤ) {t : Token} → fits z ≡ true → Spelling text (numeral z) t → integerOf (part text t.place t.end) ≡ z
-  integer-told z h s = ap integerOf s.spelt ∙ integer-is z h
+  integer-told : (z : ℤ) {t : Token} → fits z ≡ true → Spelling text (numeral z) t → integer_of (part text t.place t.end) ≡ z
+  integer-told z h s = ap integer_of s.spelt ∙ integer-is z h
 
   first-number : {vs : List Named} {t : Token} {ts : List Token} {x : ℕ} {xs : List ℕ} → NumbersAre text vs (t ∷ ts) (x ∷ xs) → number_in text vs t ≡ x
   first-number (NumbersAre.more e n) = e
@@ -66,33 +66,33 @@ module _ (N : Naming) (text : List ℕ) where
     first : Token
     others : List Token
     is : ts ++ e ∷ [] ≡ first ∷ others
-    uncoloned : first.code ≡ colonCode → ⊥
+    uncoloned : first.code ≡ colon_code → ⊥
 
-  next : {ss : List Sign} {ts : List Token} (e : Token) → e.code ≡ endCode → Uncoloned ss → Spells N text ss ts → Next ts e
-  next e k Uncoloned.over Spells.none = record { first = e; others = []; is = refl; uncoloned = λ (z : e.code ≡ colonCode). omega arith }
+  next : {ss : List Sign} {ts : List Token} (e : Token) → e.code ≡ end_code → Uncoloned ss → Spells N text ss ts → Next ts e
+  next e k Uncoloned.over Spells.none = record { first = e; others = []; is = refl; uncoloned = λ (z : e.code ≡ colon_code). omega arith }
   next e k (Uncoloned.spaced u) (Spells.blank s) = next e k u s
   next e k (Uncoloned.marked n) (Spells.fixed {t = t} {ts = ts} c s) = record { first = t; others = ts ++ e ∷ []; is = refl; uncoloned = λ z. n (sym c ∙ z) }
-  next e k Uncoloned.integer (Spells.integer {t = t} {ts = ts} c l s) = record { first = t; others = ts ++ e ∷ []; is = refl; uncoloned = λ (z : t.code ≡ colonCode). omega arith }
-  next e k Uncoloned.variable (Spells.variable {t = t} {ts = ts} c l s) = record { first = t; others = ts ++ e ∷ []; is = refl; uncoloned = λ (z : t.code ≡ colonCode). omega arith }
-  next e k Uncoloned.label (Spells.label {t = t} {ts = ts} c l s) = record { first = t; others = ts ++ e ∷ []; is = refl; uncoloned = λ (z : t.code ≡ colonCode). omega arith }
+  next e k Uncoloned.integer (Spells.integer {t = t} {ts = ts} c l s) = record { first = t; others = ts ++ e ∷ []; is = refl; uncoloned = λ (z : t.code ≡ colon_code). omega arith }
+  next e k Uncoloned.variable (Spells.variable {t = t} {ts = ts} c l s) = record { first = t; others = ts ++ e ∷ []; is = refl; uncoloned = λ (z : t.code ≡ colon_code). omega arith }
+  next e k Uncoloned.label (Spells.label {t = t} {ts = ts} c l s) = record { first = t; others = ts ++ e ∷ []; is = refl; uncoloned = λ (z : t.code ≡ colon_code). omega arith }
 
   pub record SortedAs (last : ℕ) (ts : List Token) (e : Token) (ss : List Sign) : Type 0 where
     pub variables : List Token
     pub labels : List Token
     pub sorted : Sorted last (ts ++ e ∷ []) variables labels
-    pub variable-names : Called text (name_of N) variables (variablesOf ss)
-    pub label-names : Called text (λ l. name_of N (firstLabel + l)) labels (labelsOf ss)
+    pub variable_names : Called text (name_of N) variables (variables_of ss)
+    pub label_names : Called text (λ l. name_of N (first_label + l)) labels (labels_of ss)
     pub fit : NumbersFit text ts
-    pub tells : (vs ls : List Named) → NumbersAre text vs variables (variablesOf ss) → NumbersAre text ls labels (labelsOf ss) → Tells (meaning text vs ls) ss ts
+    pub tells : (vs ls : List Named) → NumbersAre text vs variables (variables_of ss) → NumbersAre text ls labels (labels_of ss) → Tells (meaning text vs ls) ss ts
 
-  pub signs-sorted : {last : ℕ} {ss : List Sign} {ts : List Token} (e : Token) → e.code ≡ endCode → Fine last ss → Fitted ss → Spells N text ss ts → SortedAs last ts e ss
+  pub signs-sorted : {last : ℕ} {ss : List Sign} {ts : List Token} (e : Token) → e.code ≡ end_code → Fine last ss → Fitted ss → Spells N text ss ts → SortedAs last ts e ss
   signs-sorted e k Fine.none Fitted.none Spells.none =
       record {
         variables = [];
         labels = [];
-        sorted = Sorted.other (λ (z : e.code ≡ nameCode). omega arith) Sorted.none;
-        variable-names = Called.none;
-        label-names = Called.none;
+        sorted = Sorted.other (λ (z : e.code ≡ name_code). omega arith) Sorted.none;
+        variable_names = Called.none;
+        label_names = Called.none;
         fit = NumbersFit.none;
         tells = λ vs ls a b. Tells.none;
       }
@@ -102,8 +102,8 @@ module _ (N : Naming) (text : List ℕ) where
         variables = r.variables;
         labels = r.labels;
         sorted = r.sorted;
-        variable-names = r.variable-names;
-        label-names = r.label-names;
+        variable_names = r.variable_names;
+        label_names = r.label_names;
         fit = r.fit;
         tells = λ vs ls a b. Tells.blank (r.tells vs ls a b);
       }
@@ -114,20 +114,20 @@ module _ (N : Naming) (text : List ℕ) where
         variables = r.variables;
         labels = r.labels;
         sorted = Sorted.other (λ z. n (sym c ∙ z)) (subst (λ (m : ℕ). Sorted m (ts ++ e ∷ []) r.variables r.labels) (sym c) r.sorted);
-        variable-names = r.variable-names;
-        label-names = r.label-names;
-        fit = NumbersFit.more (λ (z : t.code ≡ numberCode). let y : ⊥ = omega arith in absurd y) r.fit;
+        variable_names = r.variable_names;
+        label_names = r.label_names;
+        fit = NumbersFit.more (λ (z : t.code ≡ number_code). let y : ⊥ = omega arith in absurd y) r.fit;
         tells = λ vs ls a b. Tells.fixed c (r.tells vs ls a b);
       }
   signs-sorted e k (Fine.integer d x f) (Fitted.integer {z = y} h i) (Spells.integer {t = t} {ts = ts} c l s) =
       let r = signs-sorted e k f i s in
-      let q : integerOf (part text t.place t.end) ≡ y = integer-told y h l in
+      let q : integer_of (part text t.place t.end) ≡ y = integer-told y h l in
       record {
         variables = r.variables;
         labels = r.labels;
-        sorted = Sorted.other (λ (z : t.code ≡ nameCode). omega arith) (subst (λ (m : ℕ). Sorted m (ts ++ e ∷ []) r.variables r.labels) (sym c) r.sorted);
-        variable-names = r.variable-names;
-        label-names = r.label-names;
+        sorted = Sorted.other (λ (z : t.code ≡ name_code). omega arith) (subst (λ (m : ℕ). Sorted m (ts ++ e ∷ []) r.variables r.labels) (sym c) r.sorted);
+        variable_names = r.variable_names;
+        label_names = r.label_names;
         fit = NumbersFit.more {t = t} (λ z. rw q h) r.fit;
         tells = λ vs ls a b. Tells.integer c q (r.tells vs ls a b);
       }
@@ -139,21 +139,21 @@ module _ (N : Naming) (text : List ℕ) where
         labels = r.labels;
         sorted =
             subst (λ (y : List Token). Sorted last (t ∷ y) (t ∷ r.variables) r.labels) (sym q.is)
-            (Sorted.variable n c q.uncoloned (subst (λ (y : List Token). Sorted nameCode y r.variables r.labels) q.is r.sorted));
-        variable-names = Called.more c l r.variable-names;
-        label-names = r.label-names;
-        fit = NumbersFit.more (λ (z : t.code ≡ numberCode). let y : ⊥ = omega arith in absurd y) r.fit;
+            (Sorted.variable n c q.uncoloned (subst (λ (y : List Token). Sorted name_code y r.variables r.labels) q.is r.sorted));
+        variable_names = Called.more c l r.variable_names;
+        label_names = r.label_names;
+        fit = NumbersFit.more (λ (z : t.code ≡ number_code). let y : ⊥ = omega arith in absurd y) r.fit;
         tells = λ vs ls a b. Tells.variable c (first-number a) (r.tells vs ls (other-numbers a) b);
       }
-  signs-sorted e k (Fine.behind-dot x f) (Fitted.label i) (Spells.label {t = t} c l s) =
+  signs-sorted e k (Fine.behind_dot x f) (Fitted.label i) (Spells.label {t = t} c l s) =
       let r = signs-sorted e k f i s in
       record {
         variables = r.variables;
         labels = t ∷ r.labels;
-        sorted = Sorted.behind-dot c r.sorted;
-        variable-names = r.variable-names;
-        label-names = Called.more c l r.label-names;
-        fit = NumbersFit.more (λ (z : t.code ≡ numberCode). let y : ⊥ = omega arith in absurd y) r.fit;
+        sorted = Sorted.behind_dot c r.sorted;
+        variable_names = r.variable_names;
+        label_names = Called.more c l r.label_names;
+        fit = NumbersFit.more (λ (z : t.code ≡ number_code). let y : ⊥ = omega arith in absurd y) r.fit;
         tells = λ vs ls a b. Tells.label c (first-number b) (r.tells vs ls a (other-numbers b));
       }
   signs-sorted e k (Fine.before_colon n f) (Fitted.label i) (Spells.label {t = t} c l (Spells.fixed d s)) =
@@ -162,8 +162,8 @@ module _ (N : Naming) (text : List ℕ) where
         variables = r.variables;
         labels = t ∷ r.labels;
         sorted = Sorted.before_colon n c d r.sorted;
-        variable-names = r.variable-names;
-        label-names = Called.more c l r.label-names;
-        fit = NumbersFit.more (λ (z : t.code ≡ numberCode). let y : ⊥ = omega arith in absurd y) r.fit;
+        variable_names = r.variable_names;
+        label_names = Called.more c l r.label_names;
+        fit = NumbersFit.more (λ (z : t.code ≡ number_code). let y : ⊥ = omega arith in absurd y) r.fit;
         tells = λ vs ls a b. Tells.label c (first-number b) (r.tells vs ls a (other-numbers b));
       }

@@ -9,18 +9,18 @@ use lib.ListN.{length, drop, length-drop, length-append}
 use lib.Seq.{drop-drop, take-append_seam, drop-append_seam}
 use Rattle.words.specs.Range.{fits}
 use Rattle.tokens.specs.declared.Token.{Token}
-use Rattle.tokens.specs.Bytes.{part, isWhite}
-use Rattle.tokens.specs.Codes.{endCode, numberCode, dotCode}
-use Rattle.tokens.specs.Tokens.{token, mostBytes, tokenFrom}
+use Rattle.tokens.specs.Bytes.{part, is_white}
+use Rattle.tokens.specs.Codes.{end_code, number_code, dot_code}
+use Rattle.tokens.specs.Tokens.{token, most_bytes, token_from}
 use Rattle.tokens.specs.Rules.{All, Over, TokenIs, TokenFrom}
 use Rattle.tokens.proofs.TextRules.{follows-complete}
 use Rattle.tokens.proofs.ApartLaws.{unnamed-58}
 use Rattle.lister.specs.Numerals.{numeral}
-use Rattle.text.specs.Reading.{dueAfter}
+use Rattle.text.specs.Reading.{due_after}
 use Rattle.text.specs.Claims.{TokensOf}
-use Rattle.printing.specs.Signs.{Sign, colonSign}
-use Rattle.printing.specs.Naming.{Naming, firstLabel, name_of, bytes_of, numbersOf}
-use Rattle.printing.specs.Faults.{isName}
+use Rattle.printing.specs.Signs.{Sign, colon_sign}
+use Rattle.printing.specs.Naming.{Naming, first_label, name_of, bytes_of, numbers_of}
+use Rattle.printing.specs.Faults.{is_name}
 use Rattle.printing.specs.Claims.{Used}
 use Rattle.printing.specs.Spaced.{Ends, Fine, Spelling, Spells}
 use Rattle.printing.proofs.SignLaws.{Begins, name-begins, integer-begins, fixed-begins}
@@ -36,7 +36,7 @@ pub data Fitted : List Sign → Type 0 where
 
 -- every name is one of the notation
 abbrev pub Good : Naming → List Sign → Type 0
-Good N ss = (i : ℕ) → Used i (numbersOf ss) → isName (name_of N i) ≡ true
+Good N ss = (i : ℕ) → Used i (numbers_of ss) → is_name (name_of N i) ≡ true
 
 all_append : {p : ℕ → Bool} {s t : List ℕ} → All p s → All p t → All p (s ++ t)
 all_append All.none b = b
@@ -66,13 +66,13 @@ module _ (N : Naming) (text : List ℕ) where
     pub to : ℕ
     pub behind : ℕ
     pub spelt : TokensOf text at last tokens to behind
-    pub ends : (tokenFrom (dueAfter behind) text to).code ≡ endCode
+    pub ends : (token_from (due_after behind) text to).code ≡ end_code
     pub spells : Spells N text ss tokens
 
-  module _ (short : length text ≤ mostBytes) where
+  module _ (short : length text ≤ most_bytes) where
     -- one sign, behind white space
-    one : {last at c : ℕ} {ss : List Sign} (sign : Sign) (w s : List ℕ) → All isWhite w → at ≤ length text → drop at text ≡ w ++ (s ++ bytes_of N ss)
-        → Begins (dueAfter last) s (bytes_of N ss) c
+    one : {last at c : ℕ} {ss : List Sign} (sign : Sign) (w s : List ℕ) → All is_white w → at ≤ length text → drop at text ≡ w ++ (s ++ bytes_of N ss)
+        → Begins (due_after last) s (bytes_of N ss) c
         → ((t : Token) (ts : List Token) → t.code ≡ c → Spelling text s t → Spells N text ss ts → Spells N text (sign ∷ ss) (t ∷ ts))
         → ((to : ℕ) → to ≤ length text → drop to text ≡ bytes_of N ss → Told c to ss) → Told last at (sign ∷ ss)
     one {last} {at} {c} {ss} sign w s a h e b f go =
@@ -85,12 +85,12 @@ module _ (N : Naming) (text : List ℕ) where
           tokens = t ∷ r.tokens;
           to = r.to;
           behind = r.behind;
-          spelt = TokensOf.more (follows-complete (dueAfter last) text at h t (TokenFrom.within e a b.dark b.token (omega arith))) r.spelt;
+          spelt = TokensOf.more (follows-complete (due_after last) text at h t (TokenFrom.within e a b.dark b.token (omega arith))) r.spelt;
           ends = r.ends;
           spells = f t r.tokens refl (record { spelt = y.spelt; whole = omega (arith, b.some); inside = y.inside }) r.spells;
         }
 
-    pub signs-tokens : {last : ℕ} {ss : List Sign} → Fine last ss → Good N ss → Fitted ss → (at : ℕ) (w : List ℕ) → All isWhite w → at ≤ length text
+    pub signs-tokens : {last : ℕ} {ss : List Sign} → Fine last ss → Good N ss → Fitted ss → (at : ℕ) (w : List ℕ) → All is_white w → at ≤ length text
         → drop at text ≡ w ++ bytes_of N ss → Told last at ss
     signs-tokens {last} Fine.none g i at w a h e =
         let x : Lies at w [] = lies at w [] h e in
@@ -102,26 +102,26 @@ module _ (N : Naming) (text : List ℕ) where
           spelt = TokensOf.none;
           ends =
               ap (λ (t : Token). t.code)
-              (follows-complete (dueAfter last) text at h (token endCode (at + length w) (at + length w + 0)) (TokenFrom.within e a Over.ended TokenIs.ended (omega arith)));
+              (follows-complete (due_after last) text at h (token end_code (at + length w) (at + length w + 0)) (TokenFrom.within e a Over.ended TokenIs.ended (omega arith)));
           spells = Spells.none;
         }
     signs-tokens {last} (Fine.blank {s = s} {ss = ss} b f) g (Fitted.blank i) at w a h e =
         let r : Told last at ss = signs-tokens f g i at (w ++ s) (all_append a b) h (e ∙ sym (append_assoc w s (bytes_of N ss))) in
         record { tokens = r.tokens; to = r.to; behind = r.behind; spelt = r.spelt; ends = r.ends; spells = Spells.blank r.spells }
     signs-tokens {last} (Fine.fixed {c = c} {s = s} n x f) g (Fitted.fixed i) at w a h e =
-        one (Sign.fixed c s) w s a h e (fixed-begins (dueAfter last) N x) (λ t ts k l r. Spells.fixed k r) (λ to l d. signs-tokens f g i to [] All.none l d)
+        one (Sign.fixed c s) w s a h e (fixed-begins (due_after last) N x) (λ t ts k l r. Spells.fixed k r) (λ to l d. signs-tokens f g i to [] All.none l d)
     signs-tokens {last} (Fine.integer {z = z} {ss = ss} d k f) g (Fitted.integer q i) at w a h e =
-        one (Sign.integer z) w (numeral z) a h e (subst (λ (b : Bool). Begins b (numeral z) (bytes_of N ss) numberCode) (sym d) (integer-begins N z q k)) (λ t ts c l r. Spells.integer c l r)
+        one (Sign.integer z) w (numeral z) a h e (subst (λ (b : Bool). Begins b (numeral z) (bytes_of N ss) number_code) (sym d) (integer-begins N z q k)) (λ t ts c l r. Spells.integer c l r)
         (λ to l b. signs-tokens f g i to [] All.none l b)
     signs-tokens {last} (Fine.variable {x = x} n k u f) g (Fitted.variable i) at w a h e =
-        one (Sign.variable x) w (name_of N x) a h e (name-begins (dueAfter last) N (name_of N x) (g x Used.here) k) (λ t ts c l r. Spells.variable c l r)
+        one (Sign.variable x) w (name_of N x) a h e (name-begins (due_after last) N (name_of N x) (g x Used.here) k) (λ t ts c l r. Spells.variable c l r)
         (λ to l b. signs-tokens f (λ j q. g j (Used.later q)) i to [] All.none l b)
-    signs-tokens (Fine.behind-dot {l = l} k f) g (Fitted.label i) at w a h e =
-        one (Sign.label l) w (name_of N (firstLabel + l)) a h e (name-begins (dueAfter dotCode) N (name_of N (firstLabel + l)) (g (firstLabel + l) Used.here) k)
+    signs-tokens (Fine.behind_dot {l = l} k f) g (Fitted.label i) at w a h e =
+        one (Sign.label l) w (name_of N (first_label + l)) a h e (name-begins (due_after dot_code) N (name_of N (first_label + l)) (g (first_label + l) Used.here) k)
         (λ t ts c x r. Spells.label c x r)
         (λ to x b. signs-tokens f (λ j q. g j (Used.later q)) i to [] All.none x b)
     signs-tokens {last} (Fine.before_colon {l = l} {ss = ss} n f) g (Fitted.label i) at w a h e =
-        one (Sign.label l) w (name_of N (firstLabel + l)) a h e
-        (name-begins (dueAfter last) N (name_of N (firstLabel + l)) {ss = colonSign ∷ ss} (g (firstLabel + l) Used.here) (Ends.marked unnamed-58 refl))
+        one (Sign.label l) w (name_of N (first_label + l)) a h e
+        (name-begins (due_after last) N (name_of N (first_label + l)) {ss = colon_sign ∷ ss} (g (first_label + l) Used.here) (Ends.marked unnamed-58 refl))
         (λ t ts c x r. Spells.label c x r)
         (λ to x b. signs-tokens f (λ j q. g j (Used.later q)) i to [] All.none x b)

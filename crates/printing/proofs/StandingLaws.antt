@@ -10,7 +10,7 @@ use lib.Dec.{eqb, ltb}
 use lib.ListN.{length, get_or, set, length-set}
 use lib.Seq.{get_or-set_same, get_or-set_other}
 use Rattle.tables.proofs.SearchLaws.{cases}
-use Rattle.printing.specs.Naming.{firstLabel, isLed, noted, notedAll}
+use Rattle.printing.specs.Naming.{first_label, is_led, noted, noted_all}
 use Rattle.printing.specs.Claims.{Used, Earlier}
 
 pub or_right : (a b : Bool) → b ≡ true → a || b ≡ true
@@ -24,7 +24,7 @@ module _ (seen : List ℕ) where
   unfolding noted
   noted-kept k h = rw (lt-ltb 0 (get_or seen k 0) h)
 
-  pub noted-set : (k : ℕ) → get_or seen k 0 ≡ 0 → noted seen k ≡ set seen k (cond (isLed seen k) 1 2)
+  pub noted-set : (k : ℕ) → get_or seen k 0 ≡ 0 → noted seen k ≡ set seen k (cond (is_led seen k) 1 2)
   unfolding noted
   noted-set k h = rw (le-ltb 0 (get_or seen k 0) (omega arith))
 
@@ -33,10 +33,10 @@ module _ (seen : List ℕ) where
       cases (ltb 0 (get_or seen k 0)) (λ e. f (ltb-true 0 (get_or seen k 0) e)) (λ e. g (let z : get_or seen k 0 ≤ 0 = ltb-false 0 (get_or seen k 0) e in omega arith))
 
   pub noted-length : (k : ℕ) → length (noted seen k) ≡ length seen
-  noted-length k = noted-either k (λ h. rw (noted-kept k h)) (λ h. rw (noted-set k h) (length-set seen k (cond (isLed seen k) 1 2)))
+  noted-length k = noted-either k (λ h. rw (noted-kept k h)) (λ h. rw (noted-set k h) (length-set seen k (cond (is_led seen k) 1 2)))
 
   pub noted_other : (k i : ℕ) → (i ≡ k → ⊥) → get_or (noted seen k) i 0 ≡ get_or seen i 0
-  noted_other k i n = noted-either k (λ h. rw (noted-kept k h)) (λ h. rw (noted-set k h) (get_or-set_other seen k i (cond (isLed seen k) 1 2) 0 n))
+  noted_other k i n = noted-either k (λ h. rw (noted-kept k h)) (λ h. rw (noted-set k h) (get_or-set_other seen k i (cond (is_led seen k) 1 2) 0 n))
 
   pub noted-stays : (k i : ℕ) → 0 < get_or seen i 0 → get_or (noted seen k) i 0 ≡ get_or seen i 0
   noted-stays k i h = go (ℕ_discrete i k)
@@ -45,31 +45,31 @@ module _ (seen : List ℕ) where
       go (yes e) = rw (noted-kept k (rw e at h))
       go (no n) = noted_other k i n
 
-  pub noted-new : (k : ℕ) → get_or seen k 0 ≡ 0 → k < length seen → get_or (noted seen k) k 0 ≡ cond (isLed seen k) 1 2
-  noted-new k h l = rw (noted-set k h) (get_or-set_same seen k (cond (isLed seen k) 1 2) 0 l)
+  pub noted-new : (k : ℕ) → get_or seen k 0 ≡ 0 → k < length seen → get_or (noted seen k) k 0 ≡ cond (is_led seen k) 1 2
+  noted-new k h l = rw (noted-set k h) (get_or-set_same seen k (cond (is_led seen k) 1 2) 0 l)
 
   pub noted-there : (k : ℕ) → k < length seen → 0 < get_or (noted seen k) k 0
   noted-there k l =
       noted-either k
       (λ h. rw (noted-kept k h) h)
-      (λ h. rw (noted-new k h l) (cases (isLed seen k) (λ e. rw e (omega arith)) (λ e. rw e (omega arith))))
+      (λ h. rw (noted-new k h l) (cases (is_led seen k) (λ e. rw e (omega arith)) (λ e. rw e (omega arith))))
 
 -- ---- numbers are noted in a row
 
-pub all-length : (seen is : List ℕ) → length (notedAll seen is) ≡ length seen
-unfolding notedAll
+pub all-length : (seen is : List ℕ) → length (noted_all seen is) ≡ length seen
+unfolding noted_all
 all-length seen [] = refl
 all-length seen (k ∷ is) = all-length (noted seen k) is ∙ noted-length seen k
 
-pub all-stays : (seen is : List ℕ) (i : ℕ) → 0 < get_or seen i 0 → get_or (notedAll seen is) i 0 ≡ get_or seen i 0
-unfolding notedAll
+pub all-stays : (seen is : List ℕ) (i : ℕ) → 0 < get_or seen i 0 → get_or (noted_all seen is) i 0 ≡ get_or seen i 0
+unfolding noted_all
 all-stays seen [] i h = refl
 all-stays seen (k ∷ is) i h =
     let e : get_or (noted seen k) i 0 ≡ get_or seen i 0 = noted-stays seen k i h in
     all-stays (noted seen k) is i (rw e h) ∙ e
 
-pub all-unused : (seen is : List ℕ) (i : ℕ) → (Used i is → ⊥) → get_or (notedAll seen is) i 0 ≡ get_or seen i 0
-unfolding notedAll
+pub all-unused : (seen is : List ℕ) (i : ℕ) → (Used i is → ⊥) → get_or (noted_all seen is) i 0 ≡ get_or seen i 0
+unfolding noted_all
 all-unused seen [] i n = refl
 all-unused seen (k ∷ is) i n = all-unused (noted seen k) is i (λ u. n (Used.later u)) ∙ noted_other seen k i (λ e. n (rw e Used.here))
 
@@ -77,7 +77,7 @@ all-unused seen (k ∷ is) i n = all-unused (noted seen k) is i (λ u. n (Used.l
 
 pub data Led (seen is : List ℕ) (i : ℕ) : Type 0 where
   first : i ≡ 0 → Led seen is i
-  label : i ≡ firstLabel → Led seen is i
+  label : i ≡ first_label → Led seen is i
   behind : {j : ℕ} → i ≡ suc j → 0 < get_or seen j 0 → Led seen is i
   earlier : {j : ℕ} → i ≡ suc j → Earlier j i is → Led seen is i
 
@@ -86,22 +86,22 @@ earlier-either Earlier.here f g = f refl
 earlier-either (Earlier.later n x) f g = g n x
 
 module _ (seen : List ℕ) where
-  pub is-led : (i : ℕ) (is : List ℕ) → isLed seen i ≡ true → Led seen is i
-  unfolding isLed
+  pub is-led : (i : ℕ) (is : List ℕ) → is_led seen i ≡ true → Led seen is i
+  unfolding is_led
   is-led i is e =
       cases (eqb i 0)
       (λ a. Led.first (eqb-true i 0 a))
-      (λ a. cases (eqb i firstLabel)
-      (λ b. Led.label (eqb-true i firstLabel b))
+      (λ a. cases (eqb i first_label)
+      (λ b. Led.label (eqb-true i first_label b))
       (λ b. let n : i ≡ 0 → ⊥ = eqb-false i 0 a in
       let s : i ≡ suc (i - 1) = omega (arith, n) in
       Led.behind s (ltb-true 0 (get_or seen (i - 1) 0) (rw (a, b) at e))))
 
-  led-now : {i : ℕ} {is : List ℕ} → Led seen (i ∷ is) i → isLed seen i ≡ true
-  unfolding isLed
+  led-now : {i : ℕ} {is : List ℕ} → Led seen (i ∷ is) i → is_led seen i ≡ true
+  unfolding is_led
   led-now (Led.first e) = rw e
   led-now (Led.label e) = rw e
-  led-now {i} (Led.behind {j = j} e h) = let s : i - 1 ≡ j = omega arith in or_right (eqb i 0 || eqb i firstLabel) (ltb 0 (get_or seen (i - 1) 0)) (rw s (lt-ltb 0 (get_or seen j 0) h))
+  led-now {i} (Led.behind {j = j} e h) = let s : i - 1 ≡ j = omega arith in or_right (eqb i 0 || eqb i first_label) (ltb 0 (get_or seen (i - 1) 0)) (rw s (lt-ltb 0 (get_or seen j 0) h))
   led-now (Led.earlier e x) = absurd (earlier-either x (λ q. omega arith) (λ n y. n refl))
 
   led_on : {k i : ℕ} {is : List ℕ} → i < length seen → Led seen (k ∷ is) i → Led (noted seen k) is i
@@ -124,21 +124,21 @@ module _ (seen : List ℕ) where
 -- ---- the standing of a number that is used
 
 pub record Standing (seen is : List ℕ) (i : ℕ) : Type 0 where
-  pub led : Led seen is i → get_or (notedAll seen is) i 0 ≡ 1
-  pub unled : (Led seen is i → ⊥) → get_or (notedAll seen is) i 0 ≡ 2
+  pub led : Led seen is i → get_or (noted_all seen is) i 0 ≡ 1
+  pub unled : (Led seen is i → ⊥) → get_or (noted_all seen is) i 0 ≡ 2
 
 module _ (seen : List ℕ) where
-  pub first-standing : (i : ℕ) (is : List ℕ) → get_or seen i 0 ≡ 0 → i < length seen → get_or (notedAll seen (i ∷ is)) i 0 ≡ cond (isLed seen i) 1 2
-  unfolding notedAll
+  pub first-standing : (i : ℕ) (is : List ℕ) → get_or seen i 0 ≡ 0 → i < length seen → get_or (noted_all seen (i ∷ is)) i 0 ≡ cond (is_led seen i) 1 2
+  unfolding noted_all
   first-standing i is z l = all-stays (noted seen i) is i (noted-there seen i l) ∙ noted-new seen i z l
 
   standing-now : {i : ℕ} {is : List ℕ} → get_or seen i 0 ≡ 0 → i < length seen → Standing seen (i ∷ is) i
   standing-now {i} {is} z l =
-      let e : get_or (notedAll seen (i ∷ is)) i 0 ≡ cond (isLed seen i) 1 2 = first-standing i is z l in
-      record { led = λ x. e ∙ rw (led-now seen x); unled = λ n. e ∙ cases (isLed seen i) (λ y. absurd (n (is-led seen i (i ∷ is) y))) (λ y. rw y) }
+      let e : get_or (noted_all seen (i ∷ is)) i 0 ≡ cond (is_led seen i) 1 2 = first-standing i is z l in
+      record { led = λ x. e ∙ rw (led-now seen x); unled = λ n. e ∙ cases (is_led seen i) (λ y. absurd (n (is-led seen i (i ∷ is) y))) (λ y. rw y) }
 
   standing_on : {k i : ℕ} {is : List ℕ} → (k ≡ i → ⊥) → i < length seen → Standing (noted seen k) is i → Standing seen (k ∷ is) i
-  unfolding notedAll
+  unfolding noted_all
   standing_on n l s = record { led = λ x. s.led (led_on seen l x); unled = λ m. s.unled (λ x. m (led-back seen n x)) }
 
 pub standing : (seen : List ℕ) {i : ℕ} {is : List ℕ} → get_or seen i 0 ≡ 0 → i < length seen → Used i is → Standing seen is i
@@ -150,8 +150,8 @@ standing seen {i} z l (Used.later {j = k} {is = is} u) =
     go (yes e) f = rw e (standing-now seen z l)
     go (no n) f = standing_on seen n l (f n)
 
-pub used-there : (seen : List ℕ) {i : ℕ} {is : List ℕ} → i < length seen → Used i is → 0 < get_or (notedAll seen is) i 0
-unfolding notedAll
+pub used-there : (seen : List ℕ) {i : ℕ} {is : List ℕ} → i < length seen → Used i is → 0 < get_or (noted_all seen is) i 0
+unfolding noted_all
 used-there seen {i} l (Used.here {is = is}) = let h : 0 < get_or (noted seen i) i 0 = noted-there seen i l in rw (all-stays (noted seen i) is i h) h
 used-there seen l (Used.later {j = k} u) = used-there (noted seen k) (rw noted-length l) u
 

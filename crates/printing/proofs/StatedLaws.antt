@@ -5,130 +5,130 @@ use Prim.Native.Nat.{ℕ, zero, suc, ◌≤◌, ◌<◌}
 use native.Mathlib.Omega.{arith}
 use lib.IntN.{ℤ, pos}
 use Rattle.words.proofs.Laws.{number-first}
-use Rattle.program.specs.Forms.{blockDepth, expressionDepth}
-use Rattle.program.specs.Forms.{Verb, skip, assign, new, always, once, alwaysSame, onceSame, branch, loop}
+use Rattle.program.specs.Forms.{block_depth, expression_depth}
+use Rattle.program.specs.Forms.{Verb, skip, assign, new, always, once, always_same, once_same, branch, loop}
 use Rattle.program.specs.Grammar as Grammar
-use Rattle.program.proofs.FormLaws.{numberOfVerb, verb-is}
+use Rattle.program.proofs.FormLaws.{number_of_verb, verb-is}
 use Rattle.printing.specs.Signs.{Sign, variable, space, line}
-use Rattle.printing.specs.Signs.{newSign, skipSign, alwaysSign, onceSign, ifSign, thenSign, elseSign, whileSign, doSign}
-use Rattle.printing.specs.Signs.{becomesSign, commaSign, semicolonSign, openBraceSign, closeBraceSign, identicalSign, besideSign}
-use Rattle.printing.specs.Printing.{Printed, rowText, expressionText, partText, constraintText, fieldText, fieldsText}
-use Rattle.printing.specs.Printing.{newText, assignText, branchText, loopText, verbText, verbAt, blockText, statementText, statementsText, programText}
+use Rattle.printing.specs.Signs.{new_sign, skip_sign, always_sign, once_sign, if_sign, then_sign, else_sign, while_sign, do_sign}
+use Rattle.printing.specs.Signs.{becomes_sign, comma_sign, semicolon_sign, open_brace_sign, close_brace_sign, identical_sign, beside_sign}
+use Rattle.printing.specs.Printing.{Printed, row_text, expression_text, part_text, constraint_text, field_text, fields_text}
+use Rattle.printing.specs.Printing.{new_text, assign_text, branch_text, loop_text, verb_text, verb_at, block_text, statement_text, statements_text, program_text}
 use Rattle.printing.specs.Rules as Rules
 use Rattle.printing.proofs.RulesLaws.{Said, RowSaid, row_last, row_more, path-rule, path-writes, sides-write, expression-said, parts_said, fields-said}
 
-row-none : (lead sep : List Sign) (one : List ℤ → Printed) (p : List ℤ) → rowText lead sep one 0 p ≡ ([], p)
-unfolding rowText
+row-none : (lead sep : List Sign) (one : List ℤ → Printed) (p : List ℤ) → row_text lead sep one 0 p ≡ ([], p)
+unfolding row_text
 row-none lead sep one p = refl
 
 -- the definition writes these signs for an expression that stands under no operator, whatever words follow; and so for a block
 abbrev Wholes : List ℤ → List Sign → Type 0
-Wholes e se = (r : List ℤ) → expressionText expressionDepth 1 (e ++ r) ≡ (se, r)
+Wholes e se = (r : List ℤ) → expression_text expression_depth 1 (e ++ r) ≡ (se, r)
 
 abbrev Blocks : ℕ → List ℤ → List Sign → Type 0
-Blocks d a sa = (r : List ℤ) → blockText d (a ++ r) ≡ (sa, r)
+Blocks d a sa = (r : List ℤ) → block_text d (a ++ r) ≡ (sa, r)
 
-verb-text : (d : ℕ) (v : Verb) (q : List ℤ) → numberOfVerb v < 9
-    → statementText d (pos (numberOfVerb v) ∷ q) ≡ verbText (λ r. blockText d r) (pos (numberOfVerb v) ∷ q) v
-unfolding statementText verbAt
+verb-text : (d : ℕ) (v : Verb) (q : List ℤ) → number_of_verb v < 9
+    → statement_text d (pos (number_of_verb v) ∷ q) ≡ verb_text (λ r. block_text d r) (pos (number_of_verb v) ∷ q) v
+unfolding statement_text verb_at
 verb-text d v q h = rw (number-first, verb-is v h)
 
-assign-writes : (a e : List ℤ) {sa se : List Sign} → Rules.Path a sa → Wholes e se → (r : List ℤ) → assignText ((a ++ e) ++ r) ≡ (sa ++ space ∷ becomesSign ∷ space ∷ se, r)
-unfolding assignText
+assign-writes : (a e : List ℤ) {sa se : List Sign} → Rules.Path a sa → Wholes e se → (r : List ℤ) → assign_text ((a ++ e) ++ r) ≡ (sa ++ space ∷ becomes_sign ∷ space ∷ se, r)
+unfolding assign_text
 assign-writes a e x y r = rw (append_assoc a e r, path-writes x (e ++ r), y r)
 
-new-writes : (x n : ℕ) (fs : List ℤ) {ss : List Sign} → ((r : List ℤ) → rowText [] (commaSign ∷ space ∷ []) fieldText n (fs ++ r) ≡ (ss, r))
-    → (r : List ℤ) → newText ((pos x ∷ pos n ∷ fs) ++ r) ≡ (variable x ∷ space ∷ becomesSign ∷ space ∷ newSign ∷ space ∷ openBraceSign ∷ ss ++ closeBraceSign ∷ [], r)
-unfolding newText fieldsText
+new-writes : (x n : ℕ) (fs : List ℤ) {ss : List Sign} → ((r : List ℤ) → row_text [] (comma_sign ∷ space ∷ []) field_text n (fs ++ r) ≡ (ss, r))
+    → (r : List ℤ) → new_text ((pos x ∷ pos n ∷ fs) ++ r) ≡ (variable x ∷ space ∷ becomes_sign ∷ space ∷ new_sign ∷ space ∷ open_brace_sign ∷ ss ++ close_brace_sign ∷ [], r)
+unfolding new_text fields_text
 new-writes x n fs f r = rw (number-first (pos x) (pos n ∷ (fs ++ r)), number-first (pos n) (fs ++ r), f r)
 
-constraint-writes : (m : ℕ) (ps : List ℤ) {ss : List Sign} → ((r : List ℤ) → rowText [] (space ∷ besideSign ∷ space ∷ []) partText m (ps ++ r) ≡ (ss, r))
-    → (r : List ℤ) → constraintText ((pos m ∷ ps) ++ r) ≡ (ss, r)
-unfolding constraintText
+constraint-writes : (m : ℕ) (ps : List ℤ) {ss : List Sign} → ((r : List ℤ) → row_text [] (space ∷ beside_sign ∷ space ∷ []) part_text m (ps ++ r) ≡ (ss, r))
+    → (r : List ℤ) → constraint_text ((pos m ∷ ps) ++ r) ≡ (ss, r)
+unfolding constraint_text
 constraint-writes m ps x r = rw (number-first, x r)
 
 branch-writes : (d : ℕ) (e a b : List ℤ) {se sa sb : List Sign} → Wholes e se → Blocks d a sa → Blocks d b sb
-    → (r : List ℤ) → branchText (λ q. blockText d q) ((e ++ (a ++ b)) ++ r) ≡ (ifSign ∷ space ∷ se ++ space ∷ thenSign ∷ space ∷ sa ++ space ∷ elseSign ∷ space ∷ sb, r)
-unfolding branchText
+    → (r : List ℤ) → branch_text (λ q. block_text d q) ((e ++ (a ++ b)) ++ r) ≡ (if_sign ∷ space ∷ se ++ space ∷ then_sign ∷ space ∷ sa ++ space ∷ else_sign ∷ space ∷ sb, r)
+unfolding branch_text
 branch-writes d e a b {se} {sa} {sb} x y z r =
-    rw (append_assoc e (a ++ b) r, x ((a ++ b) ++ r), append_assoc a b r, y (b ++ r), z r, append_assoc se (space ∷ thenSign ∷ space ∷ sa) (space ∷ elseSign ∷ space ∷ sb))
+    rw (append_assoc e (a ++ b) r, x ((a ++ b) ++ r), append_assoc a b r, y (b ++ r), z r, append_assoc se (space ∷ then_sign ∷ space ∷ sa) (space ∷ else_sign ∷ space ∷ sb))
 
 loop-writes : (d : ℕ) (e a : List ℤ) {se sa : List Sign} → Wholes e se → Blocks d a sa
-    → (r : List ℤ) → loopText (λ q. blockText d q) ((e ++ a) ++ r) ≡ (whileSign ∷ space ∷ se ++ space ∷ doSign ∷ space ∷ sa, r)
-unfolding loopText
+    → (r : List ℤ) → loop_text (λ q. block_text d q) ((e ++ a) ++ r) ≡ (while_sign ∷ space ∷ se ++ space ∷ do_sign ∷ space ∷ sa, r)
+unfolding loop_text
 loop-writes d e a x y r = rw (append_assoc e a r, x (a ++ r), y r)
 
 -- ---- what is said of each piece
 
 abbrev pub SaidOf : Grammar.Piece → List ℤ → Type 0
-SaidOf (Grammar.Piece.block_of d) ws = Said (Rules.Prints (Rules.Piece.block d) ws) (λ p. blockText d p) ws
-SaidOf (Grammar.Piece.statementsOf d zero) ws = ws ≡ []
-SaidOf (Grammar.Piece.statementsOf d (suc n)) ws = RowSaid (Rules.Prints (Rules.Piece.row d (suc n)) ws) (semicolonSign ∷ line d ∷ []) (λ p. statementText d p) (suc n) ws
-SaidOf (Grammar.Piece.statementOf d) ws = Said (Rules.Prints (Rules.Piece.statement d) ws) (λ p. statementText d p) ws
+SaidOf (Grammar.Piece.block_of d) ws = Said (Rules.Prints (Rules.Piece.block d) ws) (λ p. block_text d p) ws
+SaidOf (Grammar.Piece.statements_of d zero) ws = ws ≡ []
+SaidOf (Grammar.Piece.statements_of d (suc n)) ws = RowSaid (Rules.Prints (Rules.Piece.row d (suc n)) ws) (semicolon_sign ∷ line d ∷ []) (λ p. statement_text d p) (suc n) ws
+SaidOf (Grammar.Piece.statement_of d) ws = Said (Rules.Prints (Rules.Piece.statement d) ws) (λ p. statement_text d p) ws
 
-row_on : (d n : ℕ) (s ss : List ℤ) → SaidOf (Grammar.Piece.statementOf d) s → SaidOf (Grammar.Piece.statementsOf d n) ss → SaidOf (Grammar.Piece.statementsOf d (suc n)) (s ++ ss)
+row_on : (d n : ℕ) (s ss : List ℤ) → SaidOf (Grammar.Piece.statement_of d) s → SaidOf (Grammar.Piece.statements_of d n) ss → SaidOf (Grammar.Piece.statements_of d (suc n)) (s ++ ss)
 row_on d zero s ss x e =
     rw (e, append-nil s) record {
       signs = x.signs;
       rule = Rules.Prints.last x.rule;
-      says = λ lead r. row_last lead (semicolonSign ∷ line d ∷ []) (λ p. statementText d p) s x.says r;
+      says = λ lead r. row_last lead (semicolon_sign ∷ line d ∷ []) (λ p. statement_text d p) s x.says r;
     }
 row_on d (suc n) s ss x y =
     record {
-      signs = x.signs ++ semicolonSign ∷ line d ∷ y.signs;
+      signs = x.signs ++ semicolon_sign ∷ line d ∷ y.signs;
       rule = Rules.Prints.more x.rule y.rule;
-      says = λ lead r. row_more lead (semicolonSign ∷ line d ∷ []) (λ p. statementText d p) (suc n) s ss y.signs x.says (y.says (semicolonSign ∷ line d ∷ [])) r;
+      says = λ lead r. row_more lead (semicolon_sign ∷ line d ∷ []) (λ p. statement_text d p) (suc n) s ss y.signs x.says (y.says (semicolon_sign ∷ line d ∷ [])) r;
     }
 
-block_on : (d n : ℕ) (ss : List ℤ) → SaidOf (Grammar.Piece.statementsOf d n) ss → SaidOf (Grammar.Piece.block_of (suc d)) (pos n ∷ ss)
-unfolding blockText statementText
+block_on : (d n : ℕ) (ss : List ℤ) → SaidOf (Grammar.Piece.statements_of d n) ss → SaidOf (Grammar.Piece.block_of (suc d)) (pos n ∷ ss)
+unfolding block_text statement_text
 block_on d zero ss e =
     rw e record {
-      signs = openBraceSign ∷ closeBraceSign ∷ [];
+      signs = open_brace_sign ∷ close_brace_sign ∷ [];
       rule = Rules.Prints.empty;
-      says = λ r. rw (number-first, row-none [] (semicolonSign ∷ line d ∷ []) (λ p. statementText d p) r);
+      says = λ r. rw (number-first, row-none [] (semicolon_sign ∷ line d ∷ []) (λ p. statement_text d p) r);
     }
 block_on d (suc n) ss x =
     record {
-      signs = openBraceSign ∷ line d ∷ x.signs ++ line (suc d) ∷ closeBraceSign ∷ [];
+      signs = open_brace_sign ∷ line d ∷ x.signs ++ line (suc d) ∷ close_brace_sign ∷ [];
       rule = Rules.Prints.braces x.rule;
       says = λ r. rw (number-first, x.says [] r);
     }
 
-new-on : (d x n : ℕ) (fs : List ℤ) → Grammar.Fields n [] fs → SaidOf (Grammar.Piece.statementOf d) (pos 2 ∷ pos x ∷ pos n ∷ fs)
-unfolding verbText
+new-on : (d x n : ℕ) (fs : List ℤ) → Grammar.Fields n [] fs → SaidOf (Grammar.Piece.statement_of d) (pos 2 ∷ pos x ∷ pos n ∷ fs)
+unfolding verb_text
 new-on d x zero fs Grammar.Fields.none =
     record {
-      signs = variable x ∷ space ∷ becomesSign ∷ space ∷ newSign ∷ space ∷ openBraceSign ∷ closeBraceSign ∷ [];
-      rule = Rules.Prints.new-empty;
-      says = λ r. verb-text d new (pos x ∷ pos 0 ∷ r) (omega arith) ∙ new-writes x 0 [] (λ q. row-none [] (commaSign ∷ space ∷ []) fieldText q) r;
+      signs = variable x ∷ space ∷ becomes_sign ∷ space ∷ new_sign ∷ space ∷ open_brace_sign ∷ close_brace_sign ∷ [];
+      rule = Rules.Prints.new_empty;
+      says = λ r. verb-text d new (pos x ∷ pos 0 ∷ r) (omega arith) ∙ new-writes x 0 [] (λ q. row-none [] (comma_sign ∷ space ∷ []) field_text q) r;
     }
 new-on d x (suc n) fs f =
     let i = fields-said n f in
     record {
-      signs = variable x ∷ space ∷ becomesSign ∷ space ∷ newSign ∷ space ∷ openBraceSign ∷ i.signs ++ closeBraceSign ∷ [];
+      signs = variable x ∷ space ∷ becomes_sign ∷ space ∷ new_sign ∷ space ∷ open_brace_sign ∷ i.signs ++ close_brace_sign ∷ [];
       rule = Rules.Prints.new i.rule;
       says = λ r. verb-text d new (pos x ∷ pos (suc n) ∷ (fs ++ r)) (omega arith) ∙ new-writes x (suc n) fs (i.says []) r;
     }
 
 -- a constraint: its parts and what is written of them
-constraint-on : (m : ℕ) (ps : List ℤ) → 1 ≤ m → Grammar.Parts m ps → Said (Rules.Parts m ps) (λ p. constraintText (pos m ∷ p)) ps
+constraint-on : (m : ℕ) (ps : List ℤ) → 1 ≤ m → Grammar.Parts m ps → Said (Rules.Parts m ps) (λ p. constraint_text (pos m ∷ p)) ps
 constraint-on zero ps h x = let z : ⊥ = omega arith in absurd z
 constraint-on (suc m) ps h x =
     let i = parts_said m x in
     record { signs = i.signs; rule = i.rule; says = λ r. constraint-writes (suc m) ps (i.says []) r }
 
 pub yields-said : {c : Grammar.Piece} {ws : List ℤ} → Grammar.Yields c ws → SaidOf c ws
-unfolding verbText
+unfolding verb_text
 yields-said (Grammar.Yields.block {d = d} {n = n} {ss = ss} h x) = block_on d n ss (yields-said x)
 yields-said Grammar.Yields.none = refl
 yields-said (Grammar.Yields.one {d = d} {n = n} {s = s} {ss = ss} x y) = row_on d n s ss (yields-said x) (yields-said y)
-yields-said (Grammar.Yields.skip {d = d}) = record { signs = skipSign ∷ []; rule = Rules.Prints.skip; says = λ r. verb-text d skip r (omega arith) }
+yields-said (Grammar.Yields.skip {d = d}) = record { signs = skip_sign ∷ []; rule = Rules.Prints.skip; says = λ r. verb-text d skip r (omega arith) }
 yields-said (Grammar.Yields.assign {d = d} {a = a} {e = e} x y) =
     let i = path-rule x in
     let j = expression-said y 1 in
     record {
-      signs = i.0 ++ space ∷ becomesSign ∷ space ∷ j.signs;
+      signs = i.0 ++ space ∷ becomes_sign ∷ space ∷ j.signs;
       rule = Rules.Prints.assign i.1 j.rule;
       says = λ r. verb-text d assign ((a ++ e) ++ r) (omega arith) ∙ assign-writes a e i.1 j.says r;
     }
@@ -136,39 +136,39 @@ yields-said (Grammar.Yields.new {d = d} {x = x} {n = n} {fs = fs} h k f) = new-o
 yields-said (Grammar.Yields.always {d = d} (Grammar.Constraint.constraint {m = m} {ps = ps} h k x)) =
     let i = constraint-on m ps h x in
     record {
-      signs = alwaysSign ∷ space ∷ i.signs;
+      signs = always_sign ∷ space ∷ i.signs;
       rule = Rules.Prints.always i.rule;
       says = λ r. verb-text d always (pos m ∷ (ps ++ r)) (omega arith) ∙ rw (i.says r);
     }
 yields-said (Grammar.Yields.once {d = d} (Grammar.Constraint.constraint {m = m} {ps = ps} h k x)) =
     let i = constraint-on m ps h x in
     record {
-      signs = onceSign ∷ space ∷ i.signs;
+      signs = once_sign ∷ space ∷ i.signs;
       rule = Rules.Prints.once i.rule;
       says = λ r. verb-text d once (pos m ∷ (ps ++ r)) (omega arith) ∙ rw (i.says r);
     }
-yields-said (Grammar.Yields.alwaysSame {d = d} {a = a} {b = b} x y) =
+yields-said (Grammar.Yields.always_same {d = d} {a = a} {b = b} x y) =
     let i = path-rule x in
     let j = path-rule y in
     record {
-      signs = alwaysSign ∷ space ∷ i.0 ++ space ∷ identicalSign ∷ space ∷ j.0;
+      signs = always_sign ∷ space ∷ i.0 ++ space ∷ identical_sign ∷ space ∷ j.0;
       rule = Rules.Prints.always-same i.1 j.1;
-      says = λ r. verb-text d alwaysSame ((a ++ b) ++ r) (omega arith) ∙ rw (sides-write i.1 j.1 r);
+      says = λ r. verb-text d always_same ((a ++ b) ++ r) (omega arith) ∙ rw (sides-write i.1 j.1 r);
     }
-yields-said (Grammar.Yields.onceSame {d = d} {a = a} {b = b} x y) =
+yields-said (Grammar.Yields.once_same {d = d} {a = a} {b = b} x y) =
     let i = path-rule x in
     let j = path-rule y in
     record {
-      signs = onceSign ∷ space ∷ i.0 ++ space ∷ identicalSign ∷ space ∷ j.0;
+      signs = once_sign ∷ space ∷ i.0 ++ space ∷ identical_sign ∷ space ∷ j.0;
       rule = Rules.Prints.once-same i.1 j.1;
-      says = λ r. verb-text d onceSame ((a ++ b) ++ r) (omega arith) ∙ rw (sides-write i.1 j.1 r);
+      says = λ r. verb-text d once_same ((a ++ b) ++ r) (omega arith) ∙ rw (sides-write i.1 j.1 r);
     }
 yields-said (Grammar.Yields.branch {d = d} {e = e} {a = a} {b = b} x y z) =
     let i = expression-said x 1 in
     let j = yields-said y in
     let k = yields-said z in
     record {
-      signs = ifSign ∷ space ∷ i.signs ++ space ∷ thenSign ∷ space ∷ j.signs ++ space ∷ elseSign ∷ space ∷ k.signs;
+      signs = if_sign ∷ space ∷ i.signs ++ space ∷ then_sign ∷ space ∷ j.signs ++ space ∷ else_sign ∷ space ∷ k.signs;
       rule = Rules.Prints.branch i.rule j.rule k.rule;
       says = λ r. verb-text d branch ((e ++ (a ++ b)) ++ r) (omega arith) ∙ branch-writes d e a b i.says j.says k.says r;
     }
@@ -176,23 +176,23 @@ yields-said (Grammar.Yields.loop {d = d} {e = e} {a = a} x y) =
     let i = expression-said x 1 in
     let j = yields-said y in
     record {
-      signs = whileSign ∷ space ∷ i.signs ++ space ∷ doSign ∷ space ∷ j.signs;
+      signs = while_sign ∷ space ∷ i.signs ++ space ∷ do_sign ∷ space ∷ j.signs;
       rule = Rules.Prints.loop i.rule j.rule;
       says = λ r. verb-text d loop ((e ++ a) ++ r) (omega arith) ∙ loop-writes d e a i.says j.says r;
     }
 
 -- ---- a program
 
-program-row : (n : ℕ) (ss : List ℤ) → programText (pos n ∷ ss) ≡ (rowText [] (semicolonSign ∷ line 7 ∷ []) (λ p. statementText 7 p) n ss).0
-unfolding programText statementsText
-program-row n ss = ap (λ (m : ℕ). (rowText [] (semicolonSign ∷ line 7 ∷ []) (λ p. statementText 7 p) m ss).0) (number-first (pos n) ss)
+program-row : (n : ℕ) (ss : List ℤ) → program_text (pos n ∷ ss) ≡ (row_text [] (semicolon_sign ∷ line 7 ∷ []) (λ p. statement_text 7 p) n ss).0
+unfolding program_text statements_text
+program-row n ss = ap (λ (m : ℕ). (row_text [] (semicolon_sign ∷ line 7 ∷ []) (λ p. statement_text 7 p) m ss).0) (number-first (pos n) ss)
 
-whole-said : (n : ℕ) (ss : List ℤ) → SaidOf (Grammar.Piece.statementsOf 7 n) ss → Rules.Text (pos n ∷ ss) (programText (pos n ∷ ss))
-whole-said zero ss e = rw (e, program-row 0 [], row-none [] (semicolonSign ∷ line 7 ∷ []) (λ p. statementText 7 p) []) Rules.Text.nothing
+whole-said : (n : ℕ) (ss : List ℤ) → SaidOf (Grammar.Piece.statements_of 7 n) ss → Rules.Text (pos n ∷ ss) (program_text (pos n ∷ ss))
+whole-said zero ss e = rw (e, program-row 0 [], row-none [] (semicolon_sign ∷ line 7 ∷ []) (λ p. statement_text 7 p) []) Rules.Text.nothing
 whole-said (suc n) ss x =
-    let i : rowText [] (semicolonSign ∷ line 7 ∷ []) (λ p. statementText 7 p) (suc n) ss ≡ (x.signs, []) = rw (append-nil ss) at (x.says [] []) in
+    let i : row_text [] (semicolon_sign ∷ line 7 ∷ []) (λ p. statement_text 7 p) (suc n) ss ≡ (x.signs, []) = rw (append-nil ss) at (x.says [] []) in
     rw (program-row (suc n) ss, i) (Rules.Text.some x.rule)
 
 -- what is written of a program is what a rule says
-pub program-said : {p : List ℤ} → Grammar.Yields (Grammar.Piece.block_of blockDepth) p → Rules.Text p (programText p)
+pub program-said : {p : List ℤ} → Grammar.Yields (Grammar.Piece.block_of block_depth) p → Rules.Text p (program_text p)
 program-said (Grammar.Yields.block {n = n} {ss = ss} h x) = whole-said n ss (yields-said x)

@@ -6,13 +6,13 @@ use native.Mathlib.Omega.{arith}
 use native.Mathlib.Numerals.{sub-one}
 use lib.IntN.{ℤ}
 use lib.ListN.{length, length-drop}
-use Rattle.words.specs.Words.{numberAt, last_of}
-use Rattle.program.specs.Forms.{expressionDepth, Verb, noVerb, verbOf}
-use Rattle.program.proofs.FormLaws.{numberOfVerb, verb-is}
+use Rattle.words.specs.Words.{number_at, last_of}
+use Rattle.program.specs.Forms.{expression_depth, Verb, no_verb, verb_of}
+use Rattle.program.proofs.FormLaws.{number_of_verb, verb-is}
 use Rattle.program.proofs.LengthLaws.{part-trans}
-use Rattle.printing.specs.Signs.{space, lineBytes, line, semicolonSign, ifSign, thenSign, elseSign, whileSign, doSign, openBraceSign, closeBraceSign}
+use Rattle.printing.specs.Signs.{space, line_bytes, line, semicolon_sign, if_sign, then_sign, else_sign, while_sign, do_sign, open_brace_sign, close_brace_sign}
 use Rattle.printing.specs.Naming.{Naming, bytes_of}
-use Rattle.printing.specs.Printing.{Printed, then, say, until, rowText, wholeText, branchText, loopText, verbText, verbAt, braces, blockText, statementText, statementsText}
+use Rattle.printing.specs.Printing.{Printed, then, say, until, row_text, whole_text, branch_text, loop_text, verb_text, verb_at, braces, block_text, statement_text, statements_text}
 use Rattle.printing.specs.Page.{ink, onto, Page, page, Wrote}
 use Rattle.printing.proofs.PageLaws.{wrote_then, wrote-plain}
 use Rattle.printing.proofs.LeftLaws.{Leaves, behind, expression-leaves}
@@ -20,79 +20,79 @@ use Rattle.printing.proofs.PieceLaws.{Gives, gives_none, gives-say, gives-until,
 
 -- ---- new lines
 
-pub wrote-line : {N : Naming} {a : Page} {out at : List ℕ} (d : ℕ) → ink out at ≡ onto (ink a.bytes a.at) (lineBytes d) → Wrote N a (line d ∷ []) (page out at a.seen)
-wrote-line d e = wrote-plain {ss = line d ∷ []} (rw (append-nil (lineBytes d)) e) refl
+pub wrote-line : {N : Naming} {a : Page} {out at : List ℕ} (d : ℕ) → ink out at ≡ onto (ink a.bytes a.at) (line_bytes d) → Wrote N a (line d ∷ []) (page out at a.seen)
+wrote-line d e = wrote-plain {ss = line d ∷ []} (rw (append-nil (line_bytes d)) e) refl
 
-pub next-bytes : (N : Naming) (d : ℕ) → 59 ∷ lineBytes d ≡ bytes_of N (semicolonSign ∷ line d ∷ [])
-next-bytes N d = ap (λ s. 59 ∷ s) (sym (append-nil (lineBytes d)))
+pub next-bytes : (N : Naming) (d : ℕ) → 59 ∷ line_bytes d ≡ bytes_of N (semicolon_sign ∷ line d ∷ [])
+next-bytes N d = ap (λ s. 59 ∷ s) (sym (append-nil (line_bytes d)))
 
 -- ---- statements with blocks
 
 module _ {N : Naming} {a b c : Page} {left r : ℕ} (block : List ℤ → Printed) (leaves : Leaves block) (p : List ℤ) where
-  pub loop-gives : {e f : Page} {q : List ℤ} → Wrote N a (whileSign ∷ space ∷ []) b → Gives N b (wholeText p) c left → Wrote N c (space ∷ doSign ∷ space ∷ []) e
-      → q ≡ last_of left p → Gives N e (block q) f r → Gives N a (loopText block p) f r
-  unfolding loopText
+  pub loop-gives : {e f : Page} {q : List ℤ} → Wrote N a (while_sign ∷ space ∷ []) b → Gives N b (whole_text p) c left → Wrote N c (space ∷ do_sign ∷ space ∷ []) e
+      → q ≡ last_of left p → Gives N e (block q) f r → Gives N a (loop_text block p) f r
+  unfolding loop_text
   loop-gives w g v i h =
-      gives-say (whileSign ∷ space ∷ []) (then (wholeText p) (λ q. say (space ∷ doSign ∷ space ∷ []) (block q))) w
-      (gives_then wholeText block (space ∷ doSign ∷ space ∷ []) (expression-leaves expressionDepth 1) g v i h)
+      gives-say (while_sign ∷ space ∷ []) (then (whole_text p) (λ q. say (space ∷ do_sign ∷ space ∷ []) (block q))) w
+      (gives_then whole_text block (space ∷ do_sign ∷ space ∷ []) (expression-leaves expression_depth 1) g v i h)
 
-  pub branch-gives : {e f g h : Page} {q s : List ℤ} {left' : ℕ} → Wrote N a (ifSign ∷ space ∷ []) b → Gives N b (wholeText p) c left → Wrote N c (space ∷ thenSign ∷ space ∷ []) e
-      → q ≡ last_of left p → Gives N e (block q) f left' → Wrote N f (space ∷ elseSign ∷ space ∷ []) g → s ≡ last_of left' p → Gives N g (block s) h r
-      → Gives N a (branchText block p) h r
-  unfolding branchText
+  pub branch-gives : {e f g h : Page} {q s : List ℤ} {left' : ℕ} → Wrote N a (if_sign ∷ space ∷ []) b → Gives N b (whole_text p) c left → Wrote N c (space ∷ then_sign ∷ space ∷ []) e
+      → q ≡ last_of left p → Gives N e (block q) f left' → Wrote N f (space ∷ else_sign ∷ space ∷ []) g → s ≡ last_of left' p → Gives N g (block s) h r
+      → Gives N a (branch_text block p) h r
+  unfolding branch_text
   branch-gives {g = g} {h = h} {q = q} {s = s} w x v i y u j z =
-      let k : q ≡ (wholeText p).1 = behind (expression-leaves expressionDepth 1 p) x.1 i in
-      let l : s ≡ (block q).1 = behind {p = p} (part-trans (rw k (expression-leaves expressionDepth 1 p)) (leaves q)) y.1 j in
-      let t : Gives N g (block (block (wholeText p).1).1) h r = rw (← k, ← l) z in (
-        wrote_then {ss = ifSign ∷ space ∷ []} w (wrote_then {ss = (wholeText p).0} x.0 (wrote_then {ss = space ∷ thenSign ∷ space ∷ []} v
-            (wrote_then {ss = (block (wholeText p).1).0} (rw k at y.0) (wrote_then {ss = space ∷ elseSign ∷ space ∷ []} u t.0)))),
+      let k : q ≡ (whole_text p).1 = behind (expression-leaves expression_depth 1 p) x.1 i in
+      let l : s ≡ (block q).1 = behind {p = p} (part-trans (rw k (expression-leaves expression_depth 1 p)) (leaves q)) y.1 j in
+      let t : Gives N g (block (block (whole_text p).1).1) h r = rw (← k, ← l) z in (
+        wrote_then {ss = if_sign ∷ space ∷ []} w (wrote_then {ss = (whole_text p).0} x.0 (wrote_then {ss = space ∷ then_sign ∷ space ∷ []} v
+            (wrote_then {ss = (block (whole_text p).1).0} (rw k at y.0) (wrote_then {ss = space ∷ else_sign ∷ space ∷ []} u t.0)))),
         t.1,
       )
 
 -- ---- a statement by the number of its verb
 
-module _ {N : Naming} {a : Page} {n : ℕ} (d : ℕ) (p : List ℤ) (is : n ≡ numberAt p 0) where
-  pub verb-gives : {b : Page} {r : ℕ} (v : Verb) → n ≡ numberOfVerb v → numberOfVerb v < 9 → Gives N a (verbText (λ q. blockText d q) p v) b r → Gives N a (statementText d p) b r
-  unfolding statementText verbAt
+module _ {N : Naming} {a : Page} {n : ℕ} (d : ℕ) (p : List ℤ) (is : n ≡ number_at p 0) where
+  pub verb-gives : {b : Page} {r : ℕ} (v : Verb) → n ≡ number_of_verb v → number_of_verb v < 9 → Gives N a (verb_text (λ q. block_text d q) p v) b r → Gives N a (statement_text d p) b r
+  unfolding statement_text verb_at
   verb-gives v k h g =
-      let e : verbOf (numberAt p 0) ≡ v = ap verbOf (sym is ∙ k) ∙ verb-is v h in
+      let e : verb_of (number_at p 0) ≡ v = ap verb_of (sym is ∙ k) ∙ verb-is v h in
       rw e g
 
-  pub no-verb-gives : verbOf n ≡ noVerb → Gives N a (statementText d p) a (length p)
-  unfolding statementText verbAt verbText
+  pub no-verb-gives : verb_of n ≡ no_verb → Gives N a (statement_text d p) a (length p)
+  unfolding statement_text verb_at verb_text
   no-verb-gives e =
-      let z : verbOf (numberAt p 0) ≡ noVerb = ap verbOf (sym is) ∙ e in
+      let z : verb_of (number_at p 0) ≡ no_verb = ap verb_of (sym is) ∙ e in
       rw z (gives_none p)
 
 -- ---- blocks
 
-pub block-deep : {N : Naming} {a : Page} (d : ℕ) (p : List ℤ) → d ≡ 0 → Gives N a (blockText d p) a (length p)
-unfolding blockText
+pub block-deep : {N : Naming} {a : Page} (d : ℕ) (p : List ℤ) → d ≡ 0 → Gives N a (block_text d p) a (length p)
+unfolding block_text
 block-deep d p e = rw e (gives_none p)
 
 -- a block inside its braces
-block-open : (d : ℕ) (p : List ℤ) → (d ≡ 0 → ⊥) → braces (d - 1) (numberAt p 0) (statementsText (d - 1) p) ≡ blockText d p
-unfolding blockText statementsText statementText
+block-open : (d : ℕ) (p : List ℤ) → (d ≡ 0 → ⊥) → braces (d - 1) (number_at p 0) (statements_text (d - 1) p) ≡ block_text d p
+unfolding block_text statements_text statement_text
 block-open zero p h = absurd (h refl)
 block-open (suc d) p h = rw (sub-one (suc d))
 
-module _ {N : Naming} {a b : Page} {n r : ℕ} (d : ℕ) (p : List ℤ) (deep : d ≡ 0 → ⊥) (is : n ≡ numberAt p 0) where
-  pub block-empty : n ≡ 0 → Wrote N a (openBraceSign ∷ closeBraceSign ∷ []) b → r ≡ length p - 1 → Gives N a (blockText d p) b r
-  unfolding statementsText rowText
+module _ {N : Naming} {a b : Page} {n r : ℕ} (d : ℕ) (p : List ℤ) (deep : d ≡ 0 → ⊥) (is : n ≡ number_at p 0) where
+  pub block-empty : n ≡ 0 → Wrote N a (open_brace_sign ∷ close_brace_sign ∷ []) b → r ≡ length p - 1 → Gives N a (block_text d p) b r
+  unfolding statements_text row_text
   block-empty z w l =
-      let e : numberAt p 0 ≡ 0 = sym is ∙ z in
+      let e : number_at p 0 ≡ 0 = sym is ∙ z in
       rw (← block-open d p deep, e) (w, l ∙ sym (length-drop 1 p))
 
-  pub block-gives : {c e f g : Page} → (n ≡ 0 → ⊥) → Wrote N a (openBraceSign ∷ []) b → Wrote N b (line (d - 1) ∷ []) c → Gives N c (statementsText (d - 1) p) e r
-      → Wrote N e (line d ∷ []) f → Wrote N f (closeBraceSign ∷ []) g → Gives N a (blockText d p) g r
-  block-gives {g = end} nz w v g u t = rw (← block-open d p deep) (go (numberAt p 0) (λ z. nz (is ∙ z)))
+  pub block-gives : {c e f g : Page} → (n ≡ 0 → ⊥) → Wrote N a (open_brace_sign ∷ []) b → Wrote N b (line (d - 1) ∷ []) c → Gives N c (statements_text (d - 1) p) e r
+      → Wrote N e (line d ∷ []) f → Wrote N f (close_brace_sign ∷ []) g → Gives N a (block_text d p) g r
+  block-gives {g = end} nz w v g u t = rw (← block-open d p deep) (go (number_at p 0) (λ z. nz (is ∙ z)))
     where
       lined : line (suc (d - 1)) ≡ line d
       lined = let e : suc (d - 1) ≡ d = omega (arith, deep) in rw e
 
-      go : (m : ℕ) → (m ≡ 0 → ⊥) → Gives N a (braces (d - 1) m (statementsText (d - 1) p)) end r
+      go : (m : ℕ) → (m ≡ 0 → ⊥) → Gives N a (braces (d - 1) m (statements_text (d - 1) p)) end r
       go zero h = absurd (h refl)
       go (suc m) h =
           rw lined
-          (gives-say (openBraceSign ∷ line (d - 1) ∷ []) (until (statementsText (d - 1) p) (line d ∷ closeBraceSign ∷ [])) (wrote_then {ss = openBraceSign ∷ []} {tt = line (d - 1) ∷ []} w v)
-          (gives-until (statementsText (d - 1) p) (line d ∷ closeBraceSign ∷ []) g (wrote_then {ss = line d ∷ []} {tt = closeBraceSign ∷ []} u t)))
+          (gives-say (open_brace_sign ∷ line (d - 1) ∷ []) (until (statements_text (d - 1) p) (line d ∷ close_brace_sign ∷ [])) (wrote_then {ss = open_brace_sign ∷ []} {tt = line (d - 1) ∷ []} w v)
+          (gives-until (statements_text (d - 1) p) (line d ∷ close_brace_sign ∷ []) g (wrote_then {ss = line d ∷ []} {tt = close_brace_sign ∷ []} u t)))

@@ -14,14 +14,14 @@ use Rattle.words.specs.Words.{word_of}
 use Rattle.words.proofs.Laws.{word-is, word-greatest}
 use Rattle.tables.proofs.SearchLaws.{cases, and_left, and_right}
 use Rattle.program.specs.declared.Verdict.TheVariants.{Reads, Unfit}
-use Rattle.program.specs.Told.{verdictOf}
-use Rattle.program.specs.Reading.{readProgram}
-use Rattle.tokens.specs.Tokens.{mostBytes}
-use Rattle.printing.specs.Printing.{statementsText, programText}
-use Rattle.printing.specs.Naming.{Naming, naming, bytes_of, numbersOf}
-use Rattle.printing.specs.Faults.{faultFrom, usedFrom}
-use Rattle.printing.specs.Page.{Ink, ink, far, byteOn, onto, page, Wrote}
-use Rattle.printing.specs.Whole.{answered, text_of, standings, firstFault, fitsIn, refused, accepted, printed, write}
+use Rattle.program.specs.Told.{verdict_of}
+use Rattle.program.specs.Reading.{read_program}
+use Rattle.tokens.specs.Tokens.{most_bytes}
+use Rattle.printing.specs.Printing.{statements_text, program_text}
+use Rattle.printing.specs.Naming.{Naming, naming, bytes_of, numbers_of}
+use Rattle.printing.specs.Faults.{fault_from, used_from}
+use Rattle.printing.specs.Page.{Ink, ink, far, byte_on, onto, page, Wrote}
+use Rattle.printing.specs.Whole.{answered, text_of, standings, first_fault, fits_in, refused, accepted, printed, write}
 use Rattle.printing.proofs.StandingLaws.{all-length}
 
 -- the length that is told
@@ -30,8 +30,8 @@ counted n = cond (ltb far n) far n
 
 -- ---- the count
 
-byte-on : (s : List ℕ) (n b : ℕ) → byteOn (ink s (n ∷ [])) b ≡ ink (set s n b) (cond (ltb n far) (suc n) n ∷ [])
-unfolding byteOn
+byte-on : (s : List ℕ) (n b : ℕ) → byte_on (ink s (n ∷ [])) b ≡ ink (set s n b) (cond (ltb n far) (suc n) n ∷ [])
+unfolding byte_on
 byte-on s n b = cases (ltb n far) (λ e. rw e) (λ e. rw e)
 
 next-most : (n : ℕ) → n ≤ far → cond (ltb n far) (suc n) n ≤ far
@@ -57,7 +57,7 @@ measured (b ∷ t) s n h =
 
 -- ---- the bytes
 
-byte-behind : (a s : List ℕ) (y b : ℕ) → length a < far → byteOn (ink (a ++ y ∷ s) (length a ∷ [])) b ≡ ink ((a ++ b ∷ []) ++ s) (length (a ++ b ∷ []) ∷ [])
+byte-behind : (a s : List ℕ) (y b : ℕ) → length a < far → byte_on (ink (a ++ y ∷ s) (length a ∷ [])) b ≡ ink ((a ++ b ∷ []) ++ s) (length (a ++ b ∷ []) ∷ [])
 byte-behind a s y b h =
     let one : length (a ++ b ∷ []) ≡ suc (length a) = length-append a (b ∷ []) ∙ (let z : length a + 1 ≡ suc (length a) = omega arith in z) in
     byte-on (a ++ y ∷ s) (length a) b ∙ rw (lt-ltb (length a) far h, set-append_seam a y s b, one, append_assoc a (b ∷ []) s)
@@ -90,29 +90,29 @@ and_no : (b : Bool) → (b && false) ≡ false
 and_no true = refl
 and_no false = refl
 
-pub counted-fits : (room n : ℕ) → fitsIn room (counted n) ≡ fitsIn room n
+pub counted-fits : (room n : ℕ) → fits_in room (counted n) ≡ fits_in room n
 counted-fits room n =
     cases (ltb far n)
-    (λ e. let h : far < n = ltb-true far n e in rw (e, lt-leb far mostBytes (omega arith), lt-leb n mostBytes (omega arith)) (and_no (leb far room) ∙ sym (and_no (leb n room))))
+    (λ e. let h : far < n = ltb-true far n e in rw (e, lt-leb far most_bytes (omega arith), lt-leb n most_bytes (omega arith)) (and_no (leb far room) ∙ sym (and_no (leb n room))))
     (λ e. rw e)
 
-pub fits-small : (room n : ℕ) → fitsIn room n ≡ true → (n ≤ room) × (n ≤ mostBytes)
-fits-small room n e = (leb-true n room (and_left (leb n room) (leb n mostBytes) e), leb-true n mostBytes (and_right (leb n room) (leb n mostBytes) e))
+pub fits-small : (room n : ℕ) → fits_in room n ≡ true → (n ≤ room) × (n ≤ most_bytes)
+fits-small room n e = (leb-true n room (and_left (leb n room) (leb n most_bytes) e), leb-true n most_bytes (and_right (leb n room) (leb n most_bytes) e))
 
 -- ---- what the call answers
 
-module _ (N : Naming) (p : List ℤ) {nothing bytes at seen : List ℕ} (w : Wrote N (page nothing (0 ∷ []) (replicate 96 0)) (statementsText 7 p).0 (page bytes at seen)) where
+module _ (N : Naming) (p : List ℤ) {nothing bytes at seen : List ℕ} (w : Wrote N (page nothing (0 ∷ []) (replicate 96 0)) (statements_text 7 p).0 (page bytes at seen)) where
   pub seen-is : seen ≡ standings p
-  unfolding standings programText
+  unfolding standings program_text
   seen-is = w.seen
 
   pub seen-length : 96 ≡ length seen
-  seen-length = sym (ap length w.seen ∙ all-length (replicate 96 0) (numbersOf (statementsText 7 p).0))
+  seen-length = sym (ap length w.seen ∙ all-length (replicate 96 0) (numbers_of (statements_text 7 p).0))
 
   pub at-is : at ≡ counted (length (text_of N p)) ∷ []
-  unfolding text_of programText
+  unfolding text_of program_text
   at-is =
-      let t = bytes_of N (statementsText 7 p).0 in
+      let t = bytes_of N (statements_text 7 p).0 in
       let z : 0 + length t ≡ length t = omega arith in
       ap (λ (i : Ink). i.at) w.ink ∙ measured t nothing 0 (omega arith) ∙ rw z
 
@@ -123,52 +123,52 @@ module _ (N : Naming) (p : List ℤ) {nothing bytes at seen : List ℕ} (w : Wro
   pub anew : set at 0 0 ≡ 0 ∷ []
   anew = ap (λ (l : List ℕ). set l 0 0) at-is
 
-  module _ (text : List ℕ) {f : ℕ} (e : f ≡ faultFrom N seen 0 96) where
-    fault-is : firstFault N p ≡ f
-    unfolding firstFault
-    fault-is = sym (e ∙ ap (λ (s : List ℕ). faultFrom N s 0 96) seen-is)
+  module _ (text : List ℕ) {f : ℕ} (e : f ≡ fault_from N seen 0 96) where
+    fault-is : first_fault N p ≡ f
+    unfolding first_fault
+    fault-is = sym (e ∙ ap (λ (s : List ℕ). fault_from N s 0 96) seen-is)
 
     pub fault-answers : {answer : List ℤ} → f < 96 → answer ≡ word_of 24 ∷ word_of f ∷ word_of 0 ∷ word_of 0 ∷ [] → answered text answer 0 ≡ printed N p text
     unfolding printed
     fault-answers h a = rw (fault-is, lt-ltb f 96 h, a)
 
     -- where no number is at fault the length decides
-    chosen-long : 96 ≤ f → fitsIn (length text) (length (text_of N p)) ≡ false → printed N p text ≡ refused text 25 (length (text_of N p))
+    chosen-long : 96 ≤ f → fits_in (length text) (length (text_of N p)) ≡ false → printed N p text ≡ refused text 25 (length (text_of N p))
     unfolding printed
     chosen-long g q = rw (fault-is, le-ltb f 96 g, q)
 
-    chosen-whole : 96 ≤ f → fitsIn (length text) (length (text_of N p)) ≡ true → printed N p text ≡ accepted (text_of N p) p text
+    chosen-whole : 96 ≤ f → fits_in (length text) (length (text_of N p)) ≡ true → printed N p text ≡ accepted (text_of N p) p text
     unfolding printed
     chosen-whole g q = rw (fault-is, le-ltb f 96 g, q)
 
-    text-stands : length (text_of N p) ≤ length text → length (text_of N p) ≤ mostBytes → (onto (ink text (0 ∷ [])) (text_of N p)).bytes ≡ text_of N p ++ drop (length (text_of N p)) text
+    text-stands : length (text_of N p) ≤ length text → length (text_of N p) ≤ most_bytes → (onto (ink text (0 ∷ [])) (text_of N p)).bytes ≡ text_of N p ++ drop (length (text_of N p)) text
     text-stands h l = stands-whole (text_of N p) text h (omega arith)
 
-    after_is : {after to used : List ℕ} → Wrote N (page text (0 ∷ []) seen) (statementsText 7 p).0 (page after to used) → after ≡ (onto (ink text (0 ∷ [])) (text_of N p)).bytes
-    unfolding text_of programText
+    after_is : {after to used : List ℕ} → Wrote N (page text (0 ∷ []) seen) (statements_text 7 p).0 (page after to used) → after ≡ (onto (ink text (0 ∷ [])) (text_of N p)).bytes
+    unfolding text_of program_text
     after_is v = ap (λ (i : Ink). i.bytes) v.ink
 
     module _ (g : 96 ≤ f) {n : ℕ} (k : n ≡ counted (length (text_of N p))) where
-      pub long-answers : {answer : List ℤ} → fitsIn (length text) n ≡ false → answer ≡ word_of 25 ∷ word_of n ∷ word_of 0 ∷ word_of 0 ∷ [] → answered text answer 0 ≡ printed N p text
+      pub long-answers : {answer : List ℤ} → fits_in (length text) n ≡ false → answer ≡ word_of 25 ∷ word_of n ∷ word_of 0 ∷ word_of 0 ∷ [] → answered text answer 0 ≡ printed N p text
       long-answers h a =
-          let q : fitsIn (length text) (length (text_of N p)) ≡ false = sym (counted-fits (length text) (length (text_of N p))) ∙ rw k at h in
+          let q : fits_in (length text) (length (text_of N p)) ≡ false = sym (counted-fits (length text) (length (text_of N p))) ∙ rw k at h in
           rw (chosen-long g q, a, k, counted-word (length (text_of N p)))
 
-      pub whole-answers : {answer : List ℤ} {start after to used : List ℕ} {variables labels : ℕ} → fitsIn (length text) n ≡ true → start ≡ 0 ∷ []
-          → Wrote N (page text start seen) (statementsText 7 p).0 (page after to used) → variables ≡ usedFrom seen 0 64 → labels ≡ usedFrom seen 64 32
+      pub whole-answers : {answer : List ℤ} {start after to used : List ℕ} {variables labels : ℕ} → fits_in (length text) n ≡ true → start ≡ 0 ∷ []
+          → Wrote N (page text start seen) (statements_text 7 p).0 (page after to used) → variables ≡ used_from seen 0 64 → labels ≡ used_from seen 64 32
           → answer ≡ word_of 0 ∷ word_of (length p) ∷ word_of variables ∷ word_of labels ∷ [] → answered after answer n ≡ printed N p text
       whole-answers h z u x y a =
           let v = rw z at u in
-          let q : fitsIn (length text) (length (text_of N p)) ≡ true = sym (counted-fits (length text) (length (text_of N p))) ∙ rw k at h in
+          let q : fits_in (length text) (length (text_of N p)) ≡ true = sym (counted-fits (length text) (length (text_of N p))) ∙ rw k at h in
           let b = fits-small (length text) (length (text_of N p)) q in
           let m : n ≡ length (text_of N p) = k ∙ counted-small (length (text_of N p)) (omega (arith, b.1)) in
           rw (chosen-whole g q, after_is v, text-stands b.0 b.1, a, x, y, m, seen-is)
 
-unfit-is : (r : Answer ℕ (Unit {0})) {place : ℕ} → Unfit place ≡ verdictOf r → r ≡ stop place
+unfit-is : (r : Answer ℕ (Unit {0})) {place : ℕ} → Unfit place ≡ verdict_of r → r ≡ stop place
 unfit-is (got u) e = let z : ◌≡◌ {A = ℕ} 0 1 = cc in let y : ⊥ = omega arith in absurd y
 unfit-is (stop q) e = cc
 
-reads-is : (r : Answer ℕ (Unit {0})) → Reads ≡ verdictOf r → r ≡ got tt
+reads-is : (r : Answer ℕ (Unit {0})) → Reads ≡ verdict_of r → r ≡ got tt
 reads-is (got u) e = refl
 reads-is (stop q) e = let z : ◌≡◌ {A = ℕ} 0 1 = cc in let y : ⊥ = omega arith in absurd y
 
@@ -178,12 +178,12 @@ module _ (p : List ℤ) (source : List ℕ) (names : List ℤ) (text : List ℕ)
   write-sized h a = rw (ne_eqb (length names) 192 h, a)
 
   module _ (l : length names ≡ 192) where
-    pub write-unfit : {answer : List ℤ} {place : ℕ} → Unfit place ≡ verdictOf (readProgram p) → answer ≡ word_of 2 ∷ word_of place ∷ word_of 0 ∷ word_of 0 ∷ []
+    pub write-unfit : {answer : List ℤ} {place : ℕ} → Unfit place ≡ verdict_of (read_program p) → answer ≡ word_of 2 ∷ word_of place ∷ word_of 0 ∷ word_of 0 ∷ []
         → answered text answer 0 ≡ write p source names text
     unfolding write
-    write-unfit {place = place} v a = rw (eq-eqb (length names) 192 l, a, unfit-is (readProgram p) v)
+    write-unfit {place = place} v a = rw (eq-eqb (length names) 192 l, a, unfit-is (read_program p) v)
 
-    pub write-printed : {answer : List ℤ} {after : List ℕ} {n : ℕ} → Reads ≡ verdictOf (readProgram p) → answered after answer n ≡ printed (naming source names) p text
+    pub write-printed : {answer : List ℤ} {after : List ℕ} {n : ℕ} → Reads ≡ verdict_of (read_program p) → answered after answer n ≡ printed (naming source names) p text
         → answered after answer n ≡ write p source names text
     unfolding write
-    write-printed v e = rw (eq-eqb (length names) 192 l, reads-is (readProgram p) v) e
+    write-printed v e = rw (eq-eqb (length names) 192 l, reads-is (read_program p) v) e

@@ -10,11 +10,11 @@ use lib.Dec.{leb}
 use lib.IntN.{ℤ, pos}
 use Rattle.tables.proofs.SearchLaws.{cases}
 use Rattle.tokens.specs.declared.Token.{Token}
-use Rattle.tokens.specs.Codes.{becomesCode, openBracketCode, closeBracketCode}
+use Rattle.tokens.specs.Codes.{becomes_code, open_bracket_code, close_bracket_code}
 use Rattle.text.specs.Grammar as Grammar
 use Rattle.text.specs.Grammar.{Meaning, Level}
 use Rattle.text.proofs.LevelLaws.{level-bounds}
-use Rattle.printing.specs.Signs.{Sign, space, operatorText, priorityText, thenSign}
+use Rattle.printing.specs.Signs.{Sign, space, operator_text, priority_text, then_sign}
 use Rattle.printing.specs.Rules as Rules
 use Rattle.printing.specs.Spaced.{Tells}
 use Rattle.printing.proofs.OperatorLaws.{operator-is, operands-are, priority-is}
@@ -93,13 +93,13 @@ at_path : {M : Meaning} {in_c : Bool} {ts : List Token} {ws : List ℤ} {os : Li
 at_path (Grammar.Path.path x a ls) = (_, Grammar.Expression.at x (Grammar.Path.path x a ls))
 
 bracketed : {M : Meaning} {in_c : Bool} {ts : List Token} {ws : List ℤ} (o c : Token)
-    → o.code ≡ openBracketCode → Yielded (Grammar.Expression M in_c 1) ts ws → c.code ≡ closeBracketCode → Yielded (Grammar.Expression M in_c 6) (o ∷ ts ++ c ∷ []) ws
+    → o.code ≡ open_bracket_code → Yielded (Grammar.Expression M in_c 1) ts ws → c.code ≡ close_bracket_code → Yielded (Grammar.Expression M in_c 6) (o ∷ ts ++ c ∷ []) ws
 bracketed o c a y b = (y.0, Grammar.Expression.brackets o c a y.1 b)
 
 -- an operator between its operands
 operands-yield : {M : Meaning} {in_c : Bool} {o l : ℕ} {a b : List ℤ} {sa sb : List Sign} {ts : List Token}
     → 1 ≤ o → o ≤ 11 → Level o l → (1 ≤ l → l ≤ 6 → (ta : List Token) → Tells M sa ta → Yielded (Grammar.Expression M in_c l) ta a)
-    → (1 ≤ suc l → suc l ≤ 6 → (tb : List Token) → Tells M sb tb → Yielded (Grammar.Expression M in_c (suc l)) tb b) → Tells M (sa ++ operatorText o ++ sb) ts
+    → (1 ≤ suc l → suc l ≤ 6 → (tb : List Token) → Tells M sb tb → Yielded (Grammar.Expression M in_c (suc l)) tb b) → Tells M (sa ++ operator_text o ++ sb) ts
     → Yielded (Grammar.Expression M in_c l) ts (pos 25 ∷ pos o ∷ a ++ b)
 operands-yield {M} {in_c} {o} {l} {sa = sa} {sb = sb} x y v p q h =
     let k = operator-is o x y in
@@ -120,7 +120,7 @@ expression-yields {M} {in_c} {low} (Rules.Expression.identity {sa = sa} n p q) a
 expression-yields (Rules.Expression.operation {l = l} x y v m p q) a b h =
     lowered l a m (operands-yield x y v (λ c d ta i. expression-yields p c d i) (λ c d tb i. expression-yields q c d i) h)
 expression-yields {M} {in_c} {low} (Rules.Expression.brackets {o = o} {l = l} {sa = sa} {sb = sb} x y v m p q) a b (Tells.fixed {t = i} f h) =
-    closing (λ ts. Grammar.Expression M in_c low (i ∷ ts)) _ (sa ++ operatorText o ++ sb) _ h
+    closing (λ ts. Grammar.Expression M in_c low (i ∷ ts)) _ (sa ++ operator_text o ++ sb) _ h
     (λ ta t r e.
     lowered 6 a b
     (bracketed i t f
@@ -131,7 +131,7 @@ expression-yields {M} {in_c} {low} (Rules.Expression.brackets {o = o} {l = l} {s
 
 -- a part with its priority
 part-yields : {M : Meaning} {k : ℕ} {e : List ℤ} {se : List Sign} {ts : List Token}
-    → 1 ≤ k → k ≤ 3 → Rules.Expression true 1 e se → Tells M (priorityText k ++ se) ts → Yielded (Grammar.Part M) ts (pos k ∷ e)
+    → 1 ≤ k → k ≤ 3 → Rules.Expression true 1 e se → Tells M (priority_text k ++ se) ts → Yielded (Grammar.Part M) ts (pos k ∷ e)
 part-yields {M} {k} {e} {se} a b p h =
     let i = priority-is k a b in
     first (λ ts. Yielded (Grammar.Part M) ts (pos k ∷ e)) (rw i.text at h)
@@ -140,7 +140,7 @@ part-yields {M} {k} {e} {se} a b p h =
 pub parts-yield : {M : Meaning} {n : ℕ} {ws : List ℤ} {ss : List Sign} {ts : List Token} → Rules.Parts n ws ss → Tells M ss ts → Yielded (Grammar.Parts M n) ts ws
 parts-yield (Rules.Parts.one a b p) h = (_, Grammar.Parts.one (part-yields a b p h).1)
 parts-yield {M} (Rules.Parts.more {m = m} {k = k} {se = se} a b p ps) h =
-    between (Grammar.Parts M (suc m)) _ (priorityText k ++ se) _ h
+    between (Grammar.Parts M (suc m)) _ (priority_text k ++ se) _ h
     (λ ta t tb x e y. (_, Grammar.Parts.more t (part-yields a b p x).1 e (parts-yield ps y).1))
 
 constrained : {M : Meaning} {n : ℕ} {ws : List ℤ} {os : List ℕ} {ts : List Token} → Grammar.Parts M n ts ws os → Yielded (Grammar.Constraint M) ts (pos n ∷ ws)
@@ -164,7 +164,7 @@ piece_of (Rules.Piece.row d n) = Grammar.Piece.row n
 piece_of (Rules.Piece.block d) = Grammar.Piece.block
 
 assigned : {M : Meaning} {a ts : List Token} {va ws : List ℤ} {oa os : List ℕ} (b : Token)
-    → Grammar.Path M a va oa → b.code ≡ becomesCode → Grammar.Expression M false 1 ts ws os
+    → Grammar.Path M a va oa → b.code ≡ becomes_code → Grammar.Expression M false 1 ts ws os
     → Yielded (Grammar.Yields M Grammar.Piece.statement) (a ++ b ∷ ts) (pos 1 ∷ va ++ ws)
 assigned b (Grammar.Path.path x a ls) c e = (_, Grammar.Yields.assign x b (Grammar.Path.path x a ls) c e)
 
@@ -174,8 +174,8 @@ prints-yield Rules.Prints.skip (Tells.fixed {t = t} c Tells.none) = (_, Grammar.
 prints-yield {M} (Rules.Prints.assign {sa = sa} p e) h =
     between (Grammar.Yields M Grammar.Piece.statement) _ sa _ h
     (λ ta t tb x c y. assigned t (path-yields p x).1 c (expression-yields e (omega arith) (omega arith) y).1)
-prints-yield Rules.Prints.new-empty (Tells.variable {t = x} a i (Tells.blank (Tells.fixed {t = b} c (Tells.blank (Tells.fixed {t = w} d (Tells.blank (Tells.fixed {t = o} f (Tells.fixed {t = s} g Tells.none)))))))) =
-    rw (← i) (_, Grammar.Yields.new-empty x b w o s a c d f g)
+prints-yield Rules.Prints.new_empty (Tells.variable {t = x} a i (Tells.blank (Tells.fixed {t = b} c (Tells.blank (Tells.fixed {t = w} d (Tells.blank (Tells.fixed {t = o} f (Tells.fixed {t = s} g Tells.none)))))))) =
+    rw (← i) (_, Grammar.Yields.new_empty x b w o s a c d f g)
 prints-yield {M} (Rules.Prints.new {ss = ss} fs) (Tells.variable {t = x} a i (Tells.blank (Tells.fixed {t = b} c (Tells.blank (Tells.fixed {t = w} d (Tells.blank (Tells.fixed {t = o} f h))))))) =
     closing (λ ts. Grammar.Yields M Grammar.Piece.statement (x ∷ b ∷ w ∷ o ∷ ts)) _ ss _ h
     (λ ta t r e. rw (← i) (_, Grammar.Yields.new x b w o t a c d f (fields-yield fs r).1 e))
@@ -188,7 +188,7 @@ prints-yield {M} (Rules.Prints.once-same {sa = sa} p q) (Tells.fixed {t = t} c (
     between (λ ts. Grammar.Yields M Grammar.Piece.statement (t ∷ ts)) _ sa _ h
     (λ ta s tb x e y. (_, Grammar.Yields.once-same t s c (path-yields p x).1 e (path-yields q y).1))
 prints-yield {M} (Rules.Prints.branch {se = se} {sa = sa} e p q) (Tells.fixed {t = i} c (Tells.blank h)) =
-    between (λ ts. Grammar.Yields M Grammar.Piece.statement (i ∷ ts)) _ (se ++ space ∷ thenSign ∷ space ∷ sa) _ h
+    between (λ ts. Grammar.Yields M Grammar.Piece.statement (i ∷ ts)) _ (se ++ space ∷ then_sign ∷ space ∷ sa) _ h
     (λ tl s tc x f z.
     between (λ ts. Grammar.Yields M Grammar.Piece.statement (i ∷ ts ++ s ∷ tc)) _ se _ x
     (λ ta t tb w d y. (_, Grammar.Yields.branch i t s c (expression-yields e (omega arith) (omega arith) w).1 d (prints-yield p y).1 f (prints-yield q z).1)))

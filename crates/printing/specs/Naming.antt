@@ -1,6 +1,6 @@
 -- The names of variables and labels, the bytes of signs, and in which order numbers are used (02, W5). Assumes nothing: these are definitions.
 use Rattle.std.specs.Prelude.{ℕ, ◌+◌, ◌-◌, ◌*◌, Bool, not, cond, ◌||◌, List, [], ◌∷◌, ◌++◌, eqb, ltb, ℤ, get_or, set, take, drop}
-use Rattle.words.specs.Words.{wordAt, number_of}
+use Rattle.words.specs.Words.{word_at, number_of}
 use Rattle.lister.specs.Numerals.{digits, numeral}
 use Rattle.printing.specs.Signs.{Sign, blank, fixed, integer, variable, label}
 
@@ -16,60 +16,60 @@ naming source names = record { source = source; names = names }
 abbrev pub numbers : ℕ
 numbers = 96
 
-abbrev pub firstLabel : ℕ
-firstLabel = 64
+abbrev pub first_label : ℕ
+first_label = 64
 
 unfoldable pub place_of : List ℤ → ℕ → ℕ
-place_of names i = cond (ltb i numbers) (number_of (wordAt names (2 * i))) 0
+place_of names i = cond (ltb i numbers) (number_of (word_at names (2 * i))) 0
 
 unfoldable pub length_of : List ℤ → ℕ → ℕ
-length_of names i = cond (ltb i numbers) (number_of (wordAt names (2 * i + 1))) 0
+length_of names i = cond (ltb i numbers) (number_of (word_at names (2 * i + 1))) 0
 
 -- "length 0 means none is given"
-abbrev pub isGiven : Naming → ℕ → Bool
-isGiven N i = not (eqb (length_of N.names i) 0)
+abbrev pub is_given : Naming → ℕ → Bool
+is_given N i = not (eqb (length_of N.names i) 0)
 
-unfoldable pub givenName : Naming → ℕ → List ℕ
-givenName N i = take (length_of N.names i) (drop (place_of N.names i) N.source)
+unfoldable pub given_name : Naming → ℕ → List ℕ
+given_name N i = take (length_of N.names i) (drop (place_of N.names i) N.source)
 
 -- "then variable 3 is `v3` and label 3 `f3`"
-unfoldable pub defaultName : ℕ → List ℕ
-defaultName i = cond (ltb i firstLabel) (118 ∷ digits i) (102 ∷ digits (i - firstLabel))
+unfoldable pub default_name : ℕ → List ℕ
+default_name i = cond (ltb i first_label) (118 ∷ digits i) (102 ∷ digits (i - first_label))
 
 unfoldable pub name_of : Naming → ℕ → List ℕ
-name_of N i = cond (isGiven N i) (givenName N i) (defaultName i)
+name_of N i = cond (is_given N i) (given_name N i) (default_name i)
 
 -- ---- the bytes of signs, and the numbers that are used
 
-abbrev pub signBytes : Naming → Sign → List ℕ
-signBytes N (blank s) = s
-signBytes N (fixed c s) = s
-signBytes N (integer z) = numeral z
-signBytes N (variable x) = name_of N x
-signBytes N (label l) = name_of N (firstLabel + l)
+abbrev pub sign_bytes : Naming → Sign → List ℕ
+sign_bytes N (blank s) = s
+sign_bytes N (fixed c s) = s
+sign_bytes N (integer z) = numeral z
+sign_bytes N (variable x) = name_of N x
+sign_bytes N (label l) = name_of N (first_label + l)
 
 abbrev pub bytes_of : Naming → List Sign → List ℕ
 bytes_of N [] = []
-bytes_of N (s ∷ ss) = signBytes N s ++ bytes_of N ss
+bytes_of N (s ∷ ss) = sign_bytes N s ++ bytes_of N ss
 
-abbrev pub numbersOf : List Sign → List ℕ
-numbersOf [] = []
-numbersOf (blank s ∷ ss) = numbersOf ss
-numbersOf (fixed c s ∷ ss) = numbersOf ss
-numbersOf (integer z ∷ ss) = numbersOf ss
-numbersOf (variable x ∷ ss) = x ∷ numbersOf ss
-numbersOf (label l ∷ ss) = (firstLabel + l) ∷ numbersOf ss
+abbrev pub numbers_of : List Sign → List ℕ
+numbers_of [] = []
+numbers_of (blank s ∷ ss) = numbers_of ss
+numbers_of (fixed c s ∷ ss) = numbers_of ss
+numbers_of (integer z ∷ ss) = numbers_of ss
+numbers_of (variable x ∷ ss) = x ∷ numbers_of ss
+numbers_of (label l ∷ ss) = (first_label + l) ∷ numbers_of ss
 
 -- ---- first appearances in reading order
 
 -- it is the first of its sort, or the number before it is used
-unfoldable pub isLed : List ℕ → ℕ → Bool
-isLed seen i = eqb i 0 || eqb i firstLabel || ltb 0 (get_or seen (i - 1) 0)
+unfoldable pub is_led : List ℕ → ℕ → Bool
+is_led seen i = eqb i 0 || eqb i first_label || ltb 0 (get_or seen (i - 1) 0)
 
 -- a number's standing is 0 where it is not used, 1 where it is and was led when it appeared first, and else 2
 unfoldable pub noted : List ℕ → ℕ → List ℕ
-noted seen i = cond (ltb 0 (get_or seen i 0)) seen (set seen i (cond (isLed seen i) 1 2))
+noted seen i = cond (ltb 0 (get_or seen i 0)) seen (set seen i (cond (is_led seen i) 1 2))
 
-unfoldable pub notedAll : List ℕ → List ℕ → List ℕ
-notedAll seen [] = seen
-notedAll seen (i ∷ is) = notedAll (noted seen i) is
+unfoldable pub noted_all : List ℕ → List ℕ → List ℕ
+noted_all seen [] = seen
+noted_all seen (i ∷ is) = noted_all (noted seen i) is

@@ -1,7 +1,7 @@
 -- What the code writes to, and what a piece leaves there. Assumes nothing: these are definitions.
 use Rattle.std.specs.Prelude.{ℕ, suc, ◌≡◌, cond, List, [], ◌∷◌, ltb, get_or, set}
 use Rattle.printing.specs.Signs.{Sign}
-use Rattle.printing.specs.Naming.{Naming, bytes_of, numbersOf, notedAll}
+use Rattle.printing.specs.Naming.{Naming, bytes_of, numbers_of, noted_all}
 
 -- bytes, and how many are written, which stands in a row of one
 pub record Ink : Type 0 where
@@ -16,12 +16,12 @@ abbrev pub far : ℕ
 far = 2147483647
 
 -- a byte more; past the end it is counted alone
-unfoldable pub byteOn : Ink → ℕ → Ink
-byteOn s b = ink (set s.bytes (get_or s.at 0 0) b) (cond (ltb (get_or s.at 0 0) far) (set s.at 0 (suc (get_or s.at 0 0))) s.at)
+unfoldable pub byte_on : Ink → ℕ → Ink
+byte_on s b = ink (set s.bytes (get_or s.at 0 0) b) (cond (ltb (get_or s.at 0 0) far) (set s.at 0 (suc (get_or s.at 0 0))) s.at)
 
 unfoldable pub onto : Ink → List ℕ → Ink
 onto s [] = s
-onto s (b ∷ t) = onto (byteOn s b) t
+onto s (b ∷ t) = onto (byte_on s b) t
 
 -- the same with the standings of the numbers that are used
 pub record Page : Type 0 where
@@ -35,4 +35,4 @@ page bytes at seen = record { bytes = bytes; at = at; seen = seen }
 -- signs are written: their bytes, and the numbers that they use
 pub record Wrote (N : Naming) (a : Page) (ss : List Sign) (b : Page) : Type 0 where
   pub ink : ink b.bytes b.at ≡ onto (ink a.bytes a.at) (bytes_of N ss)
-  pub seen : b.seen ≡ notedAll a.seen (numbersOf ss)
+  pub seen : b.seen ≡ noted_all a.seen (numbers_of ss)

@@ -1,14 +1,14 @@
 -- The text of a program, as signs (02, W5): each piece is written from the part of the program that begins at its first word, and what is left behind it is handed on.
 -- Assumes nothing: these are definitions.
 use Rattle.std.specs.Prelude.{ℕ, zero, suc, ◌-◌, cond, List, [], ◌∷◌, ◌++◌, leb, ℤ, drop}
-use Rattle.words.specs.Words.{wordAt, numberAt}
-use Rattle.program.specs.Forms.{blockDepth, expressionDepth}
-use Rattle.program.specs.Forms.{Form, aNil, aFalse, aTrue, anInteger, aPath, anOperation, anIdentity, noForm, form_of}
-use Rattle.program.specs.Forms.{Verb, skip, assign, new, always, once, alwaysSame, onceSame, branch, loop, noVerb, verbOf}
-use Rattle.text.specs.Reading.{levelOf}
-use Rattle.printing.specs.Signs.{Sign, integer, variable, label, space, line, operatorText, priorityText}
-use Rattle.printing.specs.Signs.{newSign, skipSign, alwaysSign, onceSign, ifSign, thenSign, elseSign, whileSign, doSign, trueSign, falseSign, nilSign}
-use Rattle.printing.specs.Signs.{becomesSign, colonSign, commaSign, dotSign, semicolonSign, openBraceSign, closeBraceSign, openBracketSign, closeBracketSign, identicalSign, besideSign}
+use Rattle.words.specs.Words.{word_at, number_at}
+use Rattle.program.specs.Forms.{block_depth, expression_depth}
+use Rattle.program.specs.Forms.{Form, a_nil, a_false, a_true, an_integer, a_path, an_operation, an_identity, no_form, form_of}
+use Rattle.program.specs.Forms.{Verb, skip, assign, new, always, once, always_same, once_same, branch, loop, no_verb, verb_of}
+use Rattle.text.specs.Reading.{level_of}
+use Rattle.printing.specs.Signs.{Sign, integer, variable, label, space, line, operator_text, priority_text}
+use Rattle.printing.specs.Signs.{new_sign, skip_sign, always_sign, once_sign, if_sign, then_sign, else_sign, while_sign, do_sign, true_sign, false_sign, nil_sign}
+use Rattle.printing.specs.Signs.{becomes_sign, colon_sign, comma_sign, dot_sign, semicolon_sign, open_brace_sign, close_brace_sign, open_bracket_sign, close_bracket_sign, identical_sign, beside_sign}
 
 -- what is written of a piece, and the words behind it
 abbrev pub Printed : Type 0
@@ -25,127 +25,127 @@ abbrev pub until : Printed → List Sign → Printed
 until a ss = (a.0 ++ ss, a.1)
 
 -- n pieces, with `sep` between them; `lead` stands before the first
-unfoldable pub rowText : List Sign → List Sign → (List ℤ → Printed) → ℕ → List ℤ → Printed
-rowText lead sep one zero p = ([], p)
-rowText lead sep one (suc n) p = say lead (then (one p) (λ q. rowText sep sep one n q))
+unfoldable pub row_text : List Sign → List Sign → (List ℤ → Printed) → ℕ → List ℤ → Printed
+row_text lead sep one zero p = ([], p)
+row_text lead sep one (suc n) p = say lead (then (one p) (λ q. row_text sep sep one n q))
 
 -- ---- paths
 
-unfoldable pub labelsText : ℕ → List ℤ → List Sign
-labelsText zero p = []
-labelsText (suc n) p = dotSign ∷ label (numberAt p 0) ∷ labelsText n (drop 1 p)
+unfoldable pub labels_text : ℕ → List ℤ → List Sign
+labels_text zero p = []
+labels_text (suc n) p = dot_sign ∷ label (number_at p 0) ∷ labels_text n (drop 1 p)
 
 -- "L: variable, n (0 to 7), n labels."
 unfoldable pub path_text : List ℤ → Printed
-path_text p = (variable (numberAt p 0) ∷ labelsText (numberAt p 1) (drop 2 p), drop (numberAt p 1) (drop 2 p))
+path_text p = (variable (number_at p 0) ∷ labels_text (number_at p 1) (drop 2 p), drop (number_at p 1) (drop 2 p))
 
 -- L == L
-unfoldable pub sidesText : List ℤ → Printed
-sidesText p = then (path_text p) (λ q. say (space ∷ identicalSign ∷ space ∷ []) (path_text q))
+unfoldable pub sides_text : List ℤ → Printed
+sides_text p = then (path_text p) (λ q. say (space ∷ identical_sign ∷ space ∷ []) (path_text q))
 
 -- ---- expressions; `go` writes one that stands under an operator, and binds as tightly as a level or more
 
 -- "a left operand whose operator binds less tightly, a right operand whose operator does not bind more tightly" stand in brackets
-unfoldable pub operandsText : (ℕ → List ℤ → Printed) → ℕ → ℕ → List ℤ → Printed
-operandsText go k level p = then (go level p) (λ q. say (operatorText k) (go (suc level) q))
+unfoldable pub operands_text : (ℕ → List ℤ → Printed) → ℕ → ℕ → List ℤ → Printed
+operands_text go k level p = then (go level p) (λ q. say (operator_text k) (go (suc level) q))
 
-unfoldable pub operationText : (ℕ → List ℤ → Printed) → ℕ → List ℤ → Printed
-operationText go low p =
-    cond (leb low (levelOf (numberAt p 0)))
-    (operandsText go (numberAt p 0) (levelOf (numberAt p 0)) (drop 1 p))
-    (say (openBracketSign ∷ []) (until (operandsText go (numberAt p 0) (levelOf (numberAt p 0)) (drop 1 p)) (closeBracketSign ∷ [])))
+unfoldable pub operation_text : (ℕ → List ℤ → Printed) → ℕ → List ℤ → Printed
+operation_text go low p =
+    cond (leb low (level_of (number_at p 0)))
+    (operands_text go (number_at p 0) (level_of (number_at p 0)) (drop 1 p))
+    (say (open_bracket_sign ∷ []) (until (operands_text go (number_at p 0) (level_of (number_at p 0)) (drop 1 p)) (close_bracket_sign ∷ [])))
 
 -- "e: 20 nil; 21 false; 22 true; 23 integer; 24 L; 25 operator e e; 26 L == L"
-unfoldable pub formText : (ℕ → List ℤ → Printed) → ℕ → List ℤ → Form → Printed
-formText go low p aNil = (nilSign ∷ [], drop 1 p)
-formText go low p aFalse = (falseSign ∷ [], drop 1 p)
-formText go low p aTrue = (trueSign ∷ [], drop 1 p)
-formText go low p anInteger = (integer (wordAt (drop 1 p) 0) ∷ [], drop 1 (drop 1 p))
-formText go low p aPath = path_text (drop 1 p)
-formText go low p anOperation = operationText go low (drop 1 p)
-formText go low p anIdentity = sidesText (drop 1 p)
-formText go low p noForm = ([], p)
+unfoldable pub form_text : (ℕ → List ℤ → Printed) → ℕ → List ℤ → Form → Printed
+form_text go low p a_nil = (nil_sign ∷ [], drop 1 p)
+form_text go low p a_false = (false_sign ∷ [], drop 1 p)
+form_text go low p a_true = (true_sign ∷ [], drop 1 p)
+form_text go low p an_integer = (integer (word_at (drop 1 p) 0) ∷ [], drop 1 (drop 1 p))
+form_text go low p a_path = path_text (drop 1 p)
+form_text go low p an_operation = operation_text go low (drop 1 p)
+form_text go low p an_identity = sides_text (drop 1 p)
+form_text go low p no_form = ([], p)
 
 -- e, nested at most d deep
-unfoldable pub expressionText : ℕ → ℕ → List ℤ → Printed
-expressionText zero low p = ([], p)
-expressionText (suc d) low p = formText (λ l q. expressionText d l q) low p (form_of (numberAt p 0))
+unfoldable pub expression_text : ℕ → ℕ → List ℤ → Printed
+expression_text zero low p = ([], p)
+expression_text (suc d) low p = form_text (λ l q. expression_text d l q) low p (form_of (number_at p 0))
 
 -- an e that stands under no operator
-abbrev pub wholeText : List ℤ → Printed
-wholeText p = expressionText expressionDepth 1 p
+abbrev pub whole_text : List ℤ → Printed
+whole_text p = expression_text expression_depth 1 p
 
 -- ---- constraints and fields
 
 -- "Parts joined by ` /\ `, each with its priority written out." "In C a part never needs any around it."
-unfoldable pub partText : List ℤ → Printed
-partText p = say (priorityText (numberAt p 0)) (wholeText (drop 1 p))
+unfoldable pub part_text : List ℤ → Printed
+part_text p = say (priority_text (number_at p 0)) (whole_text (drop 1 p))
 
-unfoldable pub constraintText : List ℤ → Printed
-constraintText p = rowText [] (space ∷ besideSign ∷ space ∷ []) partText (numberAt p 0) (drop 1 p)
+unfoldable pub constraint_text : List ℤ → Printed
+constraint_text p = row_text [] (space ∷ beside_sign ∷ space ∷ []) part_text (number_at p 0) (drop 1 p)
 
 -- "`x := new {a: 1, b: 2}`, `new {}`."
-unfoldable pub fieldText : List ℤ → Printed
-fieldText p = say (label (numberAt p 0) ∷ colonSign ∷ space ∷ []) (wholeText (drop 1 p))
+unfoldable pub field_text : List ℤ → Printed
+field_text p = say (label (number_at p 0) ∷ colon_sign ∷ space ∷ []) (whole_text (drop 1 p))
 
-unfoldable pub fieldsText : List ℤ → Printed
-fieldsText p = rowText [] (commaSign ∷ space ∷ []) fieldText (numberAt p 0) (drop 1 p)
+unfoldable pub fields_text : List ℤ → Printed
+fields_text p = row_text [] (comma_sign ∷ space ∷ []) field_text (number_at p 0) (drop 1 p)
 
-unfoldable pub newText : List ℤ → Printed
-newText p =
-    say (variable (numberAt p 0) ∷ space ∷ becomesSign ∷ space ∷ newSign ∷ space ∷ openBraceSign ∷ [])
-    (until (fieldsText (drop 1 p)) (closeBraceSign ∷ []))
+unfoldable pub new_text : List ℤ → Printed
+new_text p =
+    say (variable (number_at p 0) ∷ space ∷ becomes_sign ∷ space ∷ new_sign ∷ space ∷ open_brace_sign ∷ [])
+    (until (fields_text (drop 1 p)) (close_brace_sign ∷ []))
 
 -- ---- statements and blocks; `block` writes a block that a statement holds
 
-unfoldable pub assignText : List ℤ → Printed
-assignText p = then (path_text p) (λ q. say (space ∷ becomesSign ∷ space ∷ []) (wholeText q))
+unfoldable pub assign_text : List ℤ → Printed
+assign_text p = then (path_text p) (λ q. say (space ∷ becomes_sign ∷ space ∷ []) (whole_text q))
 
 -- "`if e then {` newline, the block's statements one a line, newline, `} else {`, .., `}`"
-unfoldable pub branchText : (List ℤ → Printed) → List ℤ → Printed
-branchText block p =
-    say (ifSign ∷ space ∷ []) (then (wholeText p) (λ q. say (space ∷ thenSign ∷ space ∷ []) (then (block q) (λ r. say (space ∷ elseSign ∷ space ∷ []) (block r)))))
+unfoldable pub branch_text : (List ℤ → Printed) → List ℤ → Printed
+branch_text block p =
+    say (if_sign ∷ space ∷ []) (then (whole_text p) (λ q. say (space ∷ then_sign ∷ space ∷ []) (then (block q) (λ r. say (space ∷ else_sign ∷ space ∷ []) (block r)))))
 
 -- "`while e do {` .. `}`"
-unfoldable pub loopText : (List ℤ → Printed) → List ℤ → Printed
-loopText block p = say (whileSign ∷ space ∷ []) (then (wholeText p) (λ q. say (space ∷ doSign ∷ space ∷ []) (block q)))
+unfoldable pub loop_text : (List ℤ → Printed) → List ℤ → Printed
+loop_text block p = say (while_sign ∷ space ∷ []) (then (whole_text p) (λ q. say (space ∷ do_sign ∷ space ∷ []) (block q)))
 
-unfoldable pub verbText : (List ℤ → Printed) → List ℤ → Verb → Printed
-verbText block p skip = (skipSign ∷ [], drop 1 p)
-verbText block p assign = assignText (drop 1 p)
-verbText block p new = newText (drop 1 p)
-verbText block p always = say (alwaysSign ∷ space ∷ []) (constraintText (drop 1 p))
-verbText block p once = say (onceSign ∷ space ∷ []) (constraintText (drop 1 p))
-verbText block p alwaysSame = say (alwaysSign ∷ space ∷ []) (sidesText (drop 1 p))
-verbText block p onceSame = say (onceSign ∷ space ∷ []) (sidesText (drop 1 p))
-verbText block p branch = branchText block (drop 1 p)
-verbText block p loop = loopText block (drop 1 p)
-verbText block p noVerb = ([], p)
+unfoldable pub verb_text : (List ℤ → Printed) → List ℤ → Verb → Printed
+verb_text block p skip = (skip_sign ∷ [], drop 1 p)
+verb_text block p assign = assign_text (drop 1 p)
+verb_text block p new = new_text (drop 1 p)
+verb_text block p always = say (always_sign ∷ space ∷ []) (constraint_text (drop 1 p))
+verb_text block p once = say (once_sign ∷ space ∷ []) (constraint_text (drop 1 p))
+verb_text block p always_same = say (always_sign ∷ space ∷ []) (sides_text (drop 1 p))
+verb_text block p once_same = say (once_sign ∷ space ∷ []) (sides_text (drop 1 p))
+verb_text block p branch = branch_text block (drop 1 p)
+verb_text block p loop = loop_text block (drop 1 p)
+verb_text block p no_verb = ([], p)
 
-unfoldable pub verbAt : (List ℤ → Printed) → List ℤ → Printed
-verbAt block p = verbText block p (verbOf (numberAt p 0))
+unfoldable pub verb_at : (List ℤ → Printed) → List ℤ → Printed
+verb_at block p = verb_text block p (verb_of (number_at p 0))
 
 -- "statements parted by `;` and a newline", where their own blocks may nest d deep
 abbrev pub row_of : ℕ → (List ℤ → Printed) → List ℤ → Printed
-row_of d one p = rowText [] (semicolonSign ∷ line d ∷ []) one (numberAt p 0) (drop 1 p)
+row_of d one p = row_text [] (semicolon_sign ∷ line d ∷ []) one (number_at p 0) (drop 1 p)
 
 -- "a closing brace stands on its own line under the statement that opened it; an empty block is `{}`"
 abbrev pub braces : ℕ → ℕ → Printed → Printed
-braces d zero a = (openBraceSign ∷ closeBraceSign ∷ [], a.1)
-braces d (suc n) a = say (openBraceSign ∷ line d ∷ []) (until a (line (suc d) ∷ closeBraceSign ∷ []))
+braces d zero a = (open_brace_sign ∷ close_brace_sign ∷ [], a.1)
+braces d (suc n) a = say (open_brace_sign ∷ line d ∷ []) (until a (line (suc d) ∷ close_brace_sign ∷ []))
 
 -- a block, nested at most d deep
-unfoldable pub blockText : ℕ → List ℤ → Printed
-blockText zero p = ([], p)
-blockText (suc d) p = braces d (numberAt p 0) (row_of d (λ q. verbAt (λ r. blockText d r) q) p)
+unfoldable pub block_text : ℕ → List ℤ → Printed
+block_text zero p = ([], p)
+block_text (suc d) p = braces d (number_at p 0) (row_of d (λ q. verb_at (λ r. block_text d r) q) p)
 
 -- a statement whose blocks nest at most d deep, and the statements of a block
-unfoldable pub statementText : ℕ → List ℤ → Printed
-statementText d p = verbAt (λ r. blockText d r) p
+unfoldable pub statement_text : ℕ → List ℤ → Printed
+statement_text d p = verb_at (λ r. block_text d r) p
 
-unfoldable pub statementsText : ℕ → List ℤ → Printed
-statementsText d p = row_of d (λ q. statementText d q) p
+unfoldable pub statements_text : ℕ → List ℤ → Printed
+statements_text d p = row_of d (λ q. statement_text d q) p
 
 -- "no newline at the end of the text"; "The program `0` is the empty text."
-unfoldable pub programText : List ℤ → List Sign
-programText p = (statementsText (blockDepth - 1) p).0
+unfoldable pub program_text : List ℤ → List Sign
+program_text p = (statements_text (block_depth - 1) p).0

@@ -1,8 +1,8 @@
 // Statements and blocks.
 ghost use Rattle.std.specs.Prelude.{◌≡◌, ◌∷◌, length};
-ghost use Rattle.printing.specs.Signs.{lineBytes, betweenBytes};
+ghost use Rattle.printing.specs.Signs.{line_bytes, between_bytes};
 ghost use Rattle.printing.specs.Naming.{naming};
-ghost use Rattle.printing.specs.Printing.{assignText, newText, statementText, branchText, loopText, statementsText, blockText};
+ghost use Rattle.printing.specs.Printing.{assign_text, new_text, statement_text, branch_text, loop_text, statements_text, block_text};
 ghost use Rattle.printing.specs.Page.{ink, onto, page, Wrote};
 
 use super::expressions::expression;
@@ -21,8 +21,8 @@ fn assignment(
     seen: &mut [usize; 96],
     p: &[i32],
 ) -> usize
-    ensures wrote { Wrote (naming source.now names.now) (page out.old at.old seen.old) (assignText p.now).0 (page out.new at.new seen.new) }
-    ensures value { result ≡ length (assignText p.now).1 }
+    ensures wrote { Wrote (naming source.now names.now) (page out.old at.old seen.old) (assign_text p.now).0 (page out.new at.new seen.new) }
+    ensures value { result ≡ length (assign_text p.now).1 }
 {
     let left = path(source, names, out, at, seen, p);
     add(out, at, b" := ");
@@ -39,8 +39,8 @@ fn new(
     seen: &mut [usize; 96],
     p: &[i32],
 ) -> usize
-    ensures wrote { Wrote (naming source.now names.now) (page out.old at.old seen.old) (newText p.now).0 (page out.new at.new seen.new) }
-    ensures value { result ≡ length (newText p.now).1 }
+    ensures wrote { Wrote (naming source.now names.now) (page out.old at.old seen.old) (new_text p.now).0 (page out.new at.new seen.new) }
+    ensures value { result ≡ length (new_text p.now).1 }
 {
     name(source, names, out, at, seen, words::number_at(p, 0));
     add(out, at, b" := new {");
@@ -60,8 +60,8 @@ fn statement(
     p: &[i32],
     d: usize,
 ) -> usize
-    ensures wrote { Wrote (naming source.now names.now) (page out.old at.old seen.old) (statementText d p.now).0 (page out.new at.new seen.new) }
-    ensures value { result ≡ length (statementText d p.now).1 }
+    ensures wrote { Wrote (naming source.now names.now) (page out.old at.old seen.old) (statement_text d p.now).0 (page out.new at.new seen.new) }
+    ensures value { result ≡ length (statement_text d p.now).1 }
 {
     let verb = words::number_at(p, 0);
     let q = words::part_from(p, 1);
@@ -105,8 +105,8 @@ fn conditional(
     p: &[i32],
     d: usize,
 ) -> usize
-    ensures wrote { Wrote (naming source.now names.now) (page out.old at.old seen.old) (branchText (λ q. blockText d q) p.now).0 (page out.new at.new seen.new) }
-    ensures value { result ≡ length (branchText (λ q. blockText d q) p.now).1 }
+    ensures wrote { Wrote (naming source.now names.now) (page out.old at.old seen.old) (branch_text (λ q. block_text d q) p.now).0 (page out.new at.new seen.new) }
+    ensures value { result ≡ length (branch_text (λ q. block_text d q) p.now).1 }
 {
     add(out, at, b"if ");
     let e = expression(source, names, out, at, seen, p, EXPRESSION_DEPTH, 1);
@@ -127,8 +127,8 @@ fn repeated(
     p: &[i32],
     d: usize,
 ) -> usize
-    ensures wrote { Wrote (naming source.now names.now) (page out.old at.old seen.old) (loopText (λ q. blockText d q) p.now).0 (page out.new at.new seen.new) }
-    ensures value { result ≡ length (loopText (λ q. blockText d q) p.now).1 }
+    ensures wrote { Wrote (naming source.now names.now) (page out.old at.old seen.old) (loop_text (λ q. block_text d q) p.now).0 (page out.new at.new seen.new) }
+    ensures value { result ≡ length (loop_text (λ q. block_text d q) p.now).1 }
 {
     add(out, at, b"while ");
     let e = expression(source, names, out, at, seen, p, EXPRESSION_DEPTH, 1);
@@ -138,7 +138,7 @@ fn repeated(
 
 // `;` and a newline, before each statement but the first.
 fn add_next(out: &mut [u8], at: &mut [usize; 1], i: usize, d: usize)
-    ensures { ink out.new at.new ≡ onto (ink out.old at.old) (betweenBytes i (59 ∷ lineBytes d)) }
+    ensures { ink out.new at.new ≡ onto (ink out.old at.old) (between_bytes i (59 ∷ line_bytes d)) }
 {
     if i == 0 {
         return;
@@ -158,8 +158,8 @@ pub(crate) fn statements(
     p: &[i32],
     d: usize,
 ) -> usize
-    ensures wrote { Wrote (naming source.now names.now) (page out.old at.old seen.old) (statementsText d p.now).0 (page out.new at.new seen.new) }
-    ensures value { result ≡ length (statementsText d p.now).1 }
+    ensures wrote { Wrote (naming source.now names.now) (page out.old at.old seen.old) (statements_text d p.now).0 (page out.new at.new seen.new) }
+    ensures value { result ≡ length (statements_text d p.now).1 }
 {
     let n = words::number_at(p, 0);
     let mut left = words::less(p.len(), 1);
@@ -183,8 +183,8 @@ fn block(
     p: &[i32],
     d: usize,
 ) -> usize
-    ensures wrote { Wrote (naming source.now names.now) (page out.old at.old seen.old) (blockText d p.now).0 (page out.new at.new seen.new) }
-    ensures value { result ≡ length (blockText d p.now).1 }
+    ensures wrote { Wrote (naming source.now names.now) (page out.old at.old seen.old) (block_text d p.now).0 (page out.new at.new seen.new) }
+    ensures value { result ≡ length (block_text d p.now).1 }
 {
     if d == 0 {
         return p.len();

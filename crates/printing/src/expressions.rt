@@ -1,8 +1,8 @@
 // Operands, operators and brackets.
 ghost use Rattle.std.specs.Prelude.{◌≡◌, ◌≤◌, length};
-ghost use Rattle.printing.specs.Signs.{operatorBytes};
+ghost use Rattle.printing.specs.Signs.{operator_bytes};
 ghost use Rattle.printing.specs.Naming.{naming};
-ghost use Rattle.printing.specs.Printing.{expressionText, operationText, operandsText};
+ghost use Rattle.printing.specs.Printing.{expression_text, operation_text, operands_text};
 ghost use Rattle.printing.specs.Page.{ink, onto, page, Wrote};
 
 use super::page::{add, add_number};
@@ -10,7 +10,7 @@ use super::paths::{path, sides};
 
 // The operator of number k, with a space on both sides.
 fn add_operator(out: &mut [u8], at: &mut [usize; 1], k: usize)
-    ensures { ink out.new at.new ≡ onto (ink out.old at.old) (operatorBytes k) }
+    ensures { ink out.new at.new ≡ onto (ink out.old at.old) (operator_bytes k) }
 {
     match k {
         1 => add(out, at, b" + "),
@@ -40,8 +40,8 @@ pub(crate) fn expression(
     d: usize,
     low: usize,
 ) -> usize
-    ensures wrote { Wrote (naming source.now names.now) (page out.old at.old seen.old) (expressionText d low p.now).0 (page out.new at.new seen.new) }
-    ensures value { result ≡ length (expressionText d low p.now).1 }
+    ensures wrote { Wrote (naming source.now names.now) (page out.old at.old seen.old) (expression_text d low p.now).0 (page out.new at.new seen.new) }
+    ensures value { result ≡ length (expression_text d low p.now).1 }
 {
     if d == 0 {
         return p.len();
@@ -84,8 +84,8 @@ fn operation(
     d: usize,
     low: usize,
 ) -> usize
-    ensures wrote { Wrote (naming source.now names.now) (page out.old at.old seen.old) (operationText (λ l q. expressionText d l q) low p.now).0 (page out.new at.new seen.new) }
-    ensures value { result ≡ length (operationText (λ l q. expressionText d l q) low p.now).1 }
+    ensures wrote { Wrote (naming source.now names.now) (page out.old at.old seen.old) (operation_text (λ l q. expression_text d l q) low p.now).0 (page out.new at.new seen.new) }
+    ensures value { result ≡ length (operation_text (λ l q. expression_text d l q) low p.now).1 }
 {
     let k = words::number_at(p, 0);
     let level = text::levels::level_of(k);
@@ -113,8 +113,8 @@ fn operands(
     level: usize,
 ) -> usize
     requires { level ≤ 5 }
-    ensures wrote { Wrote (naming source.now names.now) (page out.old at.old seen.old) (operandsText (λ l q. expressionText d l q) k level p.now).0 (page out.new at.new seen.new) }
-    ensures value { result ≡ length (operandsText (λ l q. expressionText d l q) k level p.now).1 }
+    ensures wrote { Wrote (naming source.now names.now) (page out.old at.old seen.old) (operands_text (λ l q. expression_text d l q) k level p.now).0 (page out.new at.new seen.new) }
+    ensures value { result ≡ length (operands_text (λ l q. expression_text d l q) k level p.now).1 }
 {
     let a = expression(source, names, out, at, seen, p, d, level);
     add_operator(out, at, k);

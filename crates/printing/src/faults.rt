@@ -2,7 +2,7 @@
 ghost use Rattle.std.specs.Prelude.{◌≡◌, ◌-◌, ◌≤◌};
 ghost use Rattle.tokens.specs.Bytes.{spelt};
 ghost use Rattle.printing.specs.Naming.{naming, name_of};
-ghost use Rattle.printing.specs.Faults.{isName, isPart, isFit, isHad, twinFrom, hasTwin, atFault, faultFrom, usedFrom};
+ghost use Rattle.printing.specs.Faults.{is_name, is_part, is_fit, is_had, twin_from, has_twin, at_fault, fault_from, used_from};
 
 use super::names::{default_name, given_name, length_of, place_of, standing};
 use crate::{FIRST_LABEL, NUMBERS};
@@ -10,7 +10,7 @@ use tokens::bytes::spells;
 
 // The bytes are one name of the notation, no longer than a text may be.
 fn is_name(s: &[u8]) -> bool
-    ensures { result ≡ isName s.now }
+    ensures { result ≡ is_name s.now }
 {
     let t = tokens::scanning::token(s, 0, false);
     if t.code != tokens::NAME {
@@ -24,7 +24,7 @@ fn is_name(s: &[u8]) -> bool
 
 // The name that is given lies in the source.
 fn is_part(source: &[u8], names: &[i32], i: usize) -> bool
-    ensures { result ≡ isPart (naming source.now names.now) i }
+    ensures { result ≡ is_part (naming source.now names.now) i }
 {
     let place = place_of(names, i);
     if place == 2147483648 {
@@ -35,7 +35,7 @@ fn is_part(source: &[u8], names: &[i32], i: usize) -> bool
 
 // No name is given to the number, or one that lies in the source and is a name.
 fn is_fit(source: &[u8], names: &[i32], i: usize) -> bool
-    ensures { result ≡ isFit (naming source.now names.now) i }
+    ensures { result ≡ is_fit (naming source.now names.now) i }
 {
     if length_of(names, i) == 0 {
         return true;
@@ -72,7 +72,7 @@ fn are_twins(source: &[u8], names: &[i32], i: usize, j: usize) -> bool
 
 // The number is given a name, or used.
 fn is_had(names: &[i32], seen: &[usize], i: usize) -> bool
-    ensures { result ≡ isHad names.now seen.now i }
+    ensures { result ≡ is_had names.now seen.now i }
 {
     if length_of(names, i) != 0 {
         return true;
@@ -82,7 +82,7 @@ fn is_had(names: &[i32], seen: &[usize], i: usize) -> bool
 
 // One of the numbers from j on to the one before i is given a name or used, and has the name of i.
 fn twin_from(source: &[u8], names: &[i32], seen: &[usize], i: usize, j: usize) -> bool
-    ensures { result ≡ twinFrom (naming source.now names.now) seen.now i j (i - j) }
+    ensures { result ≡ twin_from (naming source.now names.now) seen.now i j (i - j) }
 {
     let mut k = j;
     while k < i {
@@ -98,7 +98,7 @@ fn twin_from(source: &[u8], names: &[i32], seen: &[usize], i: usize, j: usize) -
 
 // An earlier number of its sort has the name of i.
 fn has_twin(source: &[u8], names: &[i32], seen: &[usize], i: usize) -> bool
-    ensures { result ≡ hasTwin (naming source.now names.now) seen.now i }
+    ensures { result ≡ has_twin (naming source.now names.now) seen.now i }
 {
     if !is_had(names, seen, i) {
         return false;
@@ -111,7 +111,7 @@ fn has_twin(source: &[u8], names: &[i32], seen: &[usize], i: usize) -> bool
 
 // The number is at fault.
 fn is_at_fault(source: &[u8], names: &[i32], seen: &[usize], i: usize) -> bool
-    ensures { result ≡ atFault (naming source.now names.now) seen.now i }
+    ensures { result ≡ at_fault (naming source.now names.now) seen.now i }
 {
     if !is_fit(source, names, i) {
         return true;
@@ -124,7 +124,7 @@ fn is_at_fault(source: &[u8], names: &[i32], seen: &[usize], i: usize) -> bool
 
 // The first number at fault; NUMBERS where there is none.
 pub(crate) fn first_fault(source: &[u8], names: &[i32], seen: &[usize]) -> usize
-    ensures { result ≡ faultFrom (naming source.now names.now) seen.now 0 96 }
+    ensures { result ≡ fault_from (naming source.now names.now) seen.now 0 96 }
 {
     let mut i: usize = 0;
     while i < NUMBERS {
@@ -140,7 +140,7 @@ pub(crate) fn first_fault(source: &[u8], names: &[i32], seen: &[usize]) -> usize
 pub(crate) fn used(seen: &[usize], from: usize, n: usize) -> usize
     requires from_bound { from ≤ 96 }
     requires n_bound { n ≤ 96 }
-    ensures { result ≡ usedFrom seen.now from n }
+    ensures { result ≡ used_from seen.now from n }
 {
     let mut count: usize = 0;
     let mut i: usize = 0;

@@ -1,7 +1,7 @@
 // The names of variables and labels, and in which order these are used.
 ghost use Rattle.std.specs.Prelude.{◌≡◌, length, get_or, take};
 ghost use Rattle.printing.specs.Page.{ink, onto};
-ghost use Rattle.printing.specs.Naming.{naming, place_of, length_of, givenName, defaultName, name_of, isLed, noted};
+ghost use Rattle.printing.specs.Naming.{naming, place_of, length_of, given_name, default_name, name_of, is_led, noted};
 
 use super::page::add;
 use crate::{FIRST_LABEL, NUMBERS};
@@ -27,7 +27,7 @@ pub(crate) fn length_of(names: &[i32], i: usize) -> usize
 
 // The part of the source that is given as a name.
 pub(crate) fn given_name<'a>(source: &'a [u8], names: &[i32], i: usize) -> &'a [u8]
-    ensures { result.now ≡ givenName (naming source.now names.now) i }
+    ensures { result.now ≡ given_name (naming source.now names.now) i }
 {
     words::bytes_to(
         words::bytes_from(source, place_of(names, i)),
@@ -37,7 +37,7 @@ pub(crate) fn given_name<'a>(source: &'a [u8], names: &[i32], i: usize) -> &'a [
 
 // The name of a number to which none is given, in the first bytes of b.
 pub(crate) fn default_name(b: &mut [u8; 24], i: usize) -> usize
-    ensures b_after { take result b.new ≡ defaultName i }
+    ensures b_after { take result b.new ≡ default_name i }
     ensures b_len { length b.new ≡ 24 }
 {
     if i < FIRST_LABEL {
@@ -62,7 +62,7 @@ fn add_name(source: &[u8], names: &[i32], out: &mut [u8], at: &mut [usize; 1], i
 
 // The number is the first of its sort, or the one before it has been used.
 fn is_led(seen: &[usize], i: usize) -> bool
-    ensures { result ≡ isLed seen.now i }
+    ensures { result ≡ is_led seen.now i }
 {
     if i == 0 {
         return true;

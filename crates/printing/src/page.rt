@@ -1,14 +1,14 @@
 // Bytes behind each other in a lent row. What the row does not hold is counted all the same, so that a text is measured by writing it to a row that holds nothing.
 ghost use Rattle.std.specs.Prelude.{◌≡◌};
 ghost use Rattle.lister.specs.Numerals.{numeral};
-ghost use Rattle.printing.specs.Signs.{lineBytes};
-ghost use Rattle.printing.specs.Page.{ink, byteOn, onto};
+ghost use Rattle.printing.specs.Signs.{line_bytes};
+ghost use Rattle.printing.specs.Page.{ink, byte_on, onto};
 
 use crate::FAR;
 
 // A byte more.
 fn put(out: &mut [u8], at: &mut [usize; 1], b: u8)
-    ensures { ink out.new at.new ≡ byteOn (ink out.old at.old) b }
+    ensures { ink out.new at.new ≡ byte_on (ink out.old at.old) b }
 {
     let i = at[0];
     if i < out.len() {
@@ -41,7 +41,7 @@ pub(crate) fn add_number(out: &mut [u8], at: &mut [usize; 1], w: i32)
 
 // A newline, and two spaces for each brace that is open where blocks may nest d deep.
 pub(crate) fn add_line(out: &mut [u8], at: &mut [usize; 1], d: usize)
-    ensures { ink out.new at.new ≡ onto (ink out.old at.old) (lineBytes d) }
+    ensures { ink out.new at.new ≡ onto (ink out.old at.old) (line_bytes d) }
 {
     let n = 1 + 2 * words::less(program::BLOCK_DEPTH - 1, d);
     add(out, at, words::bytes_to(b"\n              ", n));

@@ -1,8 +1,8 @@
 // An L, and L == L.
 ghost use Rattle.std.specs.Prelude.{◌≡◌, ◌+◌, length};
-ghost use Rattle.words.specs.Words.{numberAt};
-ghost use Rattle.printing.specs.Naming.{naming, firstLabel};
-ghost use Rattle.printing.specs.Printing.{labelsText, path_text, sidesText};
+ghost use Rattle.words.specs.Words.{number_at};
+ghost use Rattle.printing.specs.Naming.{naming, first_label};
+ghost use Rattle.printing.specs.Printing.{labels_text, path_text, sides_text};
 ghost use Rattle.printing.specs.Page.{page, Wrote};
 
 use super::names::name;
@@ -11,7 +11,7 @@ use crate::FIRST_LABEL;
 
 // The label at i, by its number among variables and labels.
 pub(crate) fn label_at(p: &[i32], i: usize) -> usize
-    ensures { result ≡ firstLabel + numberAt p.now i }
+    ensures { result ≡ first_label + number_at p.now i }
 {
     if i < p.len() {
         return FIRST_LABEL + words::number(p[i]);
@@ -29,7 +29,7 @@ fn labels(
     p: &[i32],
     n: usize,
 )
-    ensures { Wrote (naming source.now names.now) (page out.old at.old seen.old) (labelsText n p.now) (page out.new at.new seen.new) }
+    ensures { Wrote (naming source.now names.now) (page out.old at.old seen.old) (labels_text n p.now) (page out.new at.new seen.new) }
 {
     let mut i: usize = 0;
     while i < n {
@@ -67,8 +67,8 @@ pub(crate) fn sides(
     seen: &mut [usize; 96],
     p: &[i32],
 ) -> usize
-    ensures wrote { Wrote (naming source.now names.now) (page out.old at.old seen.old) (sidesText p.now).0 (page out.new at.new seen.new) }
-    ensures value { result ≡ length (sidesText p.now).1 }
+    ensures wrote { Wrote (naming source.now names.now) (page out.old at.old seen.old) (sides_text p.now).0 (page out.new at.new seen.new) }
+    ensures value { result ≡ length (sides_text p.now).1 }
 {
     let left = path(source, names, out, at, seen, p);
     add(out, at, b" == ");

@@ -1,8 +1,8 @@
 // The parts of a constraint, and the fields of a record.
 ghost use Rattle.std.specs.Prelude.{◌≡◌, length};
-ghost use Rattle.printing.specs.Signs.{priorityBytes, betweenBytes};
+ghost use Rattle.printing.specs.Signs.{priority_bytes, between_bytes};
 ghost use Rattle.printing.specs.Naming.{naming};
-ghost use Rattle.printing.specs.Printing.{partText, constraintText, fieldText, fieldsText};
+ghost use Rattle.printing.specs.Printing.{part_text, constraint_text, field_text, fields_text};
 ghost use Rattle.printing.specs.Page.{ink, onto, page, Wrote};
 
 use super::expressions::expression;
@@ -13,7 +13,7 @@ use program::EXPRESSION_DEPTH;
 
 // The priority of number k, and a space.
 fn add_priority(out: &mut [u8], at: &mut [usize; 1], k: usize)
-    ensures { ink out.new at.new ≡ onto (ink out.old at.old) (priorityBytes k) }
+    ensures { ink out.new at.new ≡ onto (ink out.old at.old) (priority_bytes k) }
 {
     match k {
         1 => add(out, at, b"weak "),
@@ -25,7 +25,7 @@ fn add_priority(out: &mut [u8], at: &mut [usize; 1], k: usize)
 
 // What stands between the pieces of a row, before each but the first.
 fn add_between(out: &mut [u8], at: &mut [usize; 1], i: usize, s: &[u8])
-    ensures { ink out.new at.new ≡ onto (ink out.old at.old) (betweenBytes i s.now) }
+    ensures { ink out.new at.new ≡ onto (ink out.old at.old) (between_bytes i s.now) }
 {
     if i == 0 {
         return;
@@ -42,8 +42,8 @@ fn part(
     seen: &mut [usize; 96],
     p: &[i32],
 ) -> usize
-    ensures wrote { Wrote (naming source.now names.now) (page out.old at.old seen.old) (partText p.now).0 (page out.new at.new seen.new) }
-    ensures value { result ≡ length (partText p.now).1 }
+    ensures wrote { Wrote (naming source.now names.now) (page out.old at.old seen.old) (part_text p.now).0 (page out.new at.new seen.new) }
+    ensures value { result ≡ length (part_text p.now).1 }
 {
     add_priority(out, at, words::number_at(p, 0));
     let q = words::part_from(p, 1);
@@ -59,8 +59,8 @@ pub(crate) fn constraint(
     seen: &mut [usize; 96],
     p: &[i32],
 ) -> usize
-    ensures wrote { Wrote (naming source.now names.now) (page out.old at.old seen.old) (constraintText p.now).0 (page out.new at.new seen.new) }
-    ensures value { result ≡ length (constraintText p.now).1 }
+    ensures wrote { Wrote (naming source.now names.now) (page out.old at.old seen.old) (constraint_text p.now).0 (page out.new at.new seen.new) }
+    ensures value { result ≡ length (constraint_text p.now).1 }
 {
     let m = words::number_at(p, 0);
     let mut left = words::less(p.len(), 1);
@@ -82,8 +82,8 @@ fn field(
     seen: &mut [usize; 96],
     p: &[i32],
 ) -> usize
-    ensures wrote { Wrote (naming source.now names.now) (page out.old at.old seen.old) (fieldText p.now).0 (page out.new at.new seen.new) }
-    ensures value { result ≡ length (fieldText p.now).1 }
+    ensures wrote { Wrote (naming source.now names.now) (page out.old at.old seen.old) (field_text p.now).0 (page out.new at.new seen.new) }
+    ensures value { result ≡ length (field_text p.now).1 }
 {
     name(source, names, out, at, seen, label_at(p, 0));
     add(out, at, b": ");
@@ -100,8 +100,8 @@ pub(crate) fn fields(
     seen: &mut [usize; 96],
     p: &[i32],
 ) -> usize
-    ensures wrote { Wrote (naming source.now names.now) (page out.old at.old seen.old) (fieldsText p.now).0 (page out.new at.new seen.new) }
-    ensures value { result ≡ length (fieldsText p.now).1 }
+    ensures wrote { Wrote (naming source.now names.now) (page out.old at.old seen.old) (fields_text p.now).0 (page out.new at.new seen.new) }
+    ensures value { result ≡ length (fields_text p.now).1 }
 {
     let n = words::number_at(p, 0);
     let mut left = words::less(p.len(), 1);

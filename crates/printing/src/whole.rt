@@ -1,7 +1,7 @@
 // A program's text, or a refusal that writes nothing.
 ghost use Rattle.std.specs.Prelude.{◌≡◌, ◌&&◌, leb};
 ghost use Rattle.printing.specs.Naming.{naming};
-ghost use Rattle.printing.specs.Whole.{answered, printed, write as writeBy};
+ghost use Rattle.printing.specs.Whole.{answered, printed, write as write_by};
 
 use super::blocks::statements;
 use super::faults::{first_fault, used};
@@ -74,7 +74,7 @@ pub fn write(
     text: &mut [u8],
     answer: &mut [i32; 4],
 ) -> usize
-    ensures { answered text.new answer.new result ≡ writeBy program.now source.now names.now text.old }
+    ensures { answered text.new answer.new result ≡ write_by program.now source.now names.now text.old }
 {
     if names.len() != text::NAME_WORDS {
         words::answer_with(answer, 1, 0, 0, 0);

@@ -11,15 +11,15 @@ use lib.Dec.{eqb}
 use lib.IntN.{ℤ}
 use lib.ListN.{length, drop, get_or, set, replicate, length-set, length-replicate, get_or-replicate}
 use lib.Seq.{get_or-set_same, get_or-set_other}
-use Rattle.words.specs.Words.{numberAt, last_of}
+use Rattle.words.specs.Words.{number_at, last_of}
 use Rattle.words.specs.Answer.{Answer, got, stop, ◌>>=◌, ◌>>◌, want}
 use Rattle.tables.proofs.SearchLaws.{cases}
-use Rattle.program.specs.Forms.{Verb, noVerb, verbOf}
+use Rattle.program.specs.Forms.{Verb, no_verb, verb_of}
 use Rattle.program.specs.declared.Piece.{Piece}
 use Rattle.program.specs.declared.Verdict.TheVariants.{Reads, Unfit}
-use Rattle.program.specs.Told.{told, verdictOf}
-use Rattle.program.specs.Reading.{Reading, readPath, readExpression, among, readFields, readNew, readAssign, readVerb, readWith, readStatements, readBlock, readStatement, ends, place_in, readProgram, after}
-use Rattle.program.proofs.NumberLaws.{number_fits, number-low, number-high, verb-high}
+use Rattle.program.specs.Told.{told, verdict_of}
+use Rattle.program.specs.Reading.{Reading, read_path, read_expression, among, read_fields, read_new, read_assign, read_verb, read_with, read_statements, read_block, read_statement, ends, place_in, read_program, after}
+use Rattle.program.proofs.NumberLaws.{number_fits_lem, number-low, number-high, verb-high}
 use Rattle.program.proofs.LengthLaws.{Part, part-trans, part-drop}
 use Rattle.program.proofs.ReadLaws.{halted, onward, told-left, past}
 use Rattle.program.proofs.RowLaws.{many, statements-many, last-part, last-length, last-all, last-but-one}
@@ -27,25 +27,25 @@ use Rattle.program.proofs.RowLaws.{many, statements-many, last-part, last-length
 -- ---- assign and new
 
 module _ (p : List ℤ) where
-  pub assign-first : {r : Piece} → r ≡ told (readPath p) → r.fits ≡ false → r ≡ told (readAssign p)
-  unfolding readAssign
-  assign-first e h = halted (readPath p) _ e h
+  pub assign-first : {r : Piece} → r ≡ told (read_path p) → r.fits ≡ false → r ≡ told (read_assign p)
+  unfolding read_assign
+  assign-first e h = halted (read_path p) _ e h
 
-  pub assign-second : {q : List ℤ} → readPath p ≡ got q → told (readExpression 16 false q) ≡ told (readAssign p)
-  unfolding readAssign
+  pub assign-second : {q : List ℤ} → read_path p ≡ got q → told (read_expression 16 false q) ≡ told (read_assign p)
+  unfolding read_assign
   assign-second e = rw e
 
-  pub new-variable : 64 ≤ numberAt p 0 → told (stop p) ≡ told (readNew p)
-  unfolding readNew
+  pub new-variable : 64 ≤ number_at p 0 → told (stop p) ≡ told (read_new p)
+  unfolding read_new
   new-variable h = rw (number-high 0 63 p (omega arith) (omega arith))
 
-  pub new-count : numberAt p 0 < 64 → 8 < numberAt (drop 1 p) 0 → told (stop (drop 1 p)) ≡ told (readNew p)
-  unfolding readNew
-  new-count h l = rw (number_fits 0 63 p (omega arith) (omega arith), number-high 0 8 (drop 1 p) (omega arith) l)
+  pub new-count : number_at p 0 < 64 → 8 < number_at (drop 1 p) 0 → told (stop (drop 1 p)) ≡ told (read_new p)
+  unfolding read_new
+  new-count h l = rw (number_fits_lem 0 63 p (omega arith) (omega arith), number-high 0 8 (drop 1 p) (omega arith) l)
 
-  pub new-fields : numberAt p 0 < 64 → numberAt (drop 1 p) 0 ≤ 8 → told (readFields (numberAt (drop 1 p) 0) [] (drop 1 (drop 1 p))) ≡ told (readNew p)
-  unfolding readNew
-  new-fields h l = rw (number_fits 0 63 p (omega arith) (omega arith), number_fits 0 8 (drop 1 p) (omega arith) l)
+  pub new-fields : number_at p 0 < 64 → number_at (drop 1 p) 0 ≤ 8 → told (read_fields (number_at (drop 1 p) 0) [] (drop 1 (drop 1 p))) ≡ told (read_new p)
+  unfolding read_new
+  new-fields h l = rw (number_fits_lem 0 63 p (omega arith) (omega arith), number_fits_lem 0 8 (drop 1 p) (omega arith) l)
 
 -- ---- the loop over the fields of new: i are read, and the marks tell the labels that came before
 
@@ -55,7 +55,7 @@ pub record InFields (n : ℕ) (p : List ℤ) (i left : ℕ) (marks : List Bool) 
   pub long : length marks ≡ 32
   pub seen : List ℕ
   pub agree : (l : ℕ) → l < 32 → get_or marks l false ≡ among l seen
-  pub rest : readFields (n - i) seen (last_of left p) ≡ readFields n [] p
+  pub rest : read_fields (n - i) seen (last_of left p) ≡ read_fields n [] p
 
 pub fields-start : {n : ℕ} {p : List ℤ} → InFields n p 0 (length p) (replicate 32 false)
 unfolding among
@@ -71,155 +71,155 @@ fields-start {n = n} {p = p} =
     }
 
 module _ {n i left : ℕ} {p q : List ℤ} {marks : List Bool} (inv : InFields n p i left marks) (more : i < n) (is : q ≡ last_of left p) where
-  field-turn : readFields (suc (n - (i + 1))) inv.seen q ≡ readFields n [] p
+  field-turn : read_fields (suc (n - (i + 1))) inv.seen q ≡ read_fields n [] p
   field-turn = let z : n - i ≡ suc (n - (i + 1)) = omega arith in rw (← z, is) inv.rest
 
-  pub label-high : 32 ≤ numberAt q 0 → told (stop q) ≡ told (readFields n [] p)
-  unfolding readFields
+  pub label-high : 32 ≤ number_at q 0 → told (stop q) ≡ told (read_fields n [] p)
+  unfolding read_fields
   label-high h = ap told (rw (number-high 0 31 q (omega arith) (omega arith)) at field-turn)
 
-  module _ (small : numberAt q 0 < 32) where
-    known : get_or marks (numberAt q 0) false ≡ among (numberAt q 0) inv.seen
-    known = inv.agree (numberAt q 0) small
+  module _ (small : number_at q 0 < 32) where
+    known : get_or marks (number_at q 0) false ≡ among (number_at q 0) inv.seen
+    known = inv.agree (number_at q 0) small
 
-    pub label-twice : get_or marks (numberAt q 0) false ≡ true → told (stop q) ≡ told (readFields n [] p)
-    unfolding readFields
-    label-twice h = ap told (rw (number_fits 0 31 q (omega arith) (omega arith), sym known ∙ h) at field-turn)
+    pub label-twice : get_or marks (number_at q 0) false ≡ true → told (stop q) ≡ told (read_fields n [] p)
+    unfolding read_fields
+    label-twice h = ap told (rw (number_fits_lem 0 31 q (omega arith) (omega arith), sym known ∙ h) at field-turn)
 
-    module _ (fresh : get_or marks (numberAt q 0) false ≡ false) where
-      field-on : (readExpression 16 false (drop 1 q) >>= λ r. readFields (n - (i + 1)) (numberAt q 0 ∷ inv.seen) r) ≡ readFields n [] p
-      unfolding readFields
-      field-on = rw (number_fits 0 31 q (omega arith) (omega arith), sym known ∙ fresh) at field-turn
+    module _ (fresh : get_or marks (number_at q 0) false ≡ false) where
+      field-on : (read_expression 16 false (drop 1 q) >>= λ r. read_fields (n - (i + 1)) (number_at q 0 ∷ inv.seen) r) ≡ read_fields n [] p
+      unfolding read_fields
+      field-on = rw (number_fits_lem 0 31 q (omega arith) (omega arith), sym known ∙ fresh) at field-turn
 
-      pub field-stops : {r : Piece} → r ≡ told (readExpression 16 false (drop 1 q)) → r.fits ≡ false → r ≡ told (readFields n [] p)
-      field-stops e h = halted (readExpression 16 false (drop 1 q)) _ e h ∙ ap told field-on
+      pub field-stops : {r : Piece} → r ≡ told (read_expression 16 false (drop 1 q)) → r.fits ≡ false → r ≡ told (read_fields n [] p)
+      field-stops e h = halted (read_expression 16 false (drop 1 q)) _ e h ∙ ap told field-on
 
-      agrees : (l : ℕ) → l < 32 → get_or (set marks (numberAt q 0) true) l false ≡ among l (numberAt q 0 ∷ inv.seen)
+      agrees : (l : ℕ) → l < 32 → get_or (set marks (number_at q 0) true) l false ≡ among l (number_at q 0 ∷ inv.seen)
       unfolding among
-      agrees l h = cases (eqb l (numberAt q 0))
-          (λ e. rw (e, eqb-true l (numberAt q 0) e) (get_or-set_same marks (numberAt q 0) true false (omega (arith, inv.long))))
-          (λ e. rw e (get_or-set_other marks (numberAt q 0) l true false (eqb-false l (numberAt q 0) e) ∙ inv.agree l h))
+      agrees l h = cases (eqb l (number_at q 0))
+          (λ e. rw (e, eqb-true l (number_at q 0) e) (get_or-set_same marks (number_at q 0) true false (omega (arith, inv.long))))
+          (λ e. rw e (get_or-set_other marks (number_at q 0) l true false (eqb-false l (number_at q 0) e) ∙ inv.agree l h))
 
-      pub field-goes-on : {r : Piece} → r ≡ told (readExpression 16 false (drop 1 q)) → r.fits ≡ true → Part (drop 1 q) (after (readExpression 16 false (drop 1 q))) → InFields n p (i + 1) r.left (set marks (numberAt q 0) true)
+      pub field-goes-on : {r : Piece} → r ≡ told (read_expression 16 false (drop 1 q)) → r.fits ≡ true → Part (drop 1 q) (after (read_expression 16 false (drop 1 q))) → InFields n p (i + 1) r.left (set marks (number_at q 0) true)
       field-goes-on {r = r} e h w =
-          let b : Part p (after (readExpression 16 false (drop 1 q))) = part-trans (rw is (last-part left p)) (part-trans (part-drop 1 q) w) in
-          let k : r.left ≡ length (after (readExpression 16 false (drop 1 q))) = told-left (readExpression 16 false (drop 1 q)) e in
-          let g : readExpression 16 false (drop 1 q) ≡ got (last_of r.left p) = onward (readExpression 16 false (drop 1 q)) b e h refl in
+          let b : Part p (after (read_expression 16 false (drop 1 q))) = part-trans (rw is (last-part left p)) (part-trans (part-drop 1 q) w) in
+          let k : r.left ≡ length (after (read_expression 16 false (drop 1 q))) = told-left (read_expression 16 false (drop 1 q)) e in
+          let g : read_expression 16 false (drop 1 q) ≡ got (last_of r.left p) = onward (read_expression 16 false (drop 1 q)) b e h refl in
           record {
             inside = omega arith;
             short = omega (arith, b.short);
-            long = length-set marks (numberAt q 0) true ∙ inv.long;
-            seen = numberAt q 0 ∷ inv.seen;
+            long = length-set marks (number_at q 0) true ∙ inv.long;
+            seen = number_at q 0 ∷ inv.seen;
             agree = agrees;
             rest = rw g at field-on;
           }
 
-pub fields-end : {n i left : ℕ} {p : List ℤ} {marks : List Bool} → InFields n p i left marks → n ≤ i → record { fits = true; left = left } ≡ told (readFields n [] p)
-unfolding readFields
+pub fields-end : {n i left : ℕ} {p : List ℤ} {marks : List Bool} → InFields n p i left marks → n ≤ i → record { fits = true; left = left } ≡ told (read_fields n [] p)
+unfolding read_fields
 fields-end {n = n} {i = i} {left = left} {p = p} inv h =
     let z : n - i ≡ 0 = omega arith in
-    let e : got (last_of left p) ≡ readFields n [] p = rw z at inv.rest in
+    let e : got (last_of left p) ≡ read_fields n [] p = rw z at inv.rest in
     rw (last-length left p inv.short) at (ap told e)
 
 -- ---- a statement
 
 -- a number that is none of the verbs
-pub verb-none : (n : ℕ) → (n ≡ 0 → ⊥) → (n ≡ 1 → ⊥) → (n ≡ 2 → ⊥) → (n ≡ 3 → ⊥) → (n ≡ 4 → ⊥) → (n ≡ 5 → ⊥) → (n ≡ 6 → ⊥) → (n ≡ 7 → ⊥) → (n ≡ 8 → ⊥) → verbOf n ≡ noVerb
+pub verb-none : (n : ℕ) → (n ≡ 0 → ⊥) → (n ≡ 1 → ⊥) → (n ≡ 2 → ⊥) → (n ≡ 3 → ⊥) → (n ≡ 4 → ⊥) → (n ≡ 5 → ⊥) → (n ≡ 6 → ⊥) → (n ≡ 7 → ⊥) → (n ≡ 8 → ⊥) → verb_of n ≡ no_verb
 verb-none n a b c d e f g h i = verb-high n (past (past (past (past (past (past (past (past (past (omega arith) a) b) c) d) e) f) g) h) i)
 
 module _ (d : ℕ) (p : List ℤ) where
   -- the verb by its number
-  pub statement-at : (k : ℕ) → numberAt p 0 ≡ k → readVerb (λ r. readBlock d r) p (verbOf k) ≡ readStatement d p
-  unfolding readStatement readWith
+  pub statement-at : (k : ℕ) → number_at p 0 ≡ k → read_verb (λ r. read_block d r) p (verb_of k) ≡ read_statement d p
+  unfolding read_statement read_with
   statement-at k e = rw (← e)
 
-  pub statement-none : verbOf (numberAt p 0) ≡ noVerb → told (stop p) ≡ told (readStatement d p)
-  unfolding readStatement readWith readVerb
+  pub statement-none : verb_of (number_at p 0) ≡ no_verb → told (stop p) ≡ told (read_statement d p)
+  unfolding read_statement read_with read_verb
   statement-none e = rw e
 
-  module _ (is : numberAt p 0 ≡ 7) where
-    branches : (readExpression 16 false (drop 1 p) >>= λ q. readBlock d q >>= λ r. readBlock d r) ≡ readStatement d p
-    unfolding verbOf readVerb
+  module _ (is : number_at p 0 ≡ 7) where
+    branches : (read_expression 16 false (drop 1 p) >>= λ q. read_block d q >>= λ r. read_block d r) ≡ read_statement d p
+    unfolding verb_of read_verb
     branches = statement-at 7 is
 
-    pub branch-test : {r : Piece} → r ≡ told (readExpression 16 false (drop 1 p)) → r.fits ≡ false → r ≡ told (readStatement d p)
-    branch-test e h = halted (readExpression 16 false (drop 1 p)) _ e h ∙ ap told branches
+    pub branch-test : {r : Piece} → r ≡ told (read_expression 16 false (drop 1 p)) → r.fits ≡ false → r ≡ told (read_statement d p)
+    branch-test e h = halted (read_expression 16 false (drop 1 p)) _ e h ∙ ap told branches
 
-    pub branch-first : {q : List ℤ} {r : Piece} → readExpression 16 false (drop 1 p) ≡ got q → r ≡ told (readBlock d q) → r.fits ≡ false → r ≡ told (readStatement d p)
-    branch-first {q = q} t e h = halted (readBlock d q) _ e h ∙ ap told (rw t at branches)
+    pub branch-first : {q : List ℤ} {r : Piece} → read_expression 16 false (drop 1 p) ≡ got q → r ≡ told (read_block d q) → r.fits ≡ false → r ≡ told (read_statement d p)
+    branch-first {q = q} t e h = halted (read_block d q) _ e h ∙ ap told (rw t at branches)
 
-    pub branch-second : {q r : List ℤ} → readExpression 16 false (drop 1 p) ≡ got q → readBlock d q ≡ got r → told (readBlock d r) ≡ told (readStatement d p)
+    pub branch-second : {q r : List ℤ} → read_expression 16 false (drop 1 p) ≡ got q → read_block d q ≡ got r → told (read_block d r) ≡ told (read_statement d p)
     branch-second t u = ap told (rw (t, u) at branches)
 
-  module _ (is : numberAt p 0 ≡ 8) where
-    body : (readExpression 16 false (drop 1 p) >>= λ q. readBlock d q) ≡ readStatement d p
-    unfolding verbOf readVerb
+  module _ (is : number_at p 0 ≡ 8) where
+    body : (read_expression 16 false (drop 1 p) >>= λ q. read_block d q) ≡ read_statement d p
+    unfolding verb_of read_verb
     body = statement-at 8 is
 
-    pub loop-test : {r : Piece} → r ≡ told (readExpression 16 false (drop 1 p)) → r.fits ≡ false → r ≡ told (readStatement d p)
-    loop-test e h = halted (readExpression 16 false (drop 1 p)) _ e h ∙ ap told body
+    pub loop-test : {r : Piece} → r ≡ told (read_expression 16 false (drop 1 p)) → r.fits ≡ false → r ≡ told (read_statement d p)
+    loop-test e h = halted (read_expression 16 false (drop 1 p)) _ e h ∙ ap told body
 
-    pub loop-body : {q : List ℤ} → readExpression 16 false (drop 1 p) ≡ got q → told (readBlock d q) ≡ told (readStatement d p)
+    pub loop-body : {q : List ℤ} → read_expression 16 false (drop 1 p) ≡ got q → told (read_block d q) ≡ told (read_statement d p)
     loop-body t = ap told (rw t at body)
 
 -- ---- a block
 
 module _ (d : ℕ) (p : List ℤ) where
-  pub block-deep : d ≡ 0 → told (stop p) ≡ told (readBlock d p)
-  unfolding readBlock
+  pub block-deep : d ≡ 0 → told (stop p) ≡ told (read_block d p)
+  unfolding read_block
   block-deep e = rw e
 
-  block_at : (e : ℕ) → (e ≡ 0 → ⊥) → numberAt p 0 ≤ 255 → many (readStatement (e - 1)) (numberAt p 0) (drop 1 p) ≡ readBlock e p
-  unfolding readBlock readStatement
+  block_at : (e : ℕ) → (e ≡ 0 → ⊥) → number_at p 0 ≤ 255 → many (read_statement (e - 1)) (number_at p 0) (drop 1 p) ≡ read_block e p
+  unfolding read_block read_statement
   block_at zero ne h = absurd (ne refl)
   block_at (suc e) ne h =
-      statements-many (λ r. readBlock (suc e - 1) r) (numberAt p 0) (drop 1 p) ∙ rw (sub-one (suc e), number_fits 0 255 p (omega arith) h)
+      statements-many (λ r. read_block (suc e - 1) r) (number_at p 0) (drop 1 p) ∙ rw (sub-one (suc e), number_fits_lem 0 255 p (omega arith) h)
 
-  block-off : (e : ℕ) → (e ≡ 0 → ⊥) → 255 < numberAt p 0 → told (stop p) ≡ told (readBlock e p)
-  unfolding readBlock
+  block-off : (e : ℕ) → (e ≡ 0 → ⊥) → 255 < number_at p 0 → told (stop p) ≡ told (read_block e p)
+  unfolding read_block
   block-off zero ne h = absurd (ne refl)
   block-off (suc e) ne h = rw (number-high 0 255 p (omega arith) h)
 
-  pub block-long : (d ≡ 0 → ⊥) → 255 < numberAt p 0 → told (stop p) ≡ told (readBlock d p)
+  pub block-long : (d ≡ 0 → ⊥) → 255 < number_at p 0 → told (stop p) ≡ told (read_block d p)
   block-long ne h = block-off d ne h
 
-  pub block_row : (d ≡ 0 → ⊥) → numberAt p 0 ≤ 255 → many (readStatement (d - 1)) (numberAt p 0) (last_of (length p - 1) p) ≡ readBlock d p
+  pub block_row : (d ≡ 0 → ⊥) → number_at p 0 ≤ 255 → many (read_statement (d - 1)) (number_at p 0) (last_of (length p - 1) p) ≡ read_block d p
   block_row ne h = rw (last-but-one p) (block_at d ne h)
 
 -- ---- the program
 
 module _ (p : List ℤ) {r : Piece} where
-  placed-unfit : (m : Reading (List ℤ)) → r ≡ told m → r.fits ≡ false → Unfit (length p - r.left) ≡ verdictOf (place_in p (m >>= λ q. ends q))
+  placed-unfit : (m : Reading (List ℤ)) → r ≡ told m → r.fits ≡ false → Unfit (length p - r.left) ≡ verdict_of (place_in p (m >>= λ q. ends q))
   unfolding place_in
   placed-unfit (got q) e h = let z : ◌≡◌ {A = Bool} true false = sym (ap (λ (x : Piece). x.fits) e) ∙ h in cc
   placed-unfit (stop q) e h = rw (ap (λ (x : Piece). x.left) e)
 
-  placed-reads : (m : Reading (List ℤ)) → r ≡ told m → r.fits ≡ true → r.left ≡ 0 → Reads ≡ verdictOf (place_in p (m >>= λ q. ends q))
+  placed-reads : (m : Reading (List ℤ)) → r ≡ told m → r.fits ≡ true → r.left ≡ 0 → Reads ≡ verdict_of (place_in p (m >>= λ q. ends q))
   unfolding place_in ends
   placed-reads (got q) e h z = rw (eq-eqb (length q) 0 (sym (ap (λ (x : Piece). x.left) e) ∙ z))
   placed-reads (stop q) e h z = let y : ◌≡◌ {A = Bool} true false = sym h ∙ ap (λ (x : Piece). x.fits) e in cc
 
-  placed-extra : (m : Reading (List ℤ)) → r ≡ told m → r.fits ≡ true → (r.left ≡ 0 → ⊥) → Unfit (length p - r.left) ≡ verdictOf (place_in p (m >>= λ q. ends q))
+  placed-extra : (m : Reading (List ℤ)) → r ≡ told m → r.fits ≡ true → (r.left ≡ 0 → ⊥) → Unfit (length p - r.left) ≡ verdict_of (place_in p (m >>= λ q. ends q))
   unfolding place_in ends
   placed-extra (got q) e h z = rw (ne_eqb (length q) 0 (λ n. z (ap (λ (x : Piece). x.left) e ∙ n)), ap (λ (x : Piece). x.left) e)
   placed-extra (stop q) e h z = let y : ◌≡◌ {A = Bool} true false = sym h ∙ ap (λ (x : Piece). x.fits) e in cc
 
 module _ (p : List ℤ) where
-  pub program-long : 4096 < length p → Unfit 4096 ≡ verdictOf (readProgram p)
-  unfolding readProgram
+  pub program-long : 4096 < length p → Unfit 4096 ≡ verdict_of (read_program p)
+  unfolding read_program
   program-long h = rw (lt-leb (length p) 4096 h)
 
   module _ (short : length p ≤ 4096) where
-    program-is : place_in p (readBlock 8 p >>= λ q. ends q) ≡ readProgram p
-    unfolding readProgram
+    program-is : place_in p (read_block 8 p >>= λ q. ends q) ≡ read_program p
+    unfolding read_program
     program-is = rw (le-leb (length p) 4096 short)
 
-    module _ {r : Piece} (e : r ≡ told (readBlock 8 p)) where
-      pub program-unfit : r.fits ≡ false → Unfit (length p - r.left) ≡ verdictOf (readProgram p)
-      program-unfit h = placed-unfit p (readBlock 8 p) e h ∙ ap verdictOf program-is
+    module _ {r : Piece} (e : r ≡ told (read_block 8 p)) where
+      pub program-unfit : r.fits ≡ false → Unfit (length p - r.left) ≡ verdict_of (read_program p)
+      program-unfit h = placed-unfit p (read_block 8 p) e h ∙ ap verdict_of program-is
 
-      pub program-reads : r.fits ≡ true → r.left ≡ 0 → Reads ≡ verdictOf (readProgram p)
-      program-reads h z = placed-reads p (readBlock 8 p) e h z ∙ ap verdictOf program-is
+      pub program-reads : r.fits ≡ true → r.left ≡ 0 → Reads ≡ verdict_of (read_program p)
+      program-reads h z = placed-reads p (read_block 8 p) e h z ∙ ap verdict_of program-is
 
-      pub program-extra : r.fits ≡ true → (r.left ≡ 0 → ⊥) → Unfit (length p - r.left) ≡ verdictOf (readProgram p)
-      program-extra h z = placed-extra p (readBlock 8 p) e h z ∙ ap verdictOf program-is
+      pub program-extra : r.fits ≡ true → (r.left ≡ 0 → ⊥) → Unfit (length p - r.left) ≡ verdict_of (read_program p)
+      program-extra h z = placed-extra p (read_block 8 p) e h z ∙ ap verdict_of program-is

@@ -6,12 +6,12 @@ use Prim.Native.Nat.{ℕ, zero, suc, ◌+◌, ◌-◌, ◌≤◌, ◌<◌}
 use native.Mathlib.Omega.{arith}
 use lib.IntN.{ℤ}
 use lib.ListN.{length, drop, length-drop}
-use Rattle.words.specs.Words.{numberAt, last_of}
+use Rattle.words.specs.Words.{number_at, last_of}
 use Rattle.words.specs.Answer.{Answer, got, stop, ◌>>=◌, ◌>>◌, want}
 use Rattle.words.proofs.AnswerLaws.{bind-cong}
 use Rattle.program.specs.declared.Piece.{Piece}
 use Rattle.program.specs.Told.{told}
-use Rattle.program.specs.Reading.{Reading, readPart, read_parts, readWith, readStatements, after}
+use Rattle.program.specs.Reading.{Reading, read_part, read_parts, read_with, read_statements, after}
 use Rattle.program.proofs.LengthLaws.{Part, part-trans, part-drop}
 use Rattle.program.proofs.ReadLaws.{halted, onward, told-left}
 
@@ -22,15 +22,15 @@ many one (suc n) p = do
   q ← one p
   many one n q
 
-pub parts-many : (m : ℕ) (p : List ℤ) → many readPart m p ≡ read_parts m p
+pub parts-many : (m : ℕ) (p : List ℤ) → many read_part m p ≡ read_parts m p
 unfolding read_parts many
 parts-many zero p = refl
-parts-many (suc m) p = bind-cong (readPart p) _ _ λ q e. parts-many m q
+parts-many (suc m) p = bind-cong (read_part p) _ _ λ q e. parts-many m q
 
-pub statements-many : (block : List ℤ → Reading (List ℤ)) (n : ℕ) (p : List ℤ) → many (readWith block) n p ≡ readStatements block n p
-unfolding readStatements many
+pub statements-many : (block : List ℤ → Reading (List ℤ)) (n : ℕ) (p : List ℤ) → many (read_with block) n p ≡ read_statements block n p
+unfolding read_statements many
 statements-many block zero p = refl
-statements-many block (suc n) p = bind-cong (readWith block p) _ _ λ q e. statements-many block n q
+statements-many block (suc n) p = bind-cong (read_with block p) _ _ λ q e. statements-many block n q
 
 -- the last words of a part
 pub last-part : (left : ℕ) (p : List ℤ) → Part p (last_of left p)

@@ -3,27 +3,27 @@
 use Rattle.std.specs.Prelude.{ℕ, ◌-◌, Bool, true, false, cond, List, [], ◌∷◌, leb, get_or}
 
 -- "A program is one block, filling at most 4,096 words."
-abbrev pub mostWords : ℕ
-mostWords = 4096
+abbrev pub most_words : ℕ
+most_words = 4096
 
 -- "Block: n (0 to 255), n statements. Blocks nest to depth 8, the outermost being 1."
-abbrev pub mostStatements : ℕ
-mostStatements = 255
+abbrev pub most_statements : ℕ
+most_statements = 255
 
-abbrev pub blockDepth : ℕ
-blockDepth = 8
+abbrev pub block_depth : ℕ
+block_depth = 8
 
 -- "Expressions nest to depth 16, a leaf being 1."
-abbrev pub expressionDepth : ℕ
-expressionDepth = 16
+abbrev pub expression_depth : ℕ
+expression_depth = 16
 
 -- "L: variable, n (0 to 7), n labels."
-abbrev pub mostSteps : ℕ
-mostSteps = 7
+abbrev pub most_steps : ℕ
+most_steps = 7
 
 -- "C: m (1 to 16), m times priority (1 weak, 2 medium, 3 required) and e."
-abbrev pub mostParts : ℕ
-mostParts = 16
+abbrev pub most_parts : ℕ
+most_parts = 16
 
 abbrev pub required : ℕ
 required = 3
@@ -34,20 +34,20 @@ operators = 11
 
 -- "e: 20 nil; 21 false; 22 true; 23 integer; 24 L; 25 operator e e; 26 L == L"
 pub data Form : Type 0 where
-  aNil aFalse aTrue anInteger aPath anOperation anIdentity noForm : Form
+  a_nil a_false a_true an_integer a_path an_operation an_identity no_form : Form
 
 abbrev pub forms : List Form
-forms = aNil ∷ aFalse ∷ aTrue ∷ anInteger ∷ aPath ∷ anOperation ∷ anIdentity ∷ []
+forms = a_nil ∷ a_false ∷ a_true ∷ an_integer ∷ a_path ∷ an_operation ∷ an_identity ∷ []
 
 unfoldable pub form_of : ℕ → Form
-form_of n = cond (leb 20 n) (get_or forms (n - 20) noForm) noForm
+form_of n = cond (leb 20 n) (get_or forms (n - 20) no_form) no_form
 
 -- "0 skip; 1 assign L e; 2 new; 3 always C; 4 once C; 5 always L == L; 6 once L == L; 7 if e block block; 8 while e block"
 pub data Verb : Type 0 where
-  skip assign new always once alwaysSame onceSame branch loop noVerb : Verb
+  skip assign new always once always_same once_same branch loop no_verb : Verb
 
 abbrev pub verbs : List Verb
-verbs = skip ∷ assign ∷ new ∷ always ∷ once ∷ alwaysSame ∷ onceSame ∷ branch ∷ loop ∷ []
+verbs = skip ∷ assign ∷ new ∷ always ∷ once ∷ always_same ∷ once_same ∷ branch ∷ loop ∷ []
 
-unfoldable pub verbOf : ℕ → Verb
-verbOf n = get_or verbs n noVerb
+unfoldable pub verb_of : ℕ → Verb
+verb_of n = get_or verbs n no_verb

@@ -3,10 +3,10 @@
 use Rattle.std.specs.Prelude.{ℕ, zero, suc, ◌-◌, ◌≤◌, ◌≡◌, Bool, true, false, not, cond, ◌&&◌, List, [], ◌∷◌, ◌++◌, leb, ℤ, length, take, drop, replicate}
 use Rattle.words.specs.Words.{number_of}
 use Rattle.words.specs.Answer.{Answer, got, stop}
-use Rattle.tables.specs.Sizes.{variables, labels, mostFields}
-use Rattle.program.specs.Forms.{mostStatements, blockDepth, expressionDepth, mostSteps, mostParts, required, operators}
-use Rattle.program.specs.Forms.{Form, aNil, aFalse, aTrue, anInteger, aPath, anOperation, anIdentity, noForm, form_of}
-use Rattle.program.specs.Forms.{Verb, skip, assign, new, always, once, alwaysSame, onceSame, branch, loop, noVerb, verbOf}
+use Rattle.tables.specs.Sizes.{variables, labels, most_fields}
+use Rattle.program.specs.Forms.{most_statements, block_depth, expression_depth, most_steps, most_parts, required, operators}
+use Rattle.program.specs.Forms.{Form, a_nil, a_false, a_true, an_integer, a_path, an_operation, an_identity, no_form, form_of}
+use Rattle.program.specs.Forms.{Verb, skip, assign, new, always, once, always_same, once_same, branch, loop, no_verb, verb_of}
 use Rattle.program.specs.Reading.{Reading, among}
 
 -- what the next word must begin or be
@@ -14,47 +14,47 @@ pub data Awaited : Type 0 where
   block : ℕ → Awaited
   statement : ℕ → Awaited
   path : Awaited
-  stepCount : Awaited
+  step_count : Awaited
   label : Awaited
   expression : ℕ → Bool → Awaited
   operator : ℕ → Bool → Awaited
   literal : Awaited
   target : Awaited
-  fieldCount : Awaited
+  field_count : Awaited
   field : ℕ → List ℕ → Awaited
   constraint : Awaited
   part : Awaited
 
 -- n fields more, after these labels
-abbrev pub fieldsMore : ℕ → List ℕ → List Awaited
-fieldsMore zero seen = []
-fieldsMore (suc n) seen = field n seen ∷ []
+abbrev pub fields_more : ℕ → List ℕ → List Awaited
+fields_more zero seen = []
+fields_more (suc n) seen = field n seen ∷ []
 
 -- a word may stand here or not; where it may, this is awaited after it
 abbrev pub May : Type 0
 May = Answer (Unit {0}) (List Awaited)
 
-unfoldable pub mayForm : ℕ → Bool → Form → May
-mayForm d in_c aNil = got []
-mayForm d in_c aFalse = got []
-mayForm d in_c aTrue = got []
-mayForm d in_c anInteger = got (literal ∷ [])
-mayForm d in_c aPath = got (path ∷ [])
-mayForm d in_c anOperation = got (operator d in_c ∷ [])
-mayForm d in_c anIdentity = cond in_c (stop tt) (got (path ∷ path ∷ []))
-mayForm d in_c noForm = stop tt
+unfoldable pub may_form : ℕ → Bool → Form → May
+may_form d in_c a_nil = got []
+may_form d in_c a_false = got []
+may_form d in_c a_true = got []
+may_form d in_c an_integer = got (literal ∷ [])
+may_form d in_c a_path = got (path ∷ [])
+may_form d in_c an_operation = got (operator d in_c ∷ [])
+may_form d in_c an_identity = cond in_c (stop tt) (got (path ∷ path ∷ []))
+may_form d in_c no_form = stop tt
 
-unfoldable pub mayVerb : ℕ → Verb → May
-mayVerb d skip = got []
-mayVerb d assign = got (path ∷ expression expressionDepth false ∷ [])
-mayVerb d new = got (target ∷ [])
-mayVerb d always = got (constraint ∷ [])
-mayVerb d once = got (constraint ∷ [])
-mayVerb d alwaysSame = got (path ∷ path ∷ [])
-mayVerb d onceSame = got (path ∷ path ∷ [])
-mayVerb d branch = got (expression expressionDepth false ∷ block d ∷ block d ∷ [])
-mayVerb d loop = got (expression expressionDepth false ∷ block d ∷ [])
-mayVerb d noVerb = stop tt
+unfoldable pub may_verb : ℕ → Verb → May
+may_verb d skip = got []
+may_verb d assign = got (path ∷ expression expression_depth false ∷ [])
+may_verb d new = got (target ∷ [])
+may_verb d always = got (constraint ∷ [])
+may_verb d once = got (constraint ∷ [])
+may_verb d always_same = got (path ∷ path ∷ [])
+may_verb d once_same = got (path ∷ path ∷ [])
+may_verb d branch = got (expression expression_depth false ∷ block d ∷ block d ∷ [])
+may_verb d loop = got (expression expression_depth false ∷ block d ∷ [])
+may_verb d no_verb = stop tt
 
 -- a number from low to high
 unfoldable pub between : ℕ → ℕ → ℕ → List Awaited → May
@@ -63,20 +63,20 @@ between low high n more = cond (leb low n && leb n high) (got more) (stop tt)
 -- the word with this number, where this is awaited; a literal may be any word
 unfoldable pub may : Awaited → ℕ → May
 may (block zero) n = stop tt
-may (block (suc d)) n = between 0 mostStatements n (replicate n (statement d))
-may (statement d) n = mayVerb d (verbOf n)
-may path n = between 0 (variables - 1) n (stepCount ∷ [])
-may stepCount n = between 0 mostSteps n (replicate n label)
+may (block (suc d)) n = between 0 most_statements n (replicate n (statement d))
+may (statement d) n = may_verb d (verb_of n)
+may path n = between 0 (variables - 1) n (step_count ∷ [])
+may step_count n = between 0 most_steps n (replicate n label)
 may label n = between 0 (labels - 1) n []
 may (expression zero in_c) n = stop tt
-may (expression (suc d) in_c) n = mayForm d in_c (form_of n)
+may (expression (suc d) in_c) n = may_form d in_c (form_of n)
 may (operator d in_c) n = between 1 operators n (expression d in_c ∷ expression d in_c ∷ [])
 may literal n = got []
-may target n = between 0 (variables - 1) n (fieldCount ∷ [])
-may fieldCount n = between 0 mostFields n (fieldsMore n [])
-may (field more seen) n = cond (among n seen) (stop tt) (between 0 (labels - 1) n (expression expressionDepth false ∷ fieldsMore more (n ∷ seen)))
-may constraint n = between 1 mostParts n (replicate n part)
-may part n = between 1 required n (expression expressionDepth true ∷ [])
+may target n = between 0 (variables - 1) n (field_count ∷ [])
+may field_count n = between 0 most_fields n (fields_more n [])
+may (field more seen) n = cond (among n seen) (stop tt) (between 0 (labels - 1) n (expression expression_depth false ∷ fields_more more (n ∷ seen)))
+may constraint n = between 1 most_parts n (replicate n part)
+may part n = between 1 required n (expression expression_depth true ∷ [])
 
 -- the words are judged from left to right: a word that may not stand, words that run out, and "for extra words, the first"
 unfoldable pub judge : List Awaited → List ℤ → Reading (Unit {0})
@@ -87,7 +87,7 @@ judge (a ∷ more) (w ∷ p) = elim (may a (number_of w)) [ got then ↦ judge (
 
 -- after the words of a program's beginning, each of which may stand where it stands, this is awaited
 pub data Awaits : List ℤ → List Awaited → Type 0 where
-  begin : Awaits [] (block blockDepth ∷ [])
+  begin : Awaits [] (block block_depth ∷ [])
   next : {ws : List ℤ} {a : Awaited} {more then : List Awaited} (w : ℤ)
       → Awaits ws (a ∷ more) → may a (number_of w) ≡ got then → Awaits (ws ++ (w ∷ [])) (then ++ more)
 

@@ -1,9 +1,9 @@
 -- Marks on the words of a program at which statements begin, a bit for each. Assumes nothing: these are definitions.
 use Rattle.std.specs.Prelude.{ℕ, ◌-◌, ◌*◌, ◌<◌, ◌≡◌, Bool, true, false, ◌&&◌, ◌||◌, List, ℤ, length}
 use Rattle.words.specs.Bits.{marked}
-use Rattle.program.specs.Forms.{blockDepth}
+use Rattle.program.specs.Forms.{block_depth}
 use Rattle.tables.specs.declared.Sort.TheVariants.{Values, Identities}
-use Rattle.program.specs.Where.{spotBlock, positionsStand}
+use Rattle.program.specs.Where.{spot_block, positions_stand}
 use Rattle.program.specs.declared.Spot.{Spot}
 use Rattle.program.specs.declared.Spot.TheVariants.{At, Nowhere}
 
@@ -17,8 +17,8 @@ pub record Marked (total : ℕ) (spot : ℕ → Spot) (before marks : List ℕ) 
 
 -- the marks are those of the program's statements
 pub record MarksOf (program : List ℤ) (marks : List ℕ) : Type 0 where
-  pub at : (i : ℕ) → i < length program → marked marks i ≡ found (spotBlock blockDepth (length program - i) program)
+  pub at : (i : ℕ) → i < length program → marked marks i ≡ found (spot_block block_depth (length program - i) program)
 
 -- the kept positions of both sorts
-abbrev pub bothStand : List ℤ → List ℤ → Bool
-bothStand p c = positionsStand p c Values && positionsStand p c Identities
+abbrev pub both_stand : List ℤ → List ℤ → Bool
+both_stand p c = positions_stand p c Values && positions_stand p c Identities

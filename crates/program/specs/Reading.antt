@@ -2,12 +2,12 @@
 -- The answer is the part after the piece, or the part that begins at the first unfit word, which is empty where words run out.
 -- Assumes nothing: these are definitions.
 use Rattle.std.specs.Prelude.{ℕ, zero, suc, ◌-◌, Bool, true, false, not, cond, ◌&&◌, ◌||◌, List, [], ◌∷◌, eqb, ltb, leb, ℤ, length, drop}
-use Rattle.words.specs.Words.{numberAt}
+use Rattle.words.specs.Words.{number_at}
 use Rattle.words.specs.Answer.{Answer, got, stop, ◌>>=◌, ◌>>◌, want}
-use Rattle.tables.specs.Sizes.{variables, labels, mostFields}
-use Rattle.program.specs.Forms.{mostWords, mostStatements, blockDepth, expressionDepth, mostSteps, mostParts, required, operators}
-use Rattle.program.specs.Forms.{Form, aNil, aFalse, aTrue, anInteger, aPath, anOperation, anIdentity, noForm, form_of}
-use Rattle.program.specs.Forms.{Verb, skip, assign, new, always, once, alwaysSame, onceSame, branch, loop, noVerb, verbOf}
+use Rattle.tables.specs.Sizes.{variables, labels, most_fields}
+use Rattle.program.specs.Forms.{most_words, most_statements, block_depth, expression_depth, most_steps, most_parts, required, operators}
+use Rattle.program.specs.Forms.{Form, a_nil, a_false, a_true, an_integer, a_path, an_operation, an_identity, no_form, form_of}
+use Rattle.program.specs.Forms.{Verb, skip, assign, new, always, once, always_same, once_same, branch, loop, no_verb, verb_of}
 
 abbrev pub Reading : Type 0 → Type 0
 Reading A = Answer (List ℤ) A
@@ -15,66 +15,66 @@ Reading A = Answer (List ℤ) A
 -- a word from low to high as a number, and the part after it
 unfoldable pub number : ℕ → ℕ → List ℤ → Reading (ℕ × List ℤ)
 number low high p = do
-  want p (leb low (numberAt p 0) && leb (numberAt p 0) high)
-  got (numberAt p 0, drop 1 p)
+  want p (leb low (number_at p 0) && leb (number_at p 0) high)
+  got (number_at p 0, drop 1 p)
 
 -- any word
-unfoldable pub anyWord : List ℤ → Reading (List ℤ)
-anyWord p = want p (ltb 0 (length p)) >> got (drop 1 p)
+unfoldable pub any_word : List ℤ → Reading (List ℤ)
+any_word p = want p (ltb 0 (length p)) >> got (drop 1 p)
 
-unfoldable pub readLabels : ℕ → List ℤ → Reading (List ℤ)
-readLabels zero p = got p
-readLabels (suc n) p = do
+unfoldable pub read_labels : ℕ → List ℤ → Reading (List ℤ)
+read_labels zero p = got p
+read_labels (suc n) p = do
   (l, q) ← number 0 (labels - 1) p
-  readLabels n q
+  read_labels n q
 
 -- "L: variable, n (0 to 7), n labels."
-unfoldable pub readPath : List ℤ → Reading (List ℤ)
-readPath p = do
+unfoldable pub read_path : List ℤ → Reading (List ℤ)
+read_path p = do
   (x, q) ← number 0 (variables - 1) p
-  (n, r) ← number 0 mostSteps q
-  readLabels n r
+  (n, r) ← number 0 most_steps q
+  read_labels n r
 
 -- L == L, which has no word of its own between the two
-unfoldable pub readPaths : List ℤ → Reading (List ℤ)
-readPaths p = do
-  q ← readPath p
-  readPath q
+unfoldable pub read_paths : List ℤ → Reading (List ℤ)
+read_paths p = do
+  q ← read_path p
+  read_path q
 
 -- an expression whose first word, at p, is of this form; `go` reads one nested a level deeper, and in_c says that it stands inside C
-unfoldable pub readForm : (List ℤ → Reading (List ℤ)) → Bool → List ℤ → Form → Reading (List ℤ)
-readForm go in_c p aNil = got (drop 1 p)
-readForm go in_c p aFalse = got (drop 1 p)
-readForm go in_c p aTrue = got (drop 1 p)
-readForm go in_c p anInteger = anyWord (drop 1 p)
-readForm go in_c p aPath = readPath (drop 1 p)
-readForm go in_c p anOperation = do
+unfoldable pub read_form : (List ℤ → Reading (List ℤ)) → Bool → List ℤ → Form → Reading (List ℤ)
+read_form go in_c p a_nil = got (drop 1 p)
+read_form go in_c p a_false = got (drop 1 p)
+read_form go in_c p a_true = got (drop 1 p)
+read_form go in_c p an_integer = any_word (drop 1 p)
+read_form go in_c p a_path = read_path (drop 1 p)
+read_form go in_c p an_operation = do
   (o, q) ← number 1 operators (drop 1 p)
   r ← go q
   go r
-readForm go in_c p anIdentity = want p (not in_c) >> readPaths (drop 1 p)
-readForm go in_c p noForm = stop p
+read_form go in_c p an_identity = want p (not in_c) >> read_paths (drop 1 p)
+read_form go in_c p no_form = stop p
 
 -- e, nested at most d deep
-unfoldable pub readExpression : ℕ → Bool → List ℤ → Reading (List ℤ)
-readExpression zero in_c p = stop p
-readExpression (suc d) in_c p = readForm (λ q. readExpression d in_c q) in_c p (form_of (numberAt p 0))
+unfoldable pub read_expression : ℕ → Bool → List ℤ → Reading (List ℤ)
+read_expression zero in_c p = stop p
+read_expression (suc d) in_c p = read_form (λ q. read_expression d in_c q) in_c p (form_of (number_at p 0))
 
 -- "C: m (1 to 16), m times priority (1 weak, 2 medium, 3 required) and e."
-unfoldable pub readPart : List ℤ → Reading (List ℤ)
-readPart p = do
+unfoldable pub read_part : List ℤ → Reading (List ℤ)
+read_part p = do
   (k, q) ← number 1 required p
-  readExpression expressionDepth true q
+  read_expression expression_depth true q
 
 unfoldable pub read_parts : ℕ → List ℤ → Reading (List ℤ)
 read_parts zero p = got p
 read_parts (suc m) p = do
-  q ← readPart p
+  q ← read_part p
   read_parts m q
 
-unfoldable pub readConstraint : List ℤ → Reading (List ℤ)
-readConstraint p = do
-  (m, q) ← number 1 mostParts p
+unfoldable pub read_constraint : List ℤ → Reading (List ℤ)
+read_constraint p = do
+  (m, q) ← number 1 most_parts p
   read_parts m q
 
 unfoldable pub among : ℕ → List ℕ → Bool
@@ -82,64 +82,64 @@ among n [] = false
 among n (x ∷ xs) = eqb n x || among n xs
 
 -- "n times label e, labels different"; the labels that came before are in `seen`
-unfoldable pub readFields : ℕ → List ℕ → List ℤ → Reading (List ℤ)
-readFields zero seen p = got p
-readFields (suc n) seen p = do
+unfoldable pub read_fields : ℕ → List ℕ → List ℤ → Reading (List ℤ)
+read_fields zero seen p = got p
+read_fields (suc n) seen p = do
   (l, q) ← number 0 (labels - 1) p
   want p (not (among l seen))
-  r ← readExpression expressionDepth false q
-  readFields n (l ∷ seen) r
+  r ← read_expression expression_depth false q
+  read_fields n (l ∷ seen) r
 
 -- "2 new: variable, n (0 to 8), n times label e"
-unfoldable pub readNew : List ℤ → Reading (List ℤ)
-readNew p = do
+unfoldable pub read_new : List ℤ → Reading (List ℤ)
+read_new p = do
   (x, q) ← number 0 (variables - 1) p
-  (n, r) ← number 0 mostFields q
-  readFields n [] r
+  (n, r) ← number 0 most_fields q
+  read_fields n [] r
 
 -- "1 assign L e"
-unfoldable pub readAssign : List ℤ → Reading (List ℤ)
-readAssign p = do
-  q ← readPath p
-  readExpression expressionDepth false q
+unfoldable pub read_assign : List ℤ → Reading (List ℤ)
+read_assign p = do
+  q ← read_path p
+  read_expression expression_depth false q
 
 -- a statement whose first word, at p, is this verb; `block` reads a block that it holds
-unfoldable pub readVerb : (List ℤ → Reading (List ℤ)) → List ℤ → Verb → Reading (List ℤ)
-readVerb block p skip = got (drop 1 p)
-readVerb block p assign = readAssign (drop 1 p)
-readVerb block p new = readNew (drop 1 p)
-readVerb block p always = readConstraint (drop 1 p)
-readVerb block p once = readConstraint (drop 1 p)
-readVerb block p alwaysSame = readPaths (drop 1 p)
-readVerb block p onceSame = readPaths (drop 1 p)
-readVerb block p branch = do
-  q ← readExpression expressionDepth false (drop 1 p)
+unfoldable pub read_verb : (List ℤ → Reading (List ℤ)) → List ℤ → Verb → Reading (List ℤ)
+read_verb block p skip = got (drop 1 p)
+read_verb block p assign = read_assign (drop 1 p)
+read_verb block p new = read_new (drop 1 p)
+read_verb block p always = read_constraint (drop 1 p)
+read_verb block p once = read_constraint (drop 1 p)
+read_verb block p always_same = read_paths (drop 1 p)
+read_verb block p once_same = read_paths (drop 1 p)
+read_verb block p branch = do
+  q ← read_expression expression_depth false (drop 1 p)
   r ← block q
   block r
-readVerb block p loop = do
-  q ← readExpression expressionDepth false (drop 1 p)
+read_verb block p loop = do
+  q ← read_expression expression_depth false (drop 1 p)
   block q
-readVerb block p noVerb = stop p
+read_verb block p no_verb = stop p
 
-unfoldable pub readWith : (List ℤ → Reading (List ℤ)) → List ℤ → Reading (List ℤ)
-readWith block p = readVerb block p (verbOf (numberAt p 0))
+unfoldable pub read_with : (List ℤ → Reading (List ℤ)) → List ℤ → Reading (List ℤ)
+read_with block p = read_verb block p (verb_of (number_at p 0))
 
-unfoldable pub readStatements : (List ℤ → Reading (List ℤ)) → ℕ → List ℤ → Reading (List ℤ)
-readStatements block zero p = got p
-readStatements block (suc n) p = do
-  q ← readWith block p
-  readStatements block n q
+unfoldable pub read_statements : (List ℤ → Reading (List ℤ)) → ℕ → List ℤ → Reading (List ℤ)
+read_statements block zero p = got p
+read_statements block (suc n) p = do
+  q ← read_with block p
+  read_statements block n q
 
 -- a block, nested at most d deep
-unfoldable pub readBlock : ℕ → List ℤ → Reading (List ℤ)
-readBlock zero p = stop p
-readBlock (suc d) p = do
-  (n, q) ← number 0 mostStatements p
-  readStatements (λ r. readBlock d r) n q
+unfoldable pub read_block : ℕ → List ℤ → Reading (List ℤ)
+read_block zero p = stop p
+read_block (suc d) p = do
+  (n, q) ← number 0 most_statements p
+  read_statements (λ r. read_block d r) n q
 
 -- a statement whose blocks nest at most d deep
-unfoldable pub readStatement : ℕ → List ℤ → Reading (List ℤ)
-readStatement d p = readWith (λ r. readBlock d r) p
+unfoldable pub read_statement : ℕ → List ℤ → Reading (List ℤ)
+read_statement d p = read_with (λ r. read_block d r) p
 
 -- no word is left: "for extra words, the first"
 unfoldable pub ends : List ℤ → Reading (Unit {0})
@@ -150,8 +150,8 @@ unfoldable pub place_in : List ℤ → Reading (Unit {0}) → Answer ℕ (Unit {
 place_in p (got u) = got tt
 place_in p (stop q) = stop (length p - length q)
 
-unfoldable pub readProgram : List ℤ → Answer ℕ (Unit {0})
-readProgram p = cond (leb (length p) mostWords) (place_in p (readBlock blockDepth p >>= λ q. ends q)) (stop mostWords)
+unfoldable pub read_program : List ℤ → Answer ℕ (Unit {0})
+read_program p = cond (leb (length p) most_words) (place_in p (read_block block_depth p >>= λ q. ends q)) (stop most_words)
 
 -- the part after a piece; the part at the unfit word where it does not read
 unfoldable pub after : Reading (List ℤ) → List ℤ

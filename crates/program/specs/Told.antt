@@ -12,6 +12,6 @@ told (got q) = record { fits = true; left = length q }
 told (stop q) = record { fits = false; left = length q }
 
 -- outcome 2 is `Unfit` with its place
-abbrev pub verdictOf : Answer ℕ (Unit {0}) → Verdict
-verdictOf (got u) = Reads
-verdictOf (stop place) = Unfit place
+abbrev pub verdict_of : Answer ℕ (Unit {0}) → Verdict
+verdict_of (got u) = Reads
+verdict_of (stop place) = Unfit place

@@ -1,13 +1,13 @@
 // Statements, blocks and the whole program.
 ghost use Rattle.std.specs.Prelude.{◌≡◌, []};
-ghost use Rattle.program.specs.Told.{told, verdictOf};
-ghost use Rattle.program.specs.Reading.{readFields, readNew, readAssign, readStatement, readBlock, readProgram};
+ghost use Rattle.program.specs.Told.{told, verdict_of};
+ghost use Rattle.program.specs.Reading.{read_fields, read_new, read_assign, read_statement, read_block, read_program};
 
 use super::reading::{read_constraint, read_expression, read_path, read_paths, unfit};
 use crate::{BLOCK_DEPTH, EXPRESSION_DEPTH, MOST_STATEMENTS, MOST_WORDS, Piece, Verdict};
 
 fn read_fields(p: &[i32], n: usize) -> Piece
-    ensures { result ≡ told (readFields n [] p.now) }
+    ensures { result ≡ told (read_fields n [] p.now) }
 {
     let mut seen: [bool; 32] = [false; 32];
     let mut left = p.len();
@@ -37,7 +37,7 @@ fn read_fields(p: &[i32], n: usize) -> Piece
 
 // What follows the word of new: variable, n, n times label and e.
 fn read_new(p: &[i32]) -> Piece
-    ensures { result ≡ told (readNew p.now) }
+    ensures { result ≡ told (read_new p.now) }
 {
     if tables::VARIABLES <= words::number_at(p, 0) {
         return unfit(p);
@@ -52,7 +52,7 @@ fn read_new(p: &[i32]) -> Piece
 
 // What follows the word of an assignment: L e.
 fn read_assign(p: &[i32]) -> Piece
-    ensures { result ≡ told (readAssign p.now) }
+    ensures { result ≡ told (read_assign p.now) }
 {
     let a = read_path(p);
     if !a.fits {
@@ -64,7 +64,7 @@ fn read_assign(p: &[i32]) -> Piece
 // A statement whose blocks nest at most d deep.
 #[cycle(read_block_read_statement)]
 pub fn read_statement(p: &[i32], d: usize) -> Piece
-    ensures { result ≡ told (readStatement d p.now) }
+    ensures { result ≡ told (read_statement d p.now) }
 {
     let verb = words::number_at(p, 0);
     let q = words::part_from(p, 1);
@@ -104,7 +104,7 @@ pub fn read_statement(p: &[i32], d: usize) -> Piece
 // A block, nested at most d deep.
 #[cycle(read_block_read_statement)]
 pub fn read_block(p: &[i32], d: usize) -> Piece
-    ensures { result ≡ told (readBlock d p.now) }
+    ensures { result ≡ told (read_block d p.now) }
 {
     if d == 0 {
         return unfit(p);
@@ -131,7 +131,7 @@ pub fn read_block(p: &[i32], d: usize) -> Piece
 
 // Outcome 2's verdict on a program.
 pub fn read_program(p: &[i32]) -> Verdict
-    ensures { result ≡ verdictOf (readProgram p.now) }
+    ensures { result ≡ verdict_of (read_program p.now) }
 {
     if MOST_WORDS < p.len() {
         return Verdict::Unfit(MOST_WORDS);

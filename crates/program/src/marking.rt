@@ -1,7 +1,7 @@
 // Marks on the words at which statements begin, a bit for each word: the program is read once, however many positions are kept.
 ghost use Rattle.std.specs.Prelude.{◌≡◌, ◌≤◌, length};
-ghost use Rattle.program.specs.Where.{spotBlock, spotStatement, isAlways, positionsStand};
-ghost use Rattle.program.specs.Marking.{Marked, MarksOf, bothStand};
+ghost use Rattle.program.specs.Where.{spot_block, spot_statement, is_always, positions_stand};
+ghost use Rattle.program.specs.Marking.{Marked, MarksOf, both_stand};
 
 use super::blocks::{read_block, read_statement};
 use super::places::always_of;
@@ -17,7 +17,7 @@ const MARKS_WORDS: usize = MOST_WORDS / 64;
 #[cycle(mark_block_mark_statement)]
 fn mark_statement(p: &[i32], d: usize, total: usize, marks: &mut [u64])
     requires { length p.now ≤ total }
-    ensures { Marked total (λ left. spotStatement (λ q. spotBlock d left q) d left p.now) marks.old marks.new }
+    ensures { Marked total (λ left. spot_statement (λ q. spot_block d left q) d left p.now) marks.old marks.new }
 {
     mark(marks, total - p.len());
     let q = words::part_from(p, 1);
@@ -41,7 +41,7 @@ fn mark_statement(p: &[i32], d: usize, total: usize, marks: &mut [u64])
 #[cycle(mark_block_mark_statement)]
 fn mark_block(p: &[i32], d: usize, total: usize, marks: &mut [u64])
     requires { length p.now ≤ total }
-    ensures { Marked total (λ left. spotBlock d left p.now) marks.old marks.new }
+    ensures { Marked total (λ left. spot_block d left p.now) marks.old marks.new }
 {
     if d == 0 {
         return;
@@ -64,7 +64,7 @@ fn mark_block(p: &[i32], d: usize, total: usize, marks: &mut [u64])
 // Where the marks are the program's.
 fn is_always_marked(program: &[i32], s: Sort, at: usize, marks: &[u64]) -> bool
     requires { MarksOf program.now marks.now }
-    ensures { result ≡ isAlways program.now s at }
+    ensures { result ≡ is_always program.now s at }
 {
     if program.len() <= at {
         return false;
@@ -78,7 +78,7 @@ fn is_always_marked(program: &[i32], s: Sort, at: usize, marks: &[u64]) -> bool
 // Every kept position of the sort is marked and has the sort's verb.
 fn positions_marked(program: &[i32], constraints: &[i32], s: Sort, marks: &[u64]) -> bool
     requires { MarksOf program.now marks.now }
-    ensures { result ≡ positionsStand program.now constraints.now s }
+    ensures { result ≡ positions_stand program.now constraints.now s }
 {
     let n = tables::kept::kept_count(constraints, s);
     let mut i: usize = 0;
@@ -95,7 +95,7 @@ fn positions_marked(program: &[i32], constraints: &[i32], s: Sort, marks: &[u64]
 // Every kept position of both sorts, by marks that are made once.
 pub(crate) fn marks_stand(program: &[i32], constraints: &[i32]) -> bool
     requires { length program.now ≤ 4096 }
-    ensures { result ≡ bothStand program.now constraints.now }
+    ensures { result ≡ both_stand program.now constraints.now }
 {
     let mut marks = [0u64; MARKS_WORDS];
     mark_block(program, BLOCK_DEPTH, program.len(), &mut marks);

@@ -1,6 +1,6 @@
 // Where the statements are. A word is named by how many words are left from it on.
 ghost use Rattle.std.specs.Prelude.{◌≡◌};
-ghost use Rattle.program.specs.Where.{spotBlock, spotStatement, statementAt, alwaysOf, constraintsStand};
+ghost use Rattle.program.specs.Where.{spot_block, spot_statement, statement_at, always_of, constraints_stand};
 
 use super::blocks::{read_block, read_statement};
 use super::marking::marks_stand;
@@ -11,7 +11,7 @@ use tables::Sort;
 // The statement at p, whose blocks nest at most d deep, or one inside it.
 #[cycle(spot_block_spot_statement)]
 fn spot_statement(p: &[i32], d: usize, left: usize) -> Spot
-    ensures { result ≡ spotStatement (λ q. spotBlock d left q) d left p.now }
+    ensures { result ≡ spot_statement (λ q. spot_block d left q) d left p.now }
 {
     let verb = words::number_at(p, 0);
     if p.len() == left {
@@ -41,7 +41,7 @@ fn spot_statement(p: &[i32], d: usize, left: usize) -> Spot
 // The statement of the block at p from which on `left` words are left.
 #[cycle(spot_block_spot_statement)]
 fn spot_block(p: &[i32], d: usize, left: usize) -> Spot
-    ensures { result ≡ spotBlock d left p.now }
+    ensures { result ≡ spot_block d left p.now }
 {
     if d == 0 {
         return Spot::Nowhere;
@@ -66,7 +66,7 @@ fn spot_block(p: &[i32], d: usize, left: usize) -> Spot
 
 // The statement of a program that begins at this word: its verb's number, and how deep its own blocks may nest.
 pub fn statement_at(program: &[i32], at: usize) -> Spot
-    ensures { result ≡ statementAt program.now at }
+    ensures { result ≡ statement_at program.now at }
 {
     if program.len() <= at {
         return Spot::Nowhere;
@@ -76,7 +76,7 @@ pub fn statement_at(program: &[i32], at: usize) -> Spot
 
 // The number of the always-statement of a sort.
 pub fn always_of(s: Sort) -> usize
-    ensures { result ≡ alwaysOf s }
+    ensures { result ≡ always_of s }
 {
     match s {
         Sort::Values => 3,
@@ -86,7 +86,7 @@ pub fn always_of(s: Sort) -> usize
 
 // The constraints table is fit for this program. Where no position is kept, the program is not read.
 pub fn constraints_stand(program: &[i32], constraints: &[i32]) -> bool
-    ensures { result ≡ constraintsStand program.now constraints.now }
+    ensures { result ≡ constraints_stand program.now constraints.now }
 {
     if MOST_WORDS < program.len() {
         return false;

@@ -2,7 +2,7 @@
 ghost use Rattle.std.specs.Prelude.{◌≡◌};
 ghost use Rattle.words.specs.Answer.{stop};
 ghost use Rattle.program.specs.Told.{told};
-ghost use Rattle.program.specs.Reading.{anyWord, readLabels, readPath, readPaths, readExpression, readPart, read_parts, readConstraint};
+ghost use Rattle.program.specs.Reading.{any_word, read_labels, read_path, read_paths, read_expression, read_part, read_parts, read_constraint};
 
 use crate::{EXPRESSION_DEPTH, MOST_PARTS, MOST_STEPS, OPERATORS, Piece, REQUIRED};
 
@@ -17,7 +17,7 @@ pub fn unfit(p: &[i32]) -> Piece
 }
 
 fn read_word(p: &[i32]) -> Piece
-    ensures { result ≡ told (anyWord p.now) }
+    ensures { result ≡ told (any_word p.now) }
 {
     if p.len() == 0 {
         return unfit(p);
@@ -29,7 +29,7 @@ fn read_word(p: &[i32]) -> Piece
 }
 
 fn read_labels(p: &[i32], n: usize) -> Piece
-    ensures { result ≡ told (readLabels n p.now) }
+    ensures { result ≡ told (read_labels n p.now) }
 {
     let mut i: usize = 0;
     while i < n {
@@ -46,7 +46,7 @@ fn read_labels(p: &[i32], n: usize) -> Piece
 
 // L: variable, n, n labels.
 pub fn read_path(p: &[i32]) -> Piece
-    ensures { result ≡ told (readPath p.now) }
+    ensures { result ≡ told (read_path p.now) }
 {
     if tables::VARIABLES <= words::number_at(p, 0) {
         return unfit(p);
@@ -61,7 +61,7 @@ pub fn read_path(p: &[i32]) -> Piece
 
 // The two paths of L == L.
 pub fn read_paths(p: &[i32]) -> Piece
-    ensures { result ≡ told (readPaths p.now) }
+    ensures { result ≡ told (read_paths p.now) }
 {
     let a = read_path(p);
     if !a.fits {
@@ -72,7 +72,7 @@ pub fn read_paths(p: &[i32]) -> Piece
 
 // e, nested at most d deep; in_c: inside C.
 pub fn read_expression(p: &[i32], d: usize, in_c: bool) -> Piece
-    ensures { result ≡ told (readExpression d in_c p.now) }
+    ensures { result ≡ told (read_expression d in_c p.now) }
 {
     if d == 0 {
         return unfit(p);
@@ -121,7 +121,7 @@ pub fn read_expression(p: &[i32], d: usize, in_c: bool) -> Piece
 
 // A part of C: priority and e.
 pub fn read_part(p: &[i32]) -> Piece
-    ensures { result ≡ told (readPart p.now) }
+    ensures { result ≡ told (read_part p.now) }
 {
     let priority = words::number_at(p, 0);
     if priority == 0 {
@@ -154,7 +154,7 @@ fn read_parts(p: &[i32], m: usize) -> Piece
 
 // C: m, m parts.
 pub fn read_constraint(p: &[i32]) -> Piece
-    ensures { result ≡ told (readConstraint p.now) }
+    ensures { result ≡ told (read_constraint p.now) }
 {
     let m = words::number_at(p, 0);
     if m == 0 {

@@ -14,7 +14,7 @@ use Rattle.rules.proofs.EffectLaws.{settles-near}
 use Rattle.rules.proofs.ProposalLaws.{settle-iff}
 use Rattle.proposals.specs.declared.Settled.{Settled}
 use Rattle.proposals.specs.declared.Settled.TheVariants.{Takes, Refuses}
-use Rattle.proposals.specs.Told.{settled_of, settledCells, Settles}
+use Rattle.proposals.specs.Told.{settled_of, settled_cells, Settles}
 use Rattle.proposals.specs.Claims.{TakenMoves, RefusedStays, TakenExactly}
 use Rattle.proposals.proofs.FormLaws.{unlike}
 
@@ -23,7 +23,7 @@ module _ {S Z : Cells} {r : Settled} (m : Res (Cells × List ℤ)) (s : Settles 
   pub taken_is {ℓ} : {X : Type ℓ} {left : ℕ} → r ≡ Takes left → ((rest : List ℤ) → m ≡ got (Z, rest) → length rest ≡ left → X) → X
   taken_is {X = X} {left = left} h k = by m s.is s.leaves (λ rest e l. k rest e l)
     where
-      by : (y : Res (Cells × List ℤ)) → r ≡ settled_of y → Z ≡ settledCells S y → ((rest : List ℤ) → y ≡ got (Z, rest) → length rest ≡ left → X) → X
+      by : (y : Res (Cells × List ℤ)) → r ≡ settled_of y → Z ≡ settled_cells S y → ((rest : List ℤ) → y ≡ got (Z, rest) → length rest ≡ left → X) → X
       by (got x) i z k = k x.1 (rw z) (let q = sym i ∙ h in cc)
       by (stop f) i z k = absurd (let q : Refuses f.number f.word ≡ Takes left = sym i ∙ h in let y : ◌≡◌ {A = ℕ} 0 1 = cc in omega arith)
 

@@ -10,7 +10,7 @@ use lib.Dec.{ltb, leb}
 use lib.IntN.{ℤ, pos}
 use lib.ListN.{length, drop}
 use lib.Seq.{drop-drop}
-use Rattle.words.specs.Words.{number_of, numberAt}
+use Rattle.words.specs.Words.{number_of, number_at}
 use Rattle.words.specs.Answer.{Answer, got, stop, ◌>>=◌, ◌>>◌, want}
 use Rattle.words.proofs.Laws.{number-first, number-drop}
 use Rattle.words.proofs.AnswerLaws.{either}
@@ -22,7 +22,7 @@ use Rattle.rules.proofs.ConstraintClauses.{listed-none, listed_more}
 use Rattle.rules.proofs.ProposalClauses.{entries_none, entries-no-words, entries-one-word, entries-more, proposal-none, proposal-more}
 use Rattle.rules.proofs.EntryLaws.{entries-few, formed-iff, entries-stop}
 use Rattle.proposals.specs.declared.Formed.TheVariants.{Pairs, Not}
-use Rattle.proposals.specs.Told.{answers, entry_at, entriesIn, formedOf}
+use Rattle.proposals.specs.Told.{answers, entry_at, entries_in, formed_of}
 
 pub unlike {ℓ} : {X : Type ℓ} → ◌≡◌ {A = ℕ} 0 1 → X
 unlike e = absurd (let y : ⊥ = omega arith in y)
@@ -40,7 +40,7 @@ few_words m low (l ∷ []) h = rw (entries-one-word m low l)
 few_words m low (l ∷ v ∷ q) h = let z : ⊥ = omega arith in absurd z
 
 one-pair : (m low : ℕ) (q : List ℤ) → 2 ≤ length q
-    → answers (entries (suc m) low q) ≡ ((leb low (numberAt q 0) && ltb (numberAt q 0) locations) && answers (entries m (numberAt q 0 + 1) (drop 2 q)))
+    → answers (entries (suc m) low q) ≡ ((leb low (number_at q 0) && ltb (number_at q 0) locations) && answers (entries m (number_at q 0 + 1) (drop 2 q)))
 one-pair m low [] h = let z : ⊥ = omega arith in absurd z
 one-pair m low (l ∷ []) h = let z : ⊥ = omega arith in absurd z
 one-pair m low (l ∷ v ∷ q) h =
@@ -63,7 +63,7 @@ module _ {pairs : List ℤ} {n i low : ℕ} (inv : PairsLeft pairs n i low) wher
     pub pairs-cut : length q < 2 → false ≡ answers (entries n 0 pairs)
     pairs-cut h = sym (few_words (n - (i + 1)) low q h) ∙ pairs-turn
 
-    module _ (two : 2 ≤ length q) {l : ℕ} (e : l ≡ numberAt q 0) where
+    module _ (two : 2 ≤ length q) {l : ℕ} (e : l ≡ number_at q 0) where
       pairs-pair : ((leb low l && ltb l locations) && answers (entries (n - (i + 1)) (l + 1) (drop 2 q))) ≡ answers (entries n 0 pairs)
       pairs-pair = (rw e (sym (one-pair (n - (i + 1)) low q two))) ∙ pairs-turn
 
@@ -92,7 +92,7 @@ entries-count (next a b others) = ap suc (entries-count others)
 formed-count : {w : ℤ} {ws rest : List ℤ} {es : List Entry} → Formed (w ∷ ws) es rest → number_of w ≡ length es
 formed-count (by_count is) = entries-count is
 
-pub form-none : (ws : List ℤ) → length ws ≡ 0 → Not 6 ≡ formedOf (proposal ws)
+pub form-none : (ws : List ℤ) → length ws ≡ 0 → Not 6 ≡ formed_of (proposal ws)
 form-none [] h = rw proposal-none
 form-none (n ∷ ws) h = let z : ⊥ = omega arith in absurd z
 
@@ -100,17 +100,17 @@ module _ (n : ℤ) (ws : List ℤ) (few : number_of n ≤ locations) where
   proposal-entries : proposal (n ∷ ws) ≡ entries (number_of n) 0 ws
   proposal-entries = rw (proposal-more n ws, le-leb (number_of n) locations few)
 
-  broken : false ≡ answers (entries (number_of n) 0 ws) → Not 16 ≡ formedOf (proposal (n ∷ ws))
+  broken : false ≡ answers (entries (number_of n) 0 ws) → Not 16 ≡ formed_of (proposal (n ∷ ws))
   broken h = either (entries (number_of n) 0 ws)
       (λ x e. unlike (let y : false ≡ true = rw e at h in cc))
       (λ k e. rw (proposal-entries, e, entries-stop (number_of n) 0 ws k e))
 
-  formed : true ≡ answers (entries (number_of n) 0 ws) → Pairs (number_of n) ≡ formedOf (proposal (n ∷ ws))
+  formed : true ≡ answers (entries (number_of n) 0 ws) → Pairs (number_of n) ≡ formed_of (proposal (n ∷ ws))
   formed h = either (entries (number_of n) 0 ws)
       (λ x e. rw (proposal-entries, e) (ap Pairs (formed-count ((formed-iff (n ∷ ws) x.0 x.1).0 (proposal-entries ∙ e)))))
       (λ k e. unlike (let y : true ≡ false = rw e at h in cc))
 
-module _ (ws : List ℤ) (begun : length ws ≡ 0 → ⊥) {n : ℕ} (is : n ≡ numberAt ws 0) where
+module _ (ws : List ℤ) (begun : length ws ≡ 0 → ⊥) {n : ℕ} (is : n ≡ number_at ws 0) where
   -- the first word and the others
   with_first {ℓ} : {X : Type ℓ} → ((w : ℤ) (us : List ℤ) → ws ≡ w ∷ us → n ≡ number_of w → X) → X
   with_first {X = X} f = go ws refl
@@ -119,14 +119,14 @@ module _ (ws : List ℤ) (begun : length ws ≡ 0 → ⊥) {n : ℕ} (is : n ≡
       go [] e = absurd (begun (ap length e))
       go (w ∷ us) e = f w us e (is ∙ (rw e (number-first w us)))
 
-  pub form-many : locations < n → Not 16 ≡ formedOf (proposal ws)
+  pub form-many : locations < n → Not 16 ≡ formed_of (proposal ws)
   form-many h = with_first λ w us e k. rw (e, proposal-more w us, lt-leb (number_of w) locations (rw k at h))
 
   module _ (few : n ≤ locations) {q : List ℤ} (part : q ≡ drop 1 ws) {b : Bool} (e : b ≡ answers (entries n 0 q)) where
-    pub form-broken : b ≡ false → Not 16 ≡ formedOf (proposal ws)
+    pub form-broken : b ≡ false → Not 16 ≡ formed_of (proposal ws)
     form-broken f = with_first λ w us i k. rw i (broken w us (rw k at few) (rw (part, i, k) at (sym f ∙ e)))
 
-    pub form-pairs : b ≡ true → Pairs n ≡ formedOf (proposal ws)
+    pub form-pairs : b ≡ true → Pairs n ≡ formed_of (proposal ws)
     form-pairs f = with_first λ w us i k. rw (i, k) (formed w us (rw k at few) (rw (part, i, k) at (sym f ∙ e)))
 
 -- ---- the entries, told by the words
@@ -147,7 +147,7 @@ unfolding entry_at
 entry_first l v ws = rw (number-first (pos l) (v ∷ ws))
 
 module _ {rest : List ℤ} where
-  entries-words : {low n : ℕ} {ws : List ℤ} {es : List Entry} → EntriesAre low n ws es rest → entriesIn ws n ≡ es
+  entries-words : {low n : ℕ} {ws : List ℤ} {es : List Entry} → EntriesAre low n ws es rest → entries_in ws n ≡ es
   entries-words no_more = listed-none (entry_at rest) 0
   entries-words (next {n = n} {l = l} {payload = v} {ws = ws} a b others) =
       listed_more (entry_at (pos l ∷ v ∷ ws)) 0 n
@@ -160,9 +160,9 @@ module _ {rest : List ℤ} where
 -- a proposal of n pairs: its entries and the unread words, as the code has them
 pub record Proposed (ws : List ℤ) (n : ℕ) : Type 0 where
   pub few : n ≤ locations
-  pub is : proposal ws ≡ got (entriesIn (drop 1 ws) n, drop (1 + 2 * n) ws)
+  pub is : proposal ws ≡ got (entries_in (drop 1 ws) n, drop (1 + 2 * n) ws)
 
-pub proposed : {ws : List ℤ} {n : ℕ} → Pairs n ≡ formedOf (proposal ws) → Proposed ws n
+pub proposed : {ws : List ℤ} {n : ℕ} → Pairs n ≡ formed_of (proposal ws) → Proposed ws n
 proposed {ws = ws} {n = n} h = either (proposal ws) there (λ k e. unlike (let y : Pairs n ≡ Not k = rw e at h in cc))
   where
     as-told : {ws rest : List ℤ} {es : List Entry} → Formed ws es rest → n ≡ length es → Proposed ws n

@@ -3,11 +3,11 @@ ghost use Rattle.std.specs.Prelude.{◌≡◌, ◌≤◌, ◌+◌, ◌*◌, leng
 ghost use Rattle.tables.specs.Sizes.{locations};
 ghost use Rattle.tables.specs.Cells.{cells};
 ghost use Rattle.rules.specs.Constraints.{counted};
-ghost use Rattle.rules.specs.Proposals.{entries, proposal, mayTake, entriesFit};
-ghost use Rattle.rules.specs.Proposals.{settle as settleBy};
-ghost use Rattle.expressions.specs.Judging.{weighedOf, own_of};
+ghost use Rattle.rules.specs.Proposals.{entries, proposal, may_take, entries_fit};
+ghost use Rattle.rules.specs.Proposals.{settle as settle_by};
+ghost use Rattle.expressions.specs.Judging.{weighed_of, own_of};
 ghost use Rattle.expressions.specs.declared.Weighed.TheVariants.{Reads};
-ghost use Rattle.proposals.specs.Told.{answers, entriesIn, aim_of, asksOf, formedOf, tried, judged, Settles};
+ghost use Rattle.proposals.specs.Told.{answers, entries_in, aim_of, asks_of, formed_of, tried, judged, Settles};
 ghost use Rattle.proposals.specs.Undoing.{Applies};
 
 use super::undoing::{put_back, put_payload};
@@ -41,7 +41,7 @@ fn are_pairs(pairs: &[i32], n: usize) -> bool
 
 // The form of the proposal that the words begin with.
 pub fn form_of(proposals: &[i32]) -> Formed
-    ensures { result ≡ formedOf (proposal proposals.now) }
+    ensures { result ≡ formed_of (proposal proposals.now) }
 {
     if proposals.len() == 0 {
         return Formed::Not(6);
@@ -58,7 +58,7 @@ pub fn form_of(proposals: &[i32]) -> Formed
 
 // A payload that the cell may take by a proposal.
 fn may_take(c: tables::Cell, w: i32) -> bool
-    ensures { result ≡ mayTake c w }
+    ensures { result ≡ may_take c w }
 {
     if words::same(w, c.payload) {
         return false;
@@ -80,7 +80,7 @@ fn entries_fit(
     target: usize,
 ) -> bool
     requires { n ≤ locations }
-    ensures { result ≡ entriesFit (cells environment.now heap.now) (aim_of aims target) (entriesIn pairs.now n) }
+    ensures { result ≡ entries_fit (cells environment.now heap.now) (aim_of aims target) (entries_in pairs.now n) }
 {
     let mut i: usize = 0;
     while i < n {
@@ -128,7 +128,7 @@ fn try_saving(
 ) -> Settled
     requires n_le_locations { n ≤ locations }
     requires n_in_bounds { n ≤ length saved.old }
-    ensures { Settles (cells environment.old heap.old) (cells environment.new heap.new) result (tried program.now constraints.now (own_of owns (drop 1 p.now)) p.now (cells environment.old heap.old) (entriesIn (drop 1 proposals.now) n) (drop (1 + 2 * n) proposals.now)) }
+    ensures { Settles (cells environment.old heap.old) (cells environment.new heap.new) result (tried program.now constraints.now (own_of owns (drop 1 p.now)) p.now (cells environment.old heap.old) (entries_in (drop 1 proposals.now) n) (drop (1 + 2 * n) proposals.now)) }
 {
     let pairs = words::part_from(proposals, 1);
     apply(environment, heap, pairs, n, saved);
@@ -166,7 +166,7 @@ fn try_pairs(
     owns: bool,
 ) -> Settled
     requires { n ≤ locations }
-    ensures { Settles (cells environment.old heap.old) (cells environment.new heap.new) result (tried program.now constraints.now (own_of owns (drop 1 p.now)) p.now (cells environment.old heap.old) (entriesIn (drop 1 proposals.now) n) (drop (1 + 2 * n) proposals.now)) }
+    ensures { Settles (cells environment.old heap.old) (cells environment.new heap.new) result (tried program.now constraints.now (own_of owns (drop 1 p.now)) p.now (cells environment.old heap.old) (entries_in (drop 1 proposals.now) n) (drop (1 + 2 * n) proposals.now)) }
 {
     if n <= FEW_PAIRS {
         let mut few = [0i32; FEW_PAIRS];
@@ -210,8 +210,8 @@ fn judge(
     required: bool,
 ) -> Settled
     requires n_le_locations { n ≤ locations }
-    requires heap_value { weighedOf (counted program.now constraints.now (own_of asked.owns (drop 1 p.now)) (cells environment.old heap.old)) ≡ Reads all required }
-    ensures { Settles (cells environment.old heap.old) (cells environment.new heap.new) result (judged program.now constraints.now (asksOf asked p.now) p.now (cells environment.old heap.old) all (entriesIn (drop 1 proposals.now) n) (drop (1 + 2 * n) proposals.now)) }
+    requires heap_value { weighed_of (counted program.now constraints.now (own_of asked.owns (drop 1 p.now)) (cells environment.old heap.old)) ≡ Reads all required }
+    ensures { Settles (cells environment.old heap.old) (cells environment.new heap.new) result (judged program.now constraints.now (asks_of asked p.now) p.now (cells environment.old heap.old) all (entries_in (drop 1 proposals.now) n) (drop (1 + 2 * n) proposals.now)) }
 {
     if n == 0 {
         if !required {
@@ -254,7 +254,7 @@ pub fn settle(
     p: &[i32],
     asked: Asked,
 ) -> Settled
-    ensures { Settles (cells environment.old heap.old) (cells environment.new heap.new) result (settleBy program.now constraints.now (asksOf asked p.now) p.now (cells environment.old heap.old) proposals.now) }
+    ensures { Settles (cells environment.old heap.old) (cells environment.new heap.new) result (settle_by program.now constraints.now (asks_of asked p.now) p.now (cells environment.old heap.old) proposals.now) }
 {
     match expressions::constraints::counted_at(
         program,

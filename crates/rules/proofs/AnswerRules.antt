@@ -5,12 +5,12 @@ use native.Mathlib.Omega.{arith}
 use mathlib.Core.List.{List}
 use lib.IntN.{ℤ}
 use Rattle.words.specs.Words.{number_of}
-use Rattle.program.specs.Forms.{blockDepth}
+use Rattle.program.specs.Forms.{block_depth}
 use Rattle.rules.specs.State.{State}
 use Rattle.rules.specs.Running.{Out, on, end}
 use Rattle.rules.specs.Start.{Ended, run}
 use Rattle.rules.specs.Rules.Runs.{block, Runs}
-use Rattle.rules.specs.Rules.Answers.{Passes, firstTally, Answered, unstarted, finished, stopped}
+use Rattle.rules.specs.Rules.Answers.{Passes, first_tally, Answered, unstarted, finished, stopped}
 use Rattle.rules.specs.Claims.Rules.{Rules}
 use Rattle.rules.proofs.RunLaws.{whole, run-early, run_on, run_end, Way, at-start, to_end, on-way, way}
 use Rattle.rules.proofs.StandRules.{stands-iff}
@@ -20,9 +20,9 @@ use Rattle.rules.proofs.RunRules.{block-rule}
 
 module _ (program ws : List ℤ) (budget : ℤ) (S : State) where
   -- what the whole program comes to, once it started
-  pub whole-rule : (o : Out) → Passes program budget S → (whole program ws budget S ≡ o) ↔ Runs program (number_of budget) (block blockDepth program) (firstTally S ws) o
+  pub whole-rule : (o : Out) → Passes program budget S → (whole program ws budget S ≡ o) ↔ Runs program (number_of budget) (block block_depth program) (first_tally S ws) o
   whole-rule o p =
-      block-rule program (number_of budget) blockDepth program (firstTally S ws) o (program-of program p.1.0) ((stands-iff program S).1 p.1.1) (omega arith)
+      block-rule program (number_of budget) block_depth program (first_tally S ws) o (program-of program p.1.0) ((stands-iff program S).1 p.1.1) (omega arith)
 
   sound : Way program ws budget S → Answered program ws budget S (run program ws budget S)
   sound (at-start e s r) = rw r (unstarted ((unstarted-iff program budget S e).0 s))

@@ -8,7 +8,7 @@ use native.Mathlib.Omega.{arith}
 use lib.IntN.{ℤ, ◌+ℤ◌, ◌-ℤ◌, ◌*ℤ◌}
 use lib.ListN.{drop}
 use lib.Signed.{lt_z, le_z}
-use Rattle.words.specs.Words.{wordAt, numberAt}
+use Rattle.words.specs.Words.{word_at, number_at}
 use Rattle.words.specs.Range.{fits}
 use Rattle.words.specs.Answer.{got}
 use Rattle.words.proofs.AnswerLaws.{stop≢got, got-inj, step, tested}
@@ -17,20 +17,20 @@ use Rattle.tables.specs.declared.Value.TheVariants.{Bool as Truth, Int, Ref}
 use Rattle.tables.specs.declared.Slot.TheVariants.{Has}
 use Rattle.tables.specs.Values.{cell_of}
 use Rattle.tables.specs.Cells.{Cells, cells}
-use Rattle.tables.specs.Records.{recordCount}
-use Rattle.fit.specs.Fit.{cellFits, Fit}
+use Rattle.tables.specs.Records.{record_count}
+use Rattle.fit.specs.Fit.{cell_fits, Fit}
 use Rattle.fit.proofs.CellFits.{cell-fits}
 use Rattle.fit.proofs.FitLaws.{fit-count-word, fit-ref}
-use Rattle.program.specs.Forms.{operators, expressionDepth}
-use Rattle.program.specs.Forms.{Form, aNil, aFalse, aTrue, anInteger, aPath, anOperation, anIdentity, noForm, form_of}
-use Rattle.program.specs.Reading.{number, anyWord, readPath, after}
+use Rattle.program.specs.Forms.{operators, expression_depth}
+use Rattle.program.specs.Forms.{Form, a_nil, a_false, a_true, an_integer, a_path, an_operation, an_identity, no_form, form_of}
+use Rattle.program.specs.Reading.{number, any_word, read_path, after}
 use Rattle.rules.specs.State.{State, Res, reads, slot_at}
-use Rattle.rules.specs.Paths.{wayAt, value_at}
-use Rattle.rules.specs.Evaluation.{Op, add, sub, mul, lt, le, eq, ne, ge, gt, and, or, noOp, op_of, takes, kind_of, int_of, boolOf, same, ranged, made, apply, at, evaluateForm, evaluate}
-use Rattle.rules.specs.Identities.{identityPhase}
-use Rattle.rules.specs.Steps.Phases.{by-path, as_before}
+use Rattle.rules.specs.Paths.{way_at, value_at}
+use Rattle.rules.specs.Evaluation.{Op, add, sub, mul, lt, le, eq, ne, ge, gt, and, or, no_op, op_of, takes, kind_of, int_of, bool_of, same, ranged, made, apply, at, evaluate_form, evaluate}
+use Rattle.rules.specs.Identities.{identity_phase}
+use Rattle.rules.specs.Steps.Phases.{by_path, as_before}
 use Rattle.rules.specs.Proposals.{settle}
-use Rattle.rules.specs.Statements.{Left, valuePhase, doAssign}
+use Rattle.rules.specs.Statements.{Left, value_phase, do_assign}
 use Rattle.rules.specs.Steps.Holds.{Holds}
 use Rattle.rules.proofs.WordSteps.{at-got}
 use Rattle.rules.proofs.HoldLaws.{Half, half_of, settle-half, settle-values}
@@ -40,7 +40,7 @@ use Rattle.rules.proofs.PhaseHolds.{phase-half}
 -- ---- a reference that an expression gives is to a record that is there
 
 abbrev pub There : Cells → Value → Type 0
-There S v = (r : ℕ) → v ≡ Ref r → r < recordCount S.heap
+There S v = (r : ℕ) → v ≡ Ref r → r < record_count S.heap
 
 module _ (S : Cells) (fit : Fit S) where
   not-ref : {v w : Value} → v ≡ w → ((r : ℕ) → v ≡ Ref r → ◌≡◌ {A = ℕ} 0 1) → There S w
@@ -67,9 +67,9 @@ module _ (S : Cells) (fit : Fit S) where
   made-there ne a b v e = truth-there (not (same a b)) (got-inj e)
   made-there ge a b v e = truth-there (le_z (int_of b) (int_of a)) (got-inj e)
   made-there gt a b v e = truth-there (lt_z (int_of b) (int_of a)) (got-inj e)
-  made-there and a b v e = truth-there (boolOf a && boolOf b) (got-inj e)
-  made-there or a b v e = truth-there (boolOf a || boolOf b) (got-inj e)
-  made-there noOp a b v e = stop≢got e
+  made-there and a b v e = truth-there (bool_of a && bool_of b) (got-inj e)
+  made-there or a b v e = truth-there (bool_of a || bool_of b) (got-inj e)
+  made-there no_op a b v e = stop≢got e
 
   value_there : (p : List ℤ) (x : Value × List ℤ) → value_at S p ≡ got x → There S x.0
   unfolding slot_at
@@ -78,14 +78,14 @@ module _ (S : Cells) (fit : Fit S) where
   fst-is : {v : Value} {q : List ℤ} {x : Value × List ℤ} → ◌≡◌ {A = Res (Value × List ℤ)} (got (v, q)) (got x) → v ≡ x.0
   fst-is e = ap (λ (y : Value × List ℤ). y.0) (got-inj e)
 
-  form-there : (go : List ℤ → Res (Value × List ℤ)) (p : List ℤ) (f : Form) (x : Value × List ℤ) → evaluateForm go S p f ≡ got x → There S x.0
-  unfolding evaluateForm apply
-  form-there go p aNil x e = not-ref (fst-is e) (λ r q. cc)
-  form-there go p aFalse x e = truth-there false (fst-is e)
-  form-there go p aTrue x e = truth-there true (fst-is e)
-  form-there go p anInteger x e = step (reads (anyWord (drop 1 p))) _ e λ q e1 k1. int-there (wordAt (drop 1 p) 0) (fst-is k1)
-  form-there go p aPath x e = value_there (drop 1 p) x e
-  form-there go p anOperation x e =
+  form-there : (go : List ℤ → Res (Value × List ℤ)) (p : List ℤ) (f : Form) (x : Value × List ℤ) → evaluate_form go S p f ≡ got x → There S x.0
+  unfolding evaluate_form apply
+  form-there go p a_nil x e = not-ref (fst-is e) (λ r q. cc)
+  form-there go p a_false x e = truth-there false (fst-is e)
+  form-there go p a_true x e = truth-there true (fst-is e)
+  form-there go p an_integer x e = step (reads (any_word (drop 1 p))) _ e λ q e1 k1. int-there (word_at (drop 1 p) 0) (fst-is k1)
+  form-there go p a_path x e = value_there (drop 1 p) x e
+  form-there go p an_operation x e =
       step (reads (number 1 operators (drop 1 p))) _ e λ o e1 k1.
       step (go o.1) _ k1 λ a e2 k2.
       step (go a.1) _ k2 λ b e3 k3.
@@ -93,25 +93,25 @@ module _ (S : Cells) (fit : Fit S) where
       let h = at-got p (apply (op_of o.0) a.0 b.0) e4 in
       tested 8 (takes (op_of o.0) (kind_of a.0) (kind_of b.0)) _ h λ c k5.
       rw (← fst-is k4) (made-there (op_of o.0) a.0 b.0 v k5)
-  form-there go p anIdentity x e =
+  form-there go p an_identity x e =
       step (value_at S (drop 1 p)) _ e λ a e1 k1.
       step (value_at S a.1) _ k1 λ b e2 k2.
       truth-there (same a.0 b.0) (fst-is k2)
-  form-there go p noForm x e = stop≢got e
+  form-there go p no_form x e = stop≢got e
 
   pub evaluate-there : (d : ℕ) (p : List ℤ) (x : Value × List ℤ) → evaluate d S p ≡ got x → There S x.0
   unfolding evaluate
   evaluate-there zero p x e = stop≢got e
-  evaluate-there (suc d) p x e = form-there (λ q. evaluate d S q) p (form_of (numberAt p 0)) x e
+  evaluate-there (suc d) p x e = form-there (λ q. evaluate d S q) p (form_of (number_at p 0)) x e
 
-  pub there-fits : (v : Value) → There S v → cellFits (wordAt S.heap 0) (cell_of v) ≡ true
-  there-fits v h = rw (fit-count-word S fit) (cell-fits (recordCount S.heap) v h)
+  pub there-fits : (v : Value) → There S v → cell_fits (word_at S.heap 0) (cell_of v) ≡ true
+  there-fits v h = rw (fit-count-word S fit) (cell-fits (record_count S.heap) v h)
 
 -- ---- the value phase
 
 module _ (program p : List ℤ) (S : State) (ws : List ℤ) (l : Left) (holds : Holds program S) where
-  pub value-holds : (target : ℕ) (Z : Cells) → Half program S.kept Z → valuePhase program S.kept p target Z ws ≡ got l → Holds program l.state
-  unfolding valuePhase
+  pub value-holds : (target : ℕ) (Z : Cells) → Half program S.kept Z → value_phase program S.kept p target Z ws ≡ got l → Holds program l.state
+  unfolding value_phase
   value-holds target Z half e =
       step (settle program S.kept _ p Z ws) _ e λ x e1 k1.
       let half' = settle-half program S.kept _ p Z ws x.0 x.1 half e1 in
@@ -123,13 +123,13 @@ module _ (program p : List ℤ) (S : State) (ws : List ℤ) (l : Left) (holds : 
         identities = half'.identities;
       })
 
-  pub assign-holds : doAssign program p S ws ≡ got l → Holds program l.state
-  unfolding doAssign
+  pub assign-holds : do_assign program p S ws ≡ got l → Holds program l.state
+  unfolding do_assign
   assign-holds e =
-      step (evaluate expressionDepth S.cells (after (readPath (drop 1 p)))) _ e λ x e1 k1.
-      step (wayAt S.cells (drop 1 p)) _ k1 λ w e2 k2.
-      step (identityPhase program S.kept S.cells S.cells p w.cell w.prefix x.0) _ k2 λ Z e3 k3.
-      let t = evaluate-there S.cells holds.fit expressionDepth (after (readPath (drop 1 p))) x e1 in
+      step (evaluate expression_depth S.cells (after (read_path (drop 1 p)))) _ e λ x e1 k1.
+      step (way_at S.cells (drop 1 p)) _ k1 λ w e2 k2.
+      step (identity_phase program S.kept S.cells S.cells p w.cell w.prefix x.0) _ k2 λ Z e3 k3.
+      let t = evaluate-there S.cells holds.fit expression_depth (after (read_path (drop 1 p))) x e1 in
       value-holds w.cell Z
-      (phase-half program S.kept S.cells S.cells p w.cell w.prefix x.0 Z (half_of holds) as_before (by-path (drop 1 p) w e2)
+      (phase-half program S.kept S.cells S.cells p w.cell w.prefix x.0 Z (half_of holds) as_before (by_path (drop 1 p) w e2)
       e3 holds.fit t) k3

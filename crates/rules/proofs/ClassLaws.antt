@@ -10,7 +10,7 @@ use borrow.Author.Tests.{eqb-true, eq-eqb}
 use lib.Dec.{eqb}
 use lib.ListN.{length}
 use Rattle.tables.proofs.SearchLaws.{cases, and_left, and_right, and-true}
-use Rattle.rules.specs.Identities.{Tie, member, grown, grownBy, class_of}
+use Rattle.rules.specs.Identities.{Tie, member, grown, grown_by, class_of}
 use Rattle.rules.specs.Rules.Identities.{Tied, itself, by_tie, backwards, onwards}
 
 -- ---- tests
@@ -83,8 +83,8 @@ module _ (P : ℕ → Type 0) where
       ends : P t.one → P t.two → All P (t.one ∷ t.two ∷ c)
       ends a b = all_more t.one (t.two ∷ c) a (all_more t.two c b h)
 
-  pub grown-by-all : (more ts : List Tie) → Carries P ts → (c : List ℕ) → All P c → All P (grownBy more ts c)
-  unfolding grownBy
+  pub grown-by-all : (more ts : List Tie) → Carries P ts → (c : List ℕ) → All P c → All P (grown_by more ts c)
+  unfolding grown_by
   grown-by-all [] ts k c h = h
   grown-by-all (t ∷ more) ts k c h = grown-by-all more ts k (grown ts c) (grown-all ts k c h)
 
@@ -102,8 +102,8 @@ grown-keeps (t ∷ ts) c l e = cases (member t.one c || member t.two c)
     (λ q. rw q (grown-keeps ts (t.one ∷ t.two ∷ c) l (member-tail l t.one (t.two ∷ c) (member-tail l t.two c e))))
     (λ q. rw q (grown-keeps ts c l e))
 
-pub grown-by-keeps : (more ts : List Tie) (c : List ℕ) (l : ℕ) → member l c ≡ true → member l (grownBy more ts c) ≡ true
-unfolding grownBy
+pub grown-by-keeps : (more ts : List Tie) (c : List ℕ) (l : ℕ) → member l c ≡ true → member l (grown_by more ts c) ≡ true
+unfolding grown_by
 grown-by-keeps [] ts c l e = e
 grown-by-keeps (t ∷ more) ts c l e = grown-by-keeps more ts (grown ts c) l (grown-keeps ts c l e)
 
@@ -182,9 +182,9 @@ module _ (ts : List Tie) where
   )
 
   -- closed cells stay as they are
-  closed-grown : (more : List Tie) (c : List ℕ) → Closed ts c → Closed ts (grownBy more ts c)
+  closed-grown : (more : List Tie) (c : List ℕ) → Closed ts c → Closed ts (grown_by more ts c)
   closed-grown more c h t m e =
-      let d = grownBy more ts c in
+      let d = grown_by more ts c in
       let k = closed-carries c h in
       let same : (l : ℕ) → member l d ≡ true → member l c ≡ true = grown-by-all (λ l. member l c ≡ true) more ts k c (λ l q. q) in
       let w = h t m (touches-more d c same t e) in
@@ -196,13 +196,13 @@ module _ (ts : List Tie) where
   holds-touches c t e = or_left (member t.one c) (member t.two c) (and_left (member t.one c) (member t.two c) e)
 
   -- each round that does not find the cells closed finds a tie more with both ends among them
-  closed_after : (more : List Tie) (c : List ℕ) → length ts ≤ length more + counted (holds c) ts → Closed ts (grownBy more ts c)
-  unfolding grownBy
+  closed_after : (more : List Tie) (c : List ℕ) → length ts ≤ length more + counted (holds c) ts → Closed ts (grown_by more ts c)
+  unfolding grown_by
   closed_after [] c l = λ t m e.
       counted-equal (holds c) (λ u. true) (λ u n q. refl) (rw (counted-all ts) (omega arith)) t m refl
   closed_after (u ∷ more) c l = go (dec_lt (counted (holds c) ts) (counted (touches c) ts)) (λ d h. closed_after more d h)
     where
-      go : Dec (counted (holds c) ts < counted (touches c) ts) → ((d : List ℕ) → length ts ≤ length more + counted (holds d) ts → Closed ts (grownBy more ts d)) → Closed ts (grownBy more ts (grown ts c))
+      go : Dec (counted (holds c) ts < counted (touches c) ts) → ((d : List ℕ) → length ts ≤ length more + counted (holds d) ts → Closed ts (grown_by more ts d)) → Closed ts (grown_by more ts (grown ts c))
       go (yes y) r = r (grown ts c) (omega (arith, counted-most (touches c) (holds (grown ts c)) ts (λ t m e. grown-reaches c t m e)))
       go (no n) r = closed-grown (u ∷ more) c (counted-equal (holds c) (touches c) (λ t m e. holds-touches c t e) (omega arith))
 

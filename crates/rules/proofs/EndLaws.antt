@@ -7,7 +7,7 @@ use lib.IntN.{ℤ}
 use Rattle.words.specs.Answer.{Answer, got, stop, ◌>>=◌, ◌>>◌, want}
 use Rattle.words.proofs.AnswerLaws.{got-inj, stop-inj, stop≢got}
 use Rattle.program.specs.Reading.{Reading}
-use Rattle.rules.specs.State.{Res, orRefuse, reads}
+use Rattle.rules.specs.State.{Res, or_refuse, reads}
 use Rattle.rules.specs.Evaluation.{at}
 
 -- G of an answer, P of a refusal
@@ -57,7 +57,7 @@ Any a = Unit {0}
 
 -- what comes from below, with the equation of its answer
 module _ {A : Type 0} (P : ℕ → Type 0) where
-  pub fine-refused : {E : Type 0} (n : ℕ) (p : List ℤ) (m : Answer E A) → P n → Fine P (λ a. m ≡ got a) (orRefuse n p m)
+  pub fine-refused : {E : Type 0} (n : ℕ) (p : List ℤ) (m : Answer E A) → P n → Fine P (λ a. m ≡ got a) (or_refuse n p m)
   fine-refused n p (got a) s = ends-got refl
   fine-refused n p (stop e) s = ends-stop s
 

@@ -14,8 +14,8 @@ use Rattle.rules.specs.Running.{Tally}
 use Rattle.rules.specs.Start.{Ended}
 use Rattle.rules.specs.Rules.Statements.{Steps}
 use Rattle.rules.specs.Rules.Runs.{begun, afterwards}
-use Rattle.rules.specs.Rules.Answers.{Unstarted, wrong, unreadable, unfit, broken, firstTally, given}
-use Rattle.rules.specs.Rules.Entries.{Entry, Sets, e-none, e-unfit, e-unpaid, e-refused, e-more, Listed, unstarted, started}
+use Rattle.rules.specs.Rules.Answers.{Unstarted, wrong, unreadable, unfit, broken, first_tally, given}
+use Rattle.rules.specs.Rules.Entries.{Entry, Sets, e_none, e_unfit, e_unpaid, e_refused, e_more, Listed, unstarted, started}
 use Rattle.rules.specs.Claims.Entries.{Went, no_more, next, Kept, EntriesAnswers, EntriesStand}
 use Rattle.rules.specs.Steps.Holds.{Holds}
 use Rattle.rules.proofs.LeavesLaws.{formed-part}
@@ -64,7 +64,7 @@ module _ (program : List ℤ) (budget : ℕ) where
   ends-here p t h e = record { n = 0; place = omega arith; accepted = omega arith; went = no_more; ends = e; part = part-refl t.unread; holds = h }
 
   pub facts : {i : ℕ} {p : List ℤ} {t : Tally} {e : Ended} → Sets program budget i p t e → Holds program t.state → Facts program budget i p t e
-  facts (e-none {t = t}) h = ends-here [] t h (record {
+  facts (e_none {t = t}) h = ends-here [] t h (record {
     known = there 0 numbers (omega arith);
     later = λ a. absurd (omega arith);
     counted = λ o. omega arith;
@@ -72,7 +72,7 @@ module _ (program : List ℤ) (budget : ℕ) where
     within = λ a. a;
     grown = omega arith;
   })
-  facts (e-unfit {w = w} {p = p} {t = t} n) h = ends-here (w ∷ p) t h (record {
+  facts (e_unfit {w = w} {p = p} {t = t} n) h = ends-here (w ∷ p) t h (record {
     known = there 15 numbers (omega arith);
     later = λ a. omega arith;
     counted = λ o. omega arith;
@@ -80,7 +80,7 @@ module _ (program : List ℤ) (budget : ℕ) where
     within = λ a. a;
     grown = omega arith;
   })
-  facts (e-unpaid {p = p} {t = t} x b) h = ends-here p t h (record {
+  facts (e_unpaid {p = p} {t = t} x b) h = ends-here p t h (record {
     known = there 5 numbers (omega arith);
     later = λ a. omega arith;
     counted = λ o. omega arith;
@@ -88,7 +88,7 @@ module _ (program : List ℤ) (budget : ℕ) where
     within = λ a. a;
     grown = omega arith;
   })
-  facts (e-refused {p = p} {t = t} x b r) h =
+  facts (e_refused {p = p} {t = t} x b r) h =
       let k = entry-number x.piece r in
       ends-here p t h (record {
         known = k.known;
@@ -98,7 +98,7 @@ module _ (program : List ℤ) (budget : ℕ) where
         within = λ a. b;
         grown = omega arith;
       })
-  facts (e-more {t = t} {l = l} x b s r) h =
+  facts (e_more {t = t} {l = l} x b s r) h =
       let f = facts r (entry-holds program x.piece t.state t.unread h s) in
       let o = one s in
       record {

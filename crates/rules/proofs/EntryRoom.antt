@@ -5,7 +5,7 @@ use native.Mathlib.Omega.{arith}
 use mathlib.Core.List.{List}
 use lib.IntN.{ℤ}
 use lib.ListN.{length}
-use Rattle.tables.specs.Sizes.{constraintsWords}
+use Rattle.tables.specs.Sizes.{constraints_words}
 use Rattle.tables.specs.Cells.{Sized}
 use Rattle.rules.specs.State.{State}
 use Rattle.rules.specs.Rules.Entries.{Listed, unstarted, started}
@@ -15,7 +15,7 @@ use Rattle.rules.proofs.EntryFacts.{facts}
 use Rattle.rules.proofs.EntryRules.{passes-hold}
 
 -- what a chain of accepted entries leaves
-chain : {program : List ℤ} {n : ℕ} {p ws us : List ℤ} {S Z : State} → Sized S.cells → length S.kept ≡ constraintsWords → Went program n p S ws Z us → Step S Z
+chain : {program : List ℤ} {n : ℕ} {p ws us : List ℤ} {S Z : State} → Sized S.cells → length S.kept ≡ constraints_words → Went program n p S ws Z us → Step S Z
 chain {S = S} z long no_more = step-self S z long
 chain {program} {ws = ws} {S = S} z long (next x s r) =
     let a = step_of program S ws z long s in

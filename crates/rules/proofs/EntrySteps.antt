@@ -7,22 +7,22 @@ use mathlib.Core.List.{List, [], ◌∷◌, ◌++◌, Memᴰ as OneOf}
 use mathlib.Core.Option.{Option, none, some}
 use lib.IntN.{ℤ, pos}
 use lib.ListN.{length, get_or}
-use Rattle.words.specs.Words.{numberAt}
+use Rattle.words.specs.Words.{number_at}
 use Rattle.words.proofs.Laws.{number-first}
 use Rattle.words.proofs.AnswerLaws.{stop≢got}
 use Rattle.tables.specs.declared.Value.{Value}
 use Rattle.tables.specs.Cells.{Cells, Sized}
-use Rattle.program.specs.Forms.{expressionDepth}
+use Rattle.program.specs.Forms.{expression_depth}
 use Rattle.rules.specs.State.{State, Fault, refused}
 use Rattle.rules.specs.Constraints.{Part}
 use Rattle.rules.specs.Proposals.{Asked}
 use Rattle.rules.specs.Statements.{Left}
 use Rattle.rules.specs.Effects.{Effect}
-use Rattle.rules.specs.Rules.Expressions.{Literal, Within, e-literal, Astray, Meets}
+use Rattle.rules.specs.Rules.Expressions.{Literal, Within, e_literal, Astray, Meets}
 use Rattle.rules.specs.Rules.Constraints.{Uncounted}
 use Rattle.rules.specs.Rules.Identities.{Phase, PhaseFails}
 use Rattle.rules.specs.Rules.Proposals.{Settles, Fails, Unsettled}
-use Rattle.rules.specs.Rules.Statements.{leaves, asking, pastPath, Gives, assigns, makes, Steps, Refused}
+use Rattle.rules.specs.Rules.Statements.{leaves, asking, past_path, Gives, assigns, makes, Steps, Refused}
 use Rattle.rules.specs.Rules.Entries.{Entry, entry}
 use Rattle.rules.specs.Claims.Entries.{Moved, EntriesMove}
 use Rattle.rules.proofs.EvaluationLaws.{evaluate-iff}
@@ -31,8 +31,8 @@ use Rattle.rules.proofs.ProposalLaws.{proposals-move}
 use Rattle.rules.proofs.StatementWords.{path-past}
 
 -- a statement with this word is not one with that
-pub other : {s : List ℤ} (n : ℕ) (p : List ℤ) → (n ≡ 1 → ⊥) → s ≡ pos n ∷ p → numberAt s 0 ≡ 1 → ⊥
-other n p h e k = h (sym (number-first (pos n) p) ∙ ap (λ s. numberAt s 0) (sym e) ∙ k)
+pub other : {s : List ℤ} (n : ℕ) (p : List ℤ) → (n ≡ 1 → ⊥) → s ≡ pos n ∷ p → number_at s 0 ≡ 1 → ⊥
+other n p h e k = h (sym (number-first (pos n) p) ∙ ap (λ s. number_at s 0) (sym e) ∙ k)
 
 -- ---- accepted
 
@@ -49,13 +49,13 @@ pub record Gave (program : List ℤ) (S : State) (ws s : List ℤ) (l : Left) : 
   pub leaving : l ≡ leaves cells S.kept rest 1
 
 -- an assignment writes no record before its identity phase
-same_tables : {S N : Cells} {s : List ℤ} {target : ℕ} {prefix : List ℕ} {v : Value} → Gives S s target prefix v N → numberAt s 0 ≡ 1 → N ≡ S
+same_tables : {S N : Cells} {s : List ℤ} {target : ℕ} {prefix : List ℕ} {v : Value} → Gives S s target prefix v N → number_at s 0 ≡ 1 → N ≡ S
 same_tables (assigns a b) k = refl
 same_tables (makes {x = x} {n = n} {p = p} a b c d e) k = absurd (other 2 (pos x ∷ pos n ∷ p) (λ z. omega arith) refl k)
 
-pub gave : {program : List ℤ} {S : State} {ws s : List ℤ} {l : Left} → Steps program S ws s l → numberAt s 0 ≡ 1 → Gave program S ws s l
-gave (Steps.s-skip {p = p}) k = absurd (other 0 p (λ z. omega arith) refl k)
-gave {program} {S} (Steps.s-gives {target = target} {prefix = prefix} {v = v} {Y = Y} {Z = Z} {rest = rest} g a b) k =
+pub gave : {program : List ℤ} {S : State} {ws s : List ℤ} {l : Left} → Steps program S ws s l → number_at s 0 ≡ 1 → Gave program S ws s l
+gave (Steps.s_skip {p = p}) k = absurd (other 0 p (λ z. omega arith) refl k)
+gave {program} {S} (Steps.s_gives {target = target} {prefix = prefix} {v = v} {Y = Y} {Z = Z} {rest = rest} g a b) k =
     let e = same_tables g k in
     record {
       target = target;
@@ -69,16 +69,16 @@ gave {program} {S} (Steps.s-gives {target = target} {prefix = prefix} {v = v} {Y
       settles = b;
       leaving = refl;
     }
-gave (Steps.s-always {p = p} a b) k = absurd (other 3 p (λ z. omega arith) refl k)
-gave (Steps.s-once {p = p} a) k = absurd (other 4 p (λ z. omega arith) refl k)
-gave (Steps.s-always-identity {p = p} a b) k = absurd (other 5 p (λ z. omega arith) refl k)
-gave (Steps.s-once-identity {p = p} a) k = absurd (other 6 p (λ z. omega arith) refl k)
+gave (Steps.s_always {p = p} a b) k = absurd (other 3 p (λ z. omega arith) refl k)
+gave (Steps.s_once {p = p} a) k = absurd (other 4 p (λ z. omega arith) refl k)
+gave (Steps.s_always_identity {p = p} a b) k = absurd (other 5 p (λ z. omega arith) refl k)
+gave (Steps.s_once_identity {p = p} a) k = absurd (other 6 p (λ z. omega arith) refl k)
 
 pub entry-gave : {program : List ℤ} {S : State} {ws x : List ℤ} {l : Left} → Steps program S ws (pos 1 ∷ x) l → Gave program S ws (pos 1 ∷ x) l
 entry-gave {x = x} s = gave s (number-first (pos 1) x)
 
 phase-sized : {program kept : List ℤ} {before now Z : Cells} {target : ℕ} {prefix : List ℕ} {v : Value} → Sized now → Phase program kept before now target prefix v Z → Sized Z
-phase-sized s h = record { environment = h.update.environment-length ∙ s.environment; heap = h.update.heap-length ∙ s.heap }
+phase-sized s h = record { environment = h.update.environment_length ∙ s.environment; heap = h.update.heap_length ∙ s.heap }
 
 pub entries-move : EntriesMove
 entries-move program x ws S l e sized s =
@@ -116,18 +116,18 @@ phase-number (PhaseFails.no_Node a b c) = record { known = there 9 numbers (omeg
 phase-number (PhaseFails.clash a b c d e) = record { known = there 8 numbers (omega arith); least = omega arith; most = omega arith }
 
 -- a literal is not refused
-pub literal-meets : {S : Cells} {e r : List ℤ} {v : Value} {f : Fault} → Literal e v r → Meets S false expressionDepth e f → ⊥
-literal-meets {S} {e} {r} {v} l m = stop≢got (sym (meets-complete m) ∙ (evaluate-iff expressionDepth S e v r).1 (e-literal l))
+pub literal-meets : {S : Cells} {e r : List ℤ} {v : Value} {f : Fault} → Literal e v r → Meets S false expression_depth e f → ⊥
+literal-meets {S} {e} {r} {v} l m = stop≢got (sym (meets-complete m) ∙ (evaluate-iff expression_depth S e v r).1 (e_literal l))
 
-entry-meets : {S : Cells} {x : List ℤ} {f : Fault} → Entry x → Meets S false expressionDepth (pastPath x) f → ⊥
+entry-meets : {S : Cells} {x : List ℤ} {f : Fault} → Entry x → Meets S false expression_depth (past_path x) f → ⊥
 entry-meets (entry {e = e} target literal) m = literal-meets literal (rw (path-past target e) at m)
 
 fails-number : {program kept : List ℤ} {asked : Asked} {S : Cells} {before : List Part} {ws : List ℤ} {n : ℕ} → Fails program kept asked S before ws n → Number n
 fails-number (Fails.no_words a) = record { known = there 6 numbers (omega arith); least = omega arith; most = omega arith }
-fails-number (Fails.not-formed a b) = record { known = there 11 numbers (omega arith); least = omega arith; most = omega arith }
-fails-number (Fails.not-allowed a b) = record { known = there 12 numbers (omega arith); least = omega arith; most = omega arith }
-fails-number (Fails.not-needed a b c) = record { known = there 13 numbers (omega arith); least = omega arith; most = omega arith }
-fails-number (Fails.not-met a b c d e g) = record { known = there 14 numbers (omega arith); least = omega arith; most = omega arith }
+fails-number (Fails.not_formed a b) = record { known = there 11 numbers (omega arith); least = omega arith; most = omega arith }
+fails-number (Fails.not_allowed a b) = record { known = there 12 numbers (omega arith); least = omega arith; most = omega arith }
+fails-number (Fails.not_needed a b c) = record { known = there 13 numbers (omega arith); least = omega arith; most = omega arith }
+fails-number (Fails.not_met a b c d e g) = record { known = there 14 numbers (omega arith); least = omega arith; most = omega arith }
 
 -- where no C is stated, 15 is the only number before the proposal
 uncounted-number : {program kept : List ℤ} {S : Cells} {own : Option (List ℤ)} {f : Fault} → own ≡ none → Uncounted program kept S own f → Number f.number
@@ -142,24 +142,24 @@ unsettled-number own room (Unsettled.Turned-down c r f) = fails-number f
 
 -- an assignment is refused by its value, its target, its identity phase, or what is asked of its proposal
 pub data Turned (program : List ℤ) (S : State) (ws x : List ℤ) : Fault → Type 0 where
-  by_value : {f : Fault} → Meets S.cells false expressionDepth (pastPath x) f → Turned program S ws x f
-  by-target : {v : Value} {r : List ℤ} → Within S.cells expressionDepth (pastPath x) v r → Astray S.cells x → Turned program S ws x (refused 7 x)
+  by_value : {f : Fault} → Meets S.cells false expression_depth (past_path x) f → Turned program S ws x f
+  by-target : {v : Value} {r : List ℤ} → Within S.cells expression_depth (past_path x) v r → Astray S.cells x → Turned program S ws x (refused 7 x)
   by-phase : {n target : ℕ} {prefix : List ℕ} {v : Value} {N : Cells} → Gives S.cells (pos 1 ∷ x) target prefix v N
       → PhaseFails program S.kept S.cells target prefix v n → Turned program S ws x (refused n (pos 1 ∷ x))
   by-proposal : {target : ℕ} {prefix : List ℕ} {v : Value} {N Y : Cells} {f : Fault} → Gives S.cells (pos 1 ∷ x) target prefix v N
       → Phase program S.kept S.cells N target prefix v Y → Unsettled program S.kept (asking none (some target) true) (pos 1 ∷ x) Y ws f → Turned program S ws x f
 
 turned_by : {program : List ℤ} {S : State} {ws s x : List ℤ} {f : Fault} → s ≡ pos 1 ∷ x → Refused program S ws s f → Turned program S ws x f
-turned_by {x = x} q (Refused.f-value {p = p} m) = let i : p ≡ x = cc in by_value (rw i at m)
-turned_by {x = x} q (Refused.f-target {p = p} a b) = let i : p ≡ x = cc in rw i (by-target (rw i at a) (rw i at b))
-turned_by {x = x} q (Refused.f-field {x = y} {m = m} {p = p} a b c) = absurd (other 2 (pos y ∷ pos m ∷ p) (λ z. omega arith) refl (rw q (number-first (pos 1) x)))
-turned_by {x = x} q (Refused.f-full {x = y} {m = m} {p = p} a b c d) = absurd (other 2 (pos y ∷ pos m ∷ p) (λ z. omega arith) refl (rw q (number-first (pos 1) x)))
-turned_by q (Refused.f-phase g a) = rw q (by-phase (rw q at g) a)
-turned_by q (Refused.f-given g a u) = by-proposal (rw q at g) a (rw q at u)
-turned_by {x = x} q (Refused.f-always {p = p} a b) = absurd (other 3 p (λ z. omega arith) refl (rw q (number-first (pos 1) x)))
-turned_by {x = x} q (Refused.f-once {p = p} a) = absurd (other 4 p (λ z. omega arith) refl (rw q (number-first (pos 1) x)))
-turned_by {x = x} q (Refused.f-identity {verb = verb} {p = p} a b c) = absurd (other verb p (λ z. omega arith) refl (rw q (number-first (pos 1) x)))
-turned_by {x = x} q (Refused.f-unkept {p = p} a b) = absurd (other 5 p (λ z. omega arith) refl (rw q (number-first (pos 1) x)))
+turned_by {x = x} q (Refused.f_value {p = p} m) = let i : p ≡ x = cc in by_value (rw i at m)
+turned_by {x = x} q (Refused.f_target {p = p} a b) = let i : p ≡ x = cc in rw i (by-target (rw i at a) (rw i at b))
+turned_by {x = x} q (Refused.f_field {x = y} {m = m} {p = p} a b c) = absurd (other 2 (pos y ∷ pos m ∷ p) (λ z. omega arith) refl (rw q (number-first (pos 1) x)))
+turned_by {x = x} q (Refused.f_full {x = y} {m = m} {p = p} a b c d) = absurd (other 2 (pos y ∷ pos m ∷ p) (λ z. omega arith) refl (rw q (number-first (pos 1) x)))
+turned_by q (Refused.f_phase g a) = rw q (by-phase (rw q at g) a)
+turned_by q (Refused.f_given g a u) = by-proposal (rw q at g) a (rw q at u)
+turned_by {x = x} q (Refused.f_always {p = p} a b) = absurd (other 3 p (λ z. omega arith) refl (rw q (number-first (pos 1) x)))
+turned_by {x = x} q (Refused.f_once {p = p} a) = absurd (other 4 p (λ z. omega arith) refl (rw q (number-first (pos 1) x)))
+turned_by {x = x} q (Refused.f_identity {verb = verb} {p = p} a b c) = absurd (other verb p (λ z. omega arith) refl (rw q (number-first (pos 1) x)))
+turned_by {x = x} q (Refused.f_unkept {p = p} a b) = absurd (other 5 p (λ z. omega arith) refl (rw q (number-first (pos 1) x)))
 
 pub turned : {program : List ℤ} {S : State} {ws x : List ℤ} {f : Fault} → Refused program S ws (pos 1 ∷ x) f → Turned program S ws x f
 turned r = turned_by refl r

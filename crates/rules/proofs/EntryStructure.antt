@@ -11,14 +11,14 @@ use Rattle.words.proofs.AnswerLaws.{got-inj}
 use Rattle.program.specs.Forms.{assign}
 use Rattle.program.specs.Grammar.{Takes}
 use Rattle.rules.specs.State.{State}
-use Rattle.rules.specs.Statements.{Left, doAssign, doSimple}
+use Rattle.rules.specs.Statements.{Left, do_assign, do_simple}
 use Rattle.rules.specs.Running.{Tally}
 use Rattle.rules.specs.Start.{Ended}
 use Rattle.rules.specs.Structure.{SameState}
 use Rattle.rules.specs.Rules.Statements.{Steps}
 use Rattle.rules.specs.Rules.Runs.{begun, afterwards}
 use Rattle.rules.specs.Rules.Answers.{given}
-use Rattle.rules.specs.Rules.Entries.{Entry, Sets, e-none, e-unfit, e-unpaid, e-refused, e-more, Listed, unstarted, started}
+use Rattle.rules.specs.Rules.Entries.{Entry, Sets, e_none, e_unfit, e_unpaid, e_refused, e_more, Listed, unstarted, started}
 use Rattle.rules.specs.Claims.Entries.{EntriesStructure}
 use Rattle.rules.specs.Steps.Holds.{Holds}
 use Rattle.rules.proofs.Structure.{state-refl}
@@ -49,35 +49,35 @@ record Through (program : List ℤ) (budget i : ℕ) (p : List ℤ) (t : Tally) 
   more : Sets program budget (suc i) q (afterwards left (begun t)) e
 
 through : {program : List ℤ} {budget i : ℕ} {p : List ℤ} {t : Tally} {e : Ended} → Sets program budget i p t e → e.outcome ≡ 0 → 0 < length p → Through program budget i p t e
-through e-none z h = absurd (omega arith)
-through (e-unfit n) z h = absurd (omega arith)
-through (e-unpaid x b) z h = absurd (omega arith)
-through (e-refused x b r) z h = absurd (omega (arith, (entry-number x.piece r).least))
-through (e-more {q = q} {l = l} x b s r) z h = record { q = q; first = x; left = l; steps = s; more = r }
+through e_none z h = absurd (omega arith)
+through (e_unfit n) z h = absurd (omega arith)
+through (e_unpaid x b) z h = absurd (omega arith)
+through (e_refused x b r) z h = absurd (omega (arith, (entry-number x.piece r).least))
+through (e_more {q = q} {l = l} x b s r) z h = record { q = q; first = x; left = l; steps = s; more = r }
 
 -- no entry is left
-no-entry : {program : List ℤ} {budget i : ℕ} {p : List ℤ} {t : Tally} {e : Ended} → Sets program budget i p t e → length p ≤ 0 → e ≡ given 0 i t
-no-entry e-none h = refl
-no-entry (e-unfit n) h = absurd (omega arith)
-no-entry (e-unpaid x b) h = absurd (omega (arith, takes-shorter x))
-no-entry (e-refused x b r) h = absurd (omega (arith, takes-shorter x))
-no-entry (e-more x b s r) h = absurd (omega (arith, takes-shorter x))
+no_entry : {program : List ℤ} {budget i : ℕ} {p : List ℤ} {t : Tally} {e : Ended} → Sets program budget i p t e → length p ≤ 0 → e ≡ given 0 i t
+no_entry e_none h = refl
+no_entry (e_unfit n) h = absurd (omega arith)
+no_entry (e_unpaid x b) h = absurd (omega (arith, takes-shorter x))
+no_entry (e_refused x b r) h = absurd (omega (arith, takes-shorter x))
+no_entry (e_more x b s r) h = absurd (omega (arith, takes-shorter x))
 
 module _ (program : List ℤ) (budget budget' : ℕ) where
   -- one entry in two lists
   one_same : {x : List ℤ} (S Z : State) (ws us : List ℤ) (l m : Left) → Entry x → Holds program S → Holds program Z → SameState S Z
       → Steps program S ws (pos 1 ∷ x) l → Steps program Z us (pos 1 ∷ x) m → SameState l.state m.state
-  unfolding doSimple
+  unfolding do_simple
   one_same {x} S Z ws us l m e h g same s r =
       (simple program (pos 1 ∷ x) assign).two S Z ws us l m same h.fit.sized g.fit.sized ((entry-steps program e S ws h l).1 s) ((entry-steps program e Z us g m).1 r)
 
   lists-same : {i : ℕ} {p : List ℤ} {t u : Tally} {a b : Ended} → Sets program budget i p t a → a.outcome ≡ 0 → Sets program budget' i p u b → b.outcome ≡ 0
       → Holds program t.state → Holds program u.state → SameState t.state u.state → SameState a.state b.state
-  lists-same e-none z r y h g same = rw (no-entry r (omega arith)) same
-  lists-same (e-unfit n) z r y h g same = absurd (omega arith)
-  lists-same (e-unpaid x b) z r y h g same = absurd (omega arith)
-  lists-same (e-refused x b f) z r y h g same = absurd (omega (arith, (entry-number x.piece f).least))
-  lists-same {u = u} {b = c} (e-more {i = i} {q = q} {t = t} {l = l} x b s k) z r y h g same =
+  lists-same e_none z r y h g same = rw (no_entry r (omega arith)) same
+  lists-same (e_unfit n) z r y h g same = absurd (omega arith)
+  lists-same (e_unpaid x b) z r y h g same = absurd (omega arith)
+  lists-same (e_refused x b f) z r y h g same = absurd (omega (arith, (entry-number x.piece f).least))
+  lists-same {u = u} {b = c} (e_more {i = i} {q = q} {t = t} {l = l} x b s k) z r y h g same =
       let w = through r y (omega (arith, takes-shorter x)) in
       let e = same-entry x w.first in
       let m : Steps program u.state u.unread (pos 1 ∷ x.words) w.left = rw (← e.words) at w.steps in

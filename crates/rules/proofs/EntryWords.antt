@@ -7,16 +7,16 @@ use mathlib.Core.List.{List, [], ◌∷◌, ◌++◌, append_assoc, append-nil}
 use lib.IntN.{ℤ, pos}
 use lib.ListN.{length, take, length-append}
 use lib.Seq.{take-append_seam, drop-append_seam}
-use Rattle.words.specs.Words.{numberAt, last_of}
+use Rattle.words.specs.Words.{number_at, last_of}
 use Rattle.words.specs.Answer.{got, stop}
 use Rattle.words.proofs.Laws.{number-first}
 use Rattle.words.proofs.AnswerLaws.{stop≢got, got-inj, step}
 use Rattle.tables.specs.declared.Value.{Value}
 use Rattle.tables.specs.declared.Value.TheVariants.{Nil, Int}
 use Rattle.tables.specs.declared.Value.TheVariants.{Bool as Truth}
-use Rattle.program.specs.Forms.{expressionDepth, assign, verbOf}
-use Rattle.program.specs.Reading.{readPath, number, readExpression}
-use Rattle.program.specs.Grammar.{Path, Expression, statementOf, Yields, Takes}
+use Rattle.program.specs.Forms.{expression_depth, assign, verb_of}
+use Rattle.program.specs.Reading.{read_path, number, read_expression}
+use Rattle.program.specs.Grammar.{Path, Expression, statement_of, Yields, Takes}
 use Rattle.program.proofs.NumberLaws.{number_read, number-of}
 use Rattle.program.proofs.GrammarLaws.{path-complete, expression-complete, yields-complete}
 use Rattle.program.proofs.GrammarSound.{takes_two, path-sound, expression-sound}
@@ -46,7 +46,7 @@ literal-number Literal.yes q = (22, (q, number-of 20 23 22 q (omega arith) (omeg
 literal-number (Literal.integer {w = w}) q = (23, (w ∷ q, number-of 20 23 23 (w ∷ q) (omega arith) (omega arith)))
 
 -- an expression whose first word is at most 23
-low-literal : {d : ℕ} {e : List ℤ} (q : List ℤ) → Expression false d e → numberAt (e ++ q) 0 ≤ 23 → IsLiteral e
+low-literal : {d : ℕ} {e : List ℤ} (q : List ℤ) → Expression false d e → number_at (e ++ q) 0 ≤ 23 → IsLiteral e
 low-literal q Expression.nil h = record { value = Nil; literal = Literal.nil }
 low-literal q Expression.no h = record { value = Truth false; literal = Literal.no }
 low-literal q Expression.yes h = record { value = Truth true; literal = Literal.yes }
@@ -66,12 +66,12 @@ entry-complete (entry {a = a} {e = e} target literal) q =
 pub entry-sound : (p q : List ℤ) → read_entry p ≡ got q → Takes Entry p q
 unfolding read_entry
 entry-sound p q h =
-    step (readPath p) _ h λ r e k.
+    step (read_path p) _ h λ r e k.
     step (number 20 23 r) _ k λ x f j.
     let t = path-sound p r e in
     let y = expression-sound 1 false r q j in
     let n = number_read 20 23 r f in
-    let l : numberAt (y.words ++ q) 0 ≤ 23 = rw (← y.split) (omega (arith, n.is, n.most)) in
+    let l : number_at (y.words ++ q) 0 ≤ 23 = rw (← y.split) (omega (arith, n.is, n.most)) in
     let z = low-literal q y.piece l in
     record { words = t.words ++ y.words; piece = entry t.piece z.literal; split = t.split ∙ ap (λ (s : List ℤ). t.words ++ s) y.split ∙ sym (append_assoc t.words y.words q) }
 
@@ -115,11 +115,11 @@ take-front x q = let e : length (x ++ q) - length q ≡ length x = omega (arith,
 pub assigning-is : {p q : List ℤ} (x : Takes Entry p q) → assigning p q ≡ pos 1 ∷ x.words
 assigning-is {q = q} x = rw x.split (ap (λ (s : List ℤ). pos 1 ∷ s) (take-front x.words q))
 
-pub entry-yields : {d : ℕ} {x : List ℤ} → Entry x → Yields (statementOf d) (pos 1 ∷ x)
+pub entry-yields : {d : ℕ} {x : List ℤ} → Entry x → Yields (statement_of d) (pos 1 ∷ x)
 entry-yields (entry target literal) = Yields.assign target (literal-expression literal)
 
 pub entry-statement : {x : List ℤ} → Entry x → StatementReads (pos 1 ∷ x)
 entry-statement {x} e = record { nest = 0; rest = []; reads = rw append-nil at (yields-complete (entry-yields {d = 0} e) []) }
 
-pub entry-verb : {x : List ℤ} → Entry x → verbOf (numberAt (pos 1 ∷ x) 0) ≡ assign
+pub entry-verb : {x : List ℤ} → Entry x → verb_of (number_at (pos 1 ∷ x) 0) ≡ assign
 entry-verb {x} e = statement-verb (pos 1 ∷ x) (entry-statement e) assign (number-first (pos 1) x)

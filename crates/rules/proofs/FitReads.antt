@@ -7,7 +7,7 @@ use native.Mathlib.Omega.{arith}
 use lib.IntN.{ℤ}
 use lib.ListN.{drop}
 use lib.Seq.{drop-drop}
-use Rattle.words.specs.Words.{numberAt}
+use Rattle.words.specs.Words.{number_at}
 use Rattle.words.specs.Answer.{got}
 use Rattle.words.proofs.Laws.{number-cons}
 use Rattle.tables.specs.declared.Value.{Value}
@@ -15,15 +15,15 @@ use Rattle.tables.specs.Sizes.{labels}
 use Rattle.tables.specs.Cells.{Cells}
 use Rattle.fit.specs.Fit.{Fit}
 use Rattle.fit.proofs.FitLaws.{fit-labels}
-use Rattle.program.specs.Reading.{readPath, readExpression, readConstraint}
+use Rattle.program.specs.Reading.{read_path, read_expression, read_constraint}
 use Rattle.program.specs.Grammar.{Labels, Path, Expression, Parts, Constraint, Takes}
 use Rattle.program.proofs.GrammarSound.{takes_none, takes-word, takes-as, takes_two}
 use Rattle.program.proofs.GrammarLaws.{path-complete, expression-complete, constraint-complete}
-use Rattle.rules.specs.Paths.{Way, wayAt}
+use Rattle.rules.specs.Paths.{Way, way_at}
 use Rattle.rules.specs.Evaluation.{Kind, evaluate, kind}
 use Rattle.rules.specs.Rules.Expressions.{HasField, Leads, here, by, Names, names, Holds, holds}
-use Rattle.rules.specs.Rules.Expressions.{Literal, e-literal, e-path, e-operation, e-same, e-differ, Within}
-use Rattle.rules.specs.Rules.Expressions.{t-literal, t-path, t-operation, KindWithin}
+use Rattle.rules.specs.Rules.Expressions.{Literal, e_literal, e_path, e_operation, e_same, e_differ, Within}
+use Rattle.rules.specs.Rules.Expressions.{t_literal, t_path, t_operation, KindWithin}
 use Rattle.rules.specs.Steps.Evaluation.{PartReads, PartsRead, ConstraintReads}
 use Rattle.rules.proofs.NameLaws.{names-iff}
 use Rattle.rules.proofs.OperatorLaws.{makes-operator, gives-operator}
@@ -39,7 +39,7 @@ module _ (S : Cells) (fit : Fit S) where
   leads-take : {l n to : ℕ} {p : List ℤ} {prefix : List ℕ} → Leads S l n p to prefix → Takes (Labels n) p (drop n p)
   leads-take here = takes_none refl Labels.none
   leads-take (by {n = n} {p = p} e h k) =
-      let b : numberAt p 0 < labels = field-label h in
+      let b : number_at p 0 < labels = field-label h in
       let c : 1 + n ≡ suc n = omega arith in
       let d : drop n (drop 1 p) ≡ drop (suc n) p = rw c at (drop-drop n 1 p) in
       takes-word (number-cons p (omega arith)) (takes-as (rw d at (leads-take k)) λ ls x. Labels.one b x)
@@ -57,17 +57,17 @@ module _ (S : Cells) (fit : Fit S) where
   literal-take Literal.integer = takes-word refl (takes-word refl (takes_none refl Expression.integer))
 
   value-take : {d : ℕ} {p q : List ℤ} {v : Value} → Within S d p v q → Takes (Expression false d) p q
-  value-take (e-literal l) = literal-take l
-  value-take (e-path k) = takes-word refl (takes-as (holds-take k) λ a x. Expression.at x)
-  value-take (e-operation l r m) =
+  value-take (e_literal l) = literal-take l
+  value-take (e_path k) = takes-word refl (takes-as (holds-take k) λ a x. Expression.at x)
+  value-take (e_operation l r m) =
       takes-word refl (takes-word refl (takes_two (value-take l) (value-take r) λ x y f g. Expression.operation (makes-operator m).0 (makes-operator m).1 f g))
-  value-take (e-same k l e) = takes-word refl (takes_two (holds-take k) (holds-take l) λ a b x y. Expression.identity refl x y)
-  value-take (e-differ k l e) = takes-word refl (takes_two (holds-take k) (holds-take l) λ a b x y. Expression.identity refl x y)
+  value-take (e_same k l e) = takes-word refl (takes_two (holds-take k) (holds-take l) λ a b x y. Expression.identity refl x y)
+  value-take (e_differ k l e) = takes-word refl (takes_two (holds-take k) (holds-take l) λ a b x y. Expression.identity refl x y)
 
   kind-take : {d : ℕ} {p q : List ℤ} {k : Kind} → KindWithin S d p k q → Takes (Expression true d) p q
-  kind-take (t-literal l) = literal-take l
-  kind-take (t-path k) = takes-word refl (takes-as (holds-take k) λ a x. Expression.at x)
-  kind-take (t-operation l r t) =
+  kind-take (t_literal l) = literal-take l
+  kind-take (t_path k) = takes-word refl (takes-as (holds-take k) λ a x. Expression.at x)
+  kind-take (t_operation l r t) =
       takes-word refl (takes-word refl (takes_two (kind-take l) (kind-take r) λ x y f g. Expression.operation (gives-operator t).0 (gives-operator t).1 f g))
 
   parts-take : {m : ℕ} {p q : List ℤ} → PartsRead S m p q → Takes (Parts m) p q
@@ -80,29 +80,29 @@ module _ (S : Cells) (fit : Fit S) where
   -- ---- so it reads
 
   -- an L that names a cell reads
-  pub way-reads : (p : List ℤ) (w : Way) → wayAt S p ≡ got w → readPath p ≡ got w.rest
+  pub way-reads : (p : List ℤ) (w : Way) → way_at S p ≡ got w → read_path p ≡ got w.rest
   way-reads p w e = done (names-take ((names-iff S p w).0 e))
     where
-      done : {p q : List ℤ} → Takes Path p q → readPath p ≡ got q
+      done : {p q : List ℤ} → Takes Path p q → read_path p ≡ got q
       done {q = q} t = rw t.split (path-complete t.piece q)
 
-  taken : {p q : List ℤ} {in_c : Bool} {d : ℕ} → Takes (Expression in_c d) p q → readExpression d in_c p ≡ got q
+  taken : {p q : List ℤ} {in_c : Bool} {d : ℕ} → Takes (Expression in_c d) p q → read_expression d in_c p ≡ got q
   taken {q = q} t = rw t.split (expression-complete t.piece q)
 
   -- an expression that has a value reads
-  pub evaluate-reads : (d : ℕ) (p : List ℤ) (v : Value) (q : List ℤ) → evaluate d S p ≡ got (v, q) → readExpression d false p ≡ got q
+  pub evaluate-reads : (d : ℕ) (p : List ℤ) (v : Value) (q : List ℤ) → evaluate d S p ≡ got (v, q) → read_expression d false p ≡ got q
   evaluate-reads d p v q e = let w : Within S d p v q = evaluate-sound S d p (v, q) e in taken (value-take w)
 
   -- one that has a kind reads inside C
-  pub kind-reads : (d : ℕ) (p : List ℤ) (k : Kind) (q : List ℤ) → kind d S p ≡ got (k, q) → readExpression d true p ≡ got q
+  pub kind-reads : (d : ℕ) (p : List ℤ) (k : Kind) (q : List ℤ) → kind d S p ≡ got (k, q) → read_expression d true p ≡ got q
   kind-reads d p k q e = let w : KindWithin S d p k q = kind-sound S d p (k, q) e in taken (kind-take w)
 
   -- a C that reads by its kinds and paths reads by its words
   pub constraint-take : {p : List ℤ} → ConstraintReads S p → (q : List ℤ) × Takes Constraint p q
   constraint-take (ConstraintReads.constraint {q = q} a b x) = (q, takes-word refl (takes-as (parts-take x) λ ps y. Constraint.constraint a b y))
 
-  pub constraint-reads : {p : List ℤ} → ConstraintReads S p → (q : List ℤ) × (readConstraint p ≡ got q)
+  pub constraint-reads : {p : List ℤ} → ConstraintReads S p → (q : List ℤ) × (read_constraint p ≡ got q)
   constraint-reads c = let t = constraint-take c in (t.0, done t.1)
     where
-      done : {p q : List ℤ} → Takes Constraint p q → readConstraint p ≡ got q
+      done : {p q : List ℤ} → Takes Constraint p q → read_constraint p ≡ got q
       done {q = q} t = rw t.split (constraint-complete t.piece q)

@@ -5,17 +5,17 @@ use native.Mathlib.Omega.{arith}
 use borrow.Author.Tests.{eq-eqb}
 use lib.IntN.{ℤ}
 use Rattle.program.proofs.StandLaws.{always-is}
-use Rattle.words.specs.Words.{numberAt}
+use Rattle.words.specs.Words.{number_at}
 use Rattle.words.specs.Answer.{got}
 use Rattle.words.proofs.AnswerLaws.{stop≢got, got-inj}
 use Rattle.tables.specs.declared.Sort.{Sort}
 use Rattle.tables.specs.declared.Sort.TheVariants.{Values, Identities}
-use Rattle.program.specs.Forms.{Verb, skip, assign, new, always, once, alwaysSame, onceSame, branch, loop, noVerb, verbOf}
-use Rattle.program.specs.Where.{alwaysOf}
+use Rattle.program.specs.Forms.{Verb, skip, assign, new, always, once, always_same, once_same, branch, loop, no_verb, verb_of}
+use Rattle.program.specs.Where.{always_of}
 use Rattle.program.proofs.FormLaws.{verb-number}
 use Rattle.program.proofs.GrammarSound.{statement-sound}
 use Rattle.rules.specs.State.{State}
-use Rattle.rules.specs.Statements.{Left, position_of, doSimple}
+use Rattle.rules.specs.Statements.{Left, position_of, do_simple}
 use Rattle.rules.specs.Steps.Holds.{Holds, StatementThere}
 use Rattle.rules.specs.Steps.Holding.{StatementsHold}
 use Rattle.rules.proofs.ProgramCode.{there-part}
@@ -25,28 +25,28 @@ use Rattle.rules.proofs.NewHolds.{new-holds}
 
 module _ (program p : List ℤ) (here : StatementThere program p) where
   -- the statement at p is an always-statement of its sort
-  stands : (s : Sort) → numberAt p 0 ≡ alwaysOf s → Stands program p s
+  stands : (s : Sort) → number_at p 0 ≡ always_of s → Stands program p s
   stands s e = record {
     rest = there-part here;
     small = omega (arith, here.short);
-    always = always-is program s (position_of program p) ∙ rw here.there (eq-eqb (numberAt p 0) (alwaysOf s) e);
+    always = always-is program s (position_of program p) ∙ rw here.there (eq-eqb (number_at p 0) (always_of s) e);
   }
 
-  verb-holds : (S : State) (ws : List ℤ) (l : Left) → Holds program S → (v : Verb) → verbOf (numberAt p 0) ≡ v → doSimple program p S ws v ≡ got l → Holds program l.state
-  unfolding doSimple
+  verb-holds : (S : State) (ws : List ℤ) (l : Left) → Holds program S → (v : Verb) → verb_of (number_at p 0) ≡ v → do_simple program p S ws v ≡ got l → Holds program l.state
+  unfolding do_simple
   verb-holds S ws l holds skip q e = rw (← got-inj e) holds
   verb-holds S ws l holds assign q e = assign-holds program p S ws l holds e
   verb-holds S ws l holds new q e =
       new-holds program p S ws l holds here.statement.nest here.statement.rest (statement-sound here.statement.nest p here.statement.rest here.statement.reads)
-      (rw q at (verb-number (numberAt p 0) (rw q (omega arith)))) e
-  verb-holds S ws l holds always q e = always-holds program p S ws l holds (stands Values (rw q at (verb-number (numberAt p 0) (rw q (omega arith))))) e
+      (rw q at (verb-number (number_at p 0) (rw q (omega arith)))) e
+  verb-holds S ws l holds always q e = always-holds program p S ws l holds (stands Values (rw q at (verb-number (number_at p 0) (rw q (omega arith))))) e
   verb-holds S ws l holds once q e = once-holds program p S ws l holds e
-  verb-holds S ws l holds alwaysSame q e = always-same-holds program p S ws l holds (stands Identities (rw q at (verb-number (numberAt p 0) (rw q (omega arith))))) e
-  verb-holds S ws l holds onceSame q e = once-same-holds program p S ws l holds e
+  verb-holds S ws l holds always_same q e = always-same-holds program p S ws l holds (stands Identities (rw q at (verb-number (number_at p 0) (rw q (omega arith))))) e
+  verb-holds S ws l holds once_same q e = once-same-holds program p S ws l holds e
   verb-holds S ws l holds branch q e = stop≢got e
   verb-holds S ws l holds loop q e = stop≢got e
-  verb-holds S ws l holds noVerb q e = stop≢got e
+  verb-holds S ws l holds no_verb q e = stop≢got e
 
 -- an accepted statement keeps what holds, whatever its proposal says
 pub statements-hold : StatementsHold
-statements-hold program p S ws l here holds e = verb-holds program p here S ws l holds (verbOf (numberAt p 0)) refl e
+statements-hold program p S ws l here holds e = verb-holds program p here S ws l holds (verb_of (number_at p 0)) refl e

@@ -16,13 +16,13 @@ use Rattle.tables.specs.declared.Sort.TheVariants.{Identities}
 use Rattle.tables.specs.Values.{Sound}
 use Rattle.tables.specs.Cells.{Cells}
 use Rattle.fit.specs.Fit.{Fit}
-use Rattle.rules.specs.State.{refused, orRefuse, slot_at, present, positions}
-use Rattle.rules.specs.Paths.{Way, wayAt, value_at}
+use Rattle.rules.specs.State.{refused, or_refuse, slot_at, present, positions}
+use Rattle.rules.specs.Paths.{Way, way_at, value_at}
 use Rattle.rules.specs.Evaluation.{same}
-use Rattle.rules.specs.Identities.{isNode, sameNow, Tie, tiesOf, ties, identityPhase}
+use Rattle.rules.specs.Identities.{is_node, same_now, Tie, ties_of, ties, identity_phase}
 use Rattle.rules.specs.Rules.Identities.{Tied, itself, by_tie, backwards, onwards, IsNamed}
 use Rattle.rules.specs.Steps.Phases.{Relevant, Computed, Target, Ready}
-use Rattle.rules.specs.Start.{identitiesHold}
+use Rattle.rules.specs.Start.{identities_hold}
 use Rattle.rules.specs.Steps.PathsAfter.{PathsAfter}
 use Rattle.rules.specs.Steps.IdentitiesAfter.{IdentitiesAfter}
 use Rattle.rules.proofs.WayLaws.{one-of-cons, or-refuse-is}
@@ -37,37 +37,37 @@ pub record HoldsAt (S : Cells) (p : List ℤ) : Type 0 where
   pub left : Way
   pub right : Way
   pub value : Value
-  pub left-way : wayAt S p ≡ got left
-  pub right-way : wayAt S left.rest ≡ got right
+  pub left-way : way_at S p ≡ got left
+  pub right-way : way_at S left.rest ≡ got right
   pub left-has : slot_at S left.cell ≡ Has value
   pub right-has : slot_at S right.cell ≡ Has value
-  pub node : isNode value ≡ true
+  pub node : is_node value ≡ true
 
 present-is : (s : Slot) (v : Value) → present s ≡ got v → s ≡ Has v
 present-is (Has w) v e = ap Has (got-inj e)
 present-is Absent v e = stop≢got e
 
 -- the value of an L is what the cell that it names holds
-pub value_of {ℓ} : {X : Type ℓ} (S : Cells) (p : List ℤ) (x : Value × List ℤ) → value_at S p ≡ got x → ((w : Way) → wayAt S p ≡ got w → slot_at S w.cell ≡ Has x.0 → x.1 ≡ w.rest → X) → X
+pub value_of {ℓ} : {X : Type ℓ} (S : Cells) (p : List ℤ) (x : Value × List ℤ) → value_at S p ≡ got x → ((w : Way) → way_at S p ≡ got w → slot_at S w.cell ≡ Has x.0 → x.1 ≡ w.rest → X) → X
 unfolding value_at
 value_of S p x e k =
-    step (wayAt S p) _ e λ w e1 k1.
-    step (orRefuse 7 p (present (slot_at S w.cell))) _ k1 λ v e2 k2.
+    step (way_at S p) _ e λ w e1 k1.
+    step (or_refuse 7 p (present (slot_at S w.cell))) _ k1 λ v e2 k2.
     k w e1
     (present-is (slot_at S w.cell) v (or-refuse-is 7 p (present (slot_at S w.cell)) v e2) ∙ ap Has (ap (λ (y : Value × List ℤ). y.0) (got-inj k2)))
     (sym (ap (λ (y : Value × List ℤ). y.1) (got-inj k2)))
 
-pub value-from : (S : Cells) (p : List ℤ) (w : Way) (v : Value) → wayAt S p ≡ got w → slot_at S w.cell ≡ Has v → value_at S p ≡ got (v, w.rest)
+pub value-from : (S : Cells) (p : List ℤ) (w : Way) (v : Value) → way_at S p ≡ got w → slot_at S w.cell ≡ Has v → value_at S p ≡ got (v, w.rest)
 unfolding value_at
 value-from S p w v e h = rw (e, h)
 
-pub holds_of : (S : Cells) (word p : List ℤ) → Fit S → sameNow S word p ≡ got tt → HoldsAt S p
-unfolding sameNow
+pub holds_of : (S : Cells) (word p : List ℤ) → Fit S → same_now S word p ≡ got tt → HoldsAt S p
+unfolding same_now
 holds_of S word p fit e =
     step (value_at S p) _ e λ x e1 k1.
     step (value_at S x.1) _ k1 λ y e2 k2.
-    tested (refused 8 p) (isNode x.0) _ k2 λ c3 k3.
-    tested (refused 8 x.1) (isNode y.0) _ k3 λ c4 k4.
+    tested (refused 8 p) (is_node x.0) _ k2 λ c3 k3.
+    tested (refused 8 x.1) (is_node y.0) _ k3 λ c4 k4.
     value_of S p x e1 λ a w1 h1 r1.
     value_of S x.1 y e2 λ b w2 h2 r2.
     let q : x.0 ≡ y.0 = same-is x.0 y.0 (slot-sound S fit a.cell x.0 h1) (slot-sound S fit b.cell y.0 h2) (wanted (same x.0 y.0) k4) in
@@ -77,8 +77,8 @@ holds_of S word p fit e =
     wanted true e = refl
     wanted false e = stop≢got e
 
-pub holds-from : (S : Cells) (word p : List ℤ) → HoldsAt S p → sameNow S word p ≡ got tt
-unfolding sameNow
+pub holds-from : (S : Cells) (word p : List ℤ) → HoldsAt S p → same_now S word p ≡ got tt
+unfolding same_now
 holds-from S word p h =
     rw (
       value-from S p h.left h.value h.left-way h.left-has,
@@ -89,22 +89,22 @@ holds-from S word p h =
 
 -- ---- all kept identities
 
-pub all_hold : (program : List ℤ) (S : Cells) (ps : List ℕ) → Fit S → identitiesHold program S ps ≡ got tt → (position : ℕ) → OneOf position ps → HoldsAt S (drop (position + 1) program)
-unfolding identitiesHold
-all_hold program S [] fit e position m = absurd (Memᴰ.not-nil m)
-all_hold program S (k ∷ ps) fit e position m = either (sameNow S (drop k program) (drop (k + 1) program))
-    (λ u q. one-of-cons position k ps m (λ i. rw i (holds_of S (drop k program) (drop (k + 1) program) fit q)) (λ n. all_hold program S ps fit (rw (q, identitiesHold) at e) position n))
-    (λ f q. stop≢got (rw (q, identitiesHold) at e))
+pub all_hold_lem : (program : List ℤ) (S : Cells) (ps : List ℕ) → Fit S → identities_hold program S ps ≡ got tt → (position : ℕ) → OneOf position ps → HoldsAt S (drop (position + 1) program)
+unfolding identities_hold
+all_hold_lem program S [] fit e position m = absurd (Memᴰ.not-nil m)
+all_hold_lem program S (k ∷ ps) fit e position m = either (same_now S (drop k program) (drop (k + 1) program))
+    (λ u q. one-of-cons position k ps m (λ i. rw i (holds_of S (drop k program) (drop (k + 1) program) fit q)) (λ n. all_hold_lem program S ps fit (rw (q, identities_hold) at e) position n))
+    (λ f q. stop≢got (rw (q, identities_hold) at e))
 
-pub hold-all : (program : List ℤ) (S : Cells) (ps : List ℕ) → ((position : ℕ) → OneOf position ps → HoldsAt S (drop (position + 1) program)) → identitiesHold program S ps ≡ got tt
-unfolding identitiesHold
+pub hold-all : (program : List ℤ) (S : Cells) (ps : List ℕ) → ((position : ℕ) → OneOf position ps → HoldsAt S (drop (position + 1) program)) → identities_hold program S ps ≡ got tt
+unfolding identities_hold
 hold-all program S [] h = refl
 hold-all program S (k ∷ ps) h =
-    rw (holds-from S (drop k program) (drop (k + 1) program) (h k (OneOf.head refl)), identitiesHold) (hold-all program S ps (λ position m. h position (OneOf.tail m)))
+    rw (holds-from S (drop k program) (drop (k + 1) program) (h k (OneOf.head refl)), identities_hold) (hold-all program S ps (λ position m. h position (OneOf.tail m)))
 
 -- where all kept identities hold, each has its tie, and both ends of every tie hold the same
-held-ties : (program : List ℤ) (S : Cells) (ps : List ℕ) → ((position : ℕ) → OneOf position ps → HoldsAt S (drop (position + 1) program)) → (ts : List Tie) × (tiesOf program S ps ≡ got ts)
-unfolding tiesOf
+held-ties : (program : List ℤ) (S : Cells) (ps : List ℕ) → ((position : ℕ) → OneOf position ps → HoldsAt S (drop (position + 1) program)) → (ts : List Tie) × (ties_of program S ps ≡ got ts)
+unfolding ties_of
 held-ties program S [] h = ([], refl)
 held-ties program S (k ∷ ps) h =
     let a = h k (OneOf.head refl) in
@@ -113,9 +113,9 @@ held-ties program S (k ∷ ps) h =
     let w = held-ties program S ps (λ position m. h position (OneOf.tail m)) in
     (t ∷ w.0, rw (e, w.1))
 
-pub ties-there : (program kept : List ℤ) (S : Cells) → Fit S → identitiesHold program S (positions kept Identities) ≡ got tt → (ts : List Tie) × (ties program kept S ≡ got ts)
+pub ties-there : (program kept : List ℤ) (S : Cells) → Fit S → identities_hold program S (positions kept Identities) ≡ got tt → (ts : List Tie) × (ties program kept S ≡ got ts)
 unfolding ties
-ties-there program kept S fit e = held-ties program S (positions kept Identities) (all_hold program S (positions kept Identities) fit e)
+ties-there program kept S fit e = held-ties program S (positions kept Identities) (all_hold_lem program S (positions kept Identities) fit e)
 
 -- ---- after the phase
 
@@ -138,7 +138,7 @@ end-named target l r n = elim (tied-named r) [ inl e ↦ rw e n | inr w ↦ w.0 
 
 module _ (program kept : List ℤ) (before now : Cells) (word : List ℤ) (target : ℕ) (prefix : List ℕ) (v : Value) (Z : Cells)
     (fit : Fit before) (ready : Ready before now) (reached : Target before target prefix) (sound : Sound v)
-    (answered : identityPhase program kept before now word target prefix v ≡ got Z) where
+    (answered : identity_phase program kept before now word target prefix v ≡ got Z) where
   abbrev facts : Computed program kept before now target prefix v Z
   facts = (phase-iff program kept before now word target prefix v fit sound Z).0 answered
 
@@ -155,8 +155,8 @@ module _ (program kept : List ℤ) (before now : Cells) (word : List ℤ) (targe
       let q : a.0 ≡ t = got-inj (sym a.1.1 ∙ e) in
       rw q at a.1.0
 
-  in-class : (l : ℕ) → Relevant facts.tied target l → slot_at Z l ≡ Has v
-  in-class = class-slot program kept before now word target prefix v facts.tied fit ready reached sound facts.followed Z answered
+  in_class : (l : ℕ) → Relevant facts.tied target l → slot_at Z l ≡ Has v
+  in_class = class-slot program kept before now word target prefix v facts.tied fit ready reached sound facts.followed Z answered
 
   out-of-class : (l : ℕ) → (Relevant facts.tied target l → ⊥) → slot_at Z l ≡ slot_at now l
   out-of-class = other-slot program kept before now word target prefix v facts.tied fit ready reached sound facts.followed Z answered
@@ -176,8 +176,8 @@ module _ (program kept : List ℤ) (before now : Cells) (word : List ℤ) (targe
         value = v;
         left-way = to-left;
         right-way = to-right;
-        left-has = in-class h.left.cell r;
-        right-has = in-class h.right.cell (onwards r (by_tie t n));
+        left-has = in_class h.left.cell r;
+        right-has = in_class h.right.cell (onwards r (by_tie t n));
         node = facts.node (end-named target h.left.cell r (t, (n, inl refl)));
       })
       (λ k. record {
@@ -191,8 +191,8 @@ module _ (program kept : List ℤ) (before now : Cells) (word : List ℤ) (targe
         node = h.node;
       })
 
-  identities-here : identitiesHold program before (positions kept Identities) ≡ got tt → identitiesHold program Z (positions kept Identities) ≡ got tt
-  identities-here e = hold-all program Z (positions kept Identities) (λ position m. still-holds position m (all_hold program before (positions kept Identities) fit e position m))
+  identities-here : identities_hold program before (positions kept Identities) ≡ got tt → identities_hold program Z (positions kept Identities) ≡ got tt
+  identities-here e = hold-all program Z (positions kept Identities) (λ position m. still-holds position m (all_hold_lem program before (positions kept Identities) fit e position m))
 
 -- kept identities that hold before the phase hold after it
 pub identities-after : IdentitiesAfter

@@ -15,11 +15,11 @@ use Rattle.tables.specs.Values.{cell_of, Sound}
 use Rattle.tables.specs.Cells.{Cells}
 use Rattle.fit.specs.Fit.{Fit}
 use Rattle.fit.proofs.FitLaws.{fit_count, fit-ref}
-use Rattle.program.specs.Forms.{anIdentity}
+use Rattle.program.specs.Forms.{an_identity}
 use Rattle.rules.specs.State.{slot_at}
 use Rattle.rules.specs.Paths.{value_at}
-use Rattle.rules.specs.Evaluation.{same, evaluateForm, evaluate}
-use Rattle.rules.specs.Rules.Expressions.{Holds, holds, e-same, e-differ}
+use Rattle.rules.specs.Evaluation.{same, evaluate_form, evaluate}
+use Rattle.rules.specs.Rules.Expressions.{Holds, holds, e_same, e_differ}
 use Rattle.rules.specs.Steps.Evaluation.{OneValue, TwoValues}
 use Rattle.rules.proofs.WordSteps.{apart}
 use Rattle.rules.proofs.NameLaws.{holds-sound}
@@ -44,9 +44,9 @@ module _ (S : Cells) (fit : Fit S) where
 
     -- both sides, from either answer
     parted {ℓ} : {X : Type ℓ} (b : Bool) → Says b → ((u v : Value) (q : List ℤ) → Holds S p u q → Holds S q v r → same u v ≡ b → X) → X
-    unfolding evaluateForm
+    unfolding evaluate_form
     parted b e k =
-        step (value_at S p) _ (sym (evaluate-opens S d anIdentity p (apart λ z. omega arith)) ∙ e) λ x e1 k1.
+        step (value_at S p) _ (sym (evaluate-opens S d an_identity p (apart λ z. omega arith)) ∙ e) λ x e1 k1.
         step (value_at S x.1) _ k1 λ y e2 k2.
         let i : (Truth (same x.0 y.0), y.1) ≡ (Truth b, r) = got-inj k2 in
         let j : Truth (same x.0 y.0) ≡ Truth b = ap (λ (z : Value × List ℤ). z.0) i in
@@ -60,7 +60,7 @@ module _ (S : Cells) (fit : Fit S) where
       (λ e. parted true e λ u v q h k s.
           let i : u ≡ v = same-value u v (held-sound h) (held-sound k) (same_true u v s) in
           record { value = v; between = q; left = rw i at h; right = k }),
-      (λ o. evaluate-complete (e-same o.left o.right refl)),
+      (λ o. evaluate-complete (e_same o.left o.right refl)),
     )
 
     -- E-IDENTITYFALSE
@@ -68,6 +68,6 @@ module _ (S : Cells) (fit : Fit S) where
     identity-false = (
       (λ e. parted false e λ u v q h k s.
           record { one = u; other = v; between = q; left = h; right = k; apart = λ i. same_false u v s (ap cell_of i) }),
-      (λ o. evaluate-complete (e-differ o.left o.right
+      (λ o. evaluate-complete (e_differ o.left o.right
           (λ c. o.apart (same-value o.one o.other (held-sound o.left) (held-sound o.right) c)))),
     )

@@ -14,7 +14,7 @@ use Rattle.tables.specs.Cells.{Cells, cell_at}
 use Rattle.fit.specs.Fit.{Fit}
 use Rattle.tables.proofs.SearchLaws.{cases}
 use Rattle.rules.specs.State.{Fault, Res, refused, refuse, slot_at}
-use Rattle.rules.specs.Identities.{Tie, ties, isNode, member, frozenBy, class_of, names, clashFree, put_all, identityPhase}
+use Rattle.rules.specs.Identities.{Tie, ties, is_node, member, frozen_by, class_of, names, clash_free, put_all, identity_phase}
 use Rattle.rules.specs.Rules.Identities.{itself, by_tie, onwards, backwards, Frozen}
 use Rattle.rules.specs.Steps.Phases.{Relevant, RelevantUpdate, Satisfies, Solves, Target, Ready}
 use Rattle.rules.specs.Steps.LeastChange.{LeastChange, LeastChanges}
@@ -30,11 +30,11 @@ forced ts target v Y s h l r = (tied-carries (λ k. slot_at Y k ≡ Has v) ts (�
 module _ (program kept : List ℤ) (before now : Cells) (word : List ℤ) (target : ℕ) (prefix : List ℕ) (v : Value) (ts : List Tie)
     (fit : Fit before) (ready : Ready before now) (reached : Target before target prefix) (sound : Sound v) (followed : ties program kept before ≡ got ts) where
   abbrev phase : Res Cells
-  phase = identityPhase program kept before now word target prefix v
+  phase = identity_phase program kept before now word target prefix v
 
   -- the phase, its ties being followed
-  phase-is : phase ≡ (want (refused 13 word) (not (names ts target) || isNode v) >> (want (refused 12 word) (clashFree before (prefix ++ frozenBy ts) v (class_of ts target)) >> got (put_all now (class_of ts target) v)))
-  unfolding identityPhase
+  phase-is : phase ≡ (want (refused 13 word) (not (names ts target) || is_node v) >> (want (refused 12 word) (clash_free before (prefix ++ frozen_by ts) v (class_of ts target)) >> got (put_all now (class_of ts target) v)))
+  unfolding identity_phase
   phase-is = rw followed
 
   -- the plain facts of an answer, with these ties
@@ -48,19 +48,19 @@ module _ (program kept : List ℤ) (before now : Cells) (word : List ℤ) (targe
       let q : h.tied ≡ ts = got-inj (sym h.followed ∙ followed) in
       record { free = rw q at h.free; written = rw q at h.written }
 
-  pub phase-written : (Z : Cells) → identityPhase program kept before now word target prefix v ≡ got Z → Z ≡ put_all now (class_of ts target) v
+  pub phase-written : (Z : Cells) → identity_phase program kept before now word target prefix v ≡ got Z → Z ≡ put_all now (class_of ts target) v
   phase-written Z e = (facts Z e).written
 
   -- where the phase answers: every cell, by whether it is in the class
-  pub class-slot : (Z : Cells) → identityPhase program kept before now word target prefix v ≡ got Z → (l : ℕ) → Relevant ts target l → slot_at Z l ≡ Has v
+  pub class-slot : (Z : Cells) → identity_phase program kept before now word target prefix v ≡ got Z → (l : ℕ) → Relevant ts target l → slot_at Z l ≡ Has v
   class-slot Z e l r = rw (facts Z e).written
       (put-all-slot v now (class_of ts target) l sound (ready-sized before fit ready) (tied_below ts (ends-below program kept before ts followed) r (target_below before reached)) ((class-iff ts target l).1 r))
 
-  class-cell : (Z : Cells) → identityPhase program kept before now word target prefix v ≡ got Z → (l : ℕ) → Relevant ts target l → cell_at Z l ≡ cell_of v
+  class-cell : (Z : Cells) → identity_phase program kept before now word target prefix v ≡ got Z → (l : ℕ) → Relevant ts target l → cell_at Z l ≡ cell_of v
   class-cell Z e l r = rw (facts Z e).written
       (put-all-same v now (class_of ts target) l (ready-sized before fit ready) (tied_below ts (ends-below program kept before ts followed) r (target_below before reached)) ((class-iff ts target l).1 r))
 
-  pub other-slot : (Z : Cells) → identityPhase program kept before now word target prefix v ≡ got Z → (l : ℕ) → (Relevant ts target l → ⊥) → slot_at Z l ≡ slot_at now l
+  pub other-slot : (Z : Cells) → identity_phase program kept before now word target prefix v ≡ got Z → (l : ℕ) → (Relevant ts target l → ⊥) → slot_at Z l ≡ slot_at now l
   other-slot Z e l n = rw (facts Z e).written (put-all-slot-other v now (class_of ts target) l (class-not ts target l n))
 
   -- a cell is in the class or not
@@ -68,7 +68,7 @@ module _ (program kept : List ℤ) (before now : Cells) (word : List ℤ) (targe
   decided l f g = cases (member l (class_of ts target)) (λ e. f ((class-iff ts target l).0 e)) (λ e. g (λ r. false≢true (sym e ∙ (class-iff ts target l).1 r)))
 
   -- a frozen cell holds what it held
-  pub phase-frozen : (Z : Cells) → identityPhase program kept before now word target prefix v ≡ got Z → (l : ℕ) → Frozen prefix ts l → slot_at Z l ≡ slot_at before l
+  pub phase-frozen : (Z : Cells) → identity_phase program kept before now word target prefix v ≡ got Z → (l : ℕ) → Frozen prefix ts l → slot_at Z l ≡ slot_at before l
   phase-frozen Z e l f = decided l
       (λ r. class-slot Z e l r ∙ sym ((facts Z e).free l r f))
       (λ n. other-slot Z e l n ∙ ready-slot before fit ready l (frozen-inside program kept before ts followed fit reached l f))
@@ -84,8 +84,8 @@ module _ (program kept : List ℤ) (before now : Cells) (word : List ℤ) (targe
           records = rw w (put-all-records v now c);
           counts = rw w (put-all-counts v now c);
           labels = rw w (put-all-label v now c);
-          environment-length = rw w (put-all-lengths v now c).0;
-          heap-length = rw w (put-all-lengths v now c).1;
+          environment_length = rw w (put-all-lengths v now c).0;
+          heap_length = rw w (put-all-lengths v now c).1;
         };
         frozen = phase-frozen Z e;
       }
@@ -101,8 +101,8 @@ module _ (program kept : List ℤ) (before now : Cells) (word : List ℤ) (targe
       ∙ sym (other-slot Z e t.two (λ r. n (onwards r (backwards (by_tie t m))))))
 
   -- a table that can be had shows that there is no clash
-  no-clash : (Y : Cells) → Solves prefix ts target v before Y → clashFree before (prefix ++ frozenBy ts) v (class_of ts target) ≡ true
-  no-clash Y h = (clash-iff before (prefix ++ frozenBy ts) v (class_of ts target)).1
+  no-clash : (Y : Cells) → Solves prefix ts target v before Y → clash_free before (prefix ++ frozen_by ts) v (class_of ts target) ≡ true
+  no-clash Y h = (clash-iff before (prefix ++ frozen_by ts) v (class_of ts target)).1
       (λ l m f. (is-has before fit l v sound).1
       (sym (h.keeps l ((frozen-iff prefix ts l).0 f)) ∙ forced ts target v Y h.satisfies h.has l ((class-iff ts target l).0 m)))
 
@@ -113,9 +113,9 @@ module _ (program kept : List ℤ) (before now : Cells) (word : List ℤ) (targe
   least-change-here : LeastChange phase before now word target prefix v ts
   least-change-here = record {
     forced = λ Y h. forced ts target v Y h.satisfies h.has;
-    impossible = λ c Y h. c.other (sym (h.keeps c.cell c.frozen) ∙ forced ts target v Y h.satisfies h.has c.cell c.in-class);
-    refused = λ e Y h. never-twelve (not (names ts target) || isNode v) (put_all now (class_of ts target) v) (sym (phase-is ∙ rw (no-clash Y h)) ∙ e);
-    answers = λ Y h n. (put_all now (class_of ts target) v, phase-is ∙ rw ((node-iff (names ts target) (isNode v)).1 (λ q. n ((names-iff ts target).0 q)), no-clash Y h));
+    impossible = λ c Y h. c.other (sym (h.keeps c.cell c.frozen) ∙ forced ts target v Y h.satisfies h.has c.cell c.in_class);
+    refused = λ e Y h. never-twelve (not (names ts target) || is_node v) (put_all now (class_of ts target) v) (sym (phase-is ∙ rw (no-clash Y h)) ∙ e);
+    answers = λ Y h n. (put_all now (class_of ts target) v, phase-is ∙ rw ((node-iff (names ts target) (is_node v)).1 (λ q. n ((names-iff ts target).0 q)), no-clash Y h));
     updates = updates;
     solves = λ Z e s. record { keeps = phase-frozen Z e; satisfies = satisfied Z e s; has = class-slot Z e target itself };
     least = λ Z Y e h l n. decided l

@@ -6,21 +6,21 @@ use Prim.Native.Nat.{ℕ, zero, suc, ◌≤◌}
 use native.Mathlib.Omega.{arith}
 use lib.IntN.{ℤ, pos}
 use lib.ListN.{drop}
-use Rattle.words.specs.Words.{numberAt}
+use Rattle.words.specs.Words.{number_at}
 use Rattle.words.specs.Answer.{got, stop}
 use Rattle.words.proofs.AnswerLaws.{stop-inj, stop≢got, either}
 use Rattle.tables.specs.declared.Value.{Value}
 use Rattle.tables.specs.Cells.{Cells}
 use Rattle.tables.proofs.SearchLaws.{cases}
-use Rattle.program.specs.Forms.{operators, Form, aNil, aFalse, aTrue, anInteger, aPath, anOperation, anIdentity, noForm, form_of}
-use Rattle.program.specs.Reading.{anyWord}
+use Rattle.program.specs.Forms.{operators, Form, a_nil, a_false, a_true, an_integer, a_path, an_operation, an_identity, no_form, form_of}
+use Rattle.program.specs.Reading.{any_word}
 use Rattle.program.proofs.NumberLaws.{number-of}
-use Rattle.program.proofs.FormLaws.{numberOfForm}
+use Rattle.program.proofs.FormLaws.{number_of_form}
 use Rattle.rules.specs.State.{Fault, Res, reads}
 use Rattle.rules.specs.Paths.{value_at}
-use Rattle.rules.specs.Evaluation.{Kind, kind_of, op_of, takes, apply, at, evaluateForm, evaluate}
+use Rattle.rules.specs.Evaluation.{Kind, kind_of, op_of, takes, apply, at, evaluate_form, evaluate}
 use Rattle.rules.specs.Rules.Operators.{Gives, Makes}
-use Rattle.rules.specs.Rules.Expressions.{Within, valued, Meets, m-path, m-left, m-right, m-here, m-one, m-other, kinds, range}
+use Rattle.rules.specs.Rules.Expressions.{Within, valued, Meets, m_path, m_left, m_right, m_here, m_one, m_other, kinds, range}
 use Rattle.rules.proofs.WordSteps.{form-words, apart}
 use Rattle.rules.proofs.NameLaws.{holds-sound, holds-complete}
 use Rattle.rules.proofs.OperatorLaws.{gives-sound, gives-operator, gives-complete, makes-sound, makes-complete}
@@ -55,56 +55,56 @@ module _ (o : ℕ) (a b : Value) (least : 1 ≤ o) (most : o ≤ operators) wher
 
 module _ (S : Cells) (d : ℕ) (go : List ℤ → Res (Value × List ℤ)) (good : (q : List ℤ) (x : Value × List ℤ) → go q ≡ got x → Within S d q x.0 x.1)
     (bad : (q : List ℤ) (f : Fault) → go q ≡ stop f → (f.number ≡ 2 → ⊥) → Meets S false d q f) where
-  form-meets : (r : Form) (p : List ℤ) (f : Fault) → evaluateForm go S (pos (numberOfForm r) ∷ p) r ≡ stop f → (f.number ≡ 2 → ⊥)
-      → Meets S false (suc d) (pos (numberOfForm r) ∷ p) f
-  unfolding evaluateForm
-  form-meets aNil p f e two = stop≢got (sym e)
-  form-meets aFalse p f e two = stop≢got (sym e)
-  form-meets aTrue p f e two = stop≢got (sym e)
-  form-meets anInteger p f e two = stopped (reads (anyWord p)) _ e (λ e1. absurd (two (unread (anyWord p) e1))) (λ q e1 k1. stop≢got (sym k1))
-  form-meets aPath p f e two = let l = lost-sound S p f e two in rw (← l.0) (m-path l.1)
-  form-meets anOperation p f e two =
+  form-meets : (r : Form) (p : List ℤ) (f : Fault) → evaluate_form go S (pos (number_of_form r) ∷ p) r ≡ stop f → (f.number ≡ 2 → ⊥)
+      → Meets S false (suc d) (pos (number_of_form r) ∷ p) f
+  unfolding evaluate_form
+  form-meets a_nil p f e two = stop≢got (sym e)
+  form-meets a_false p f e two = stop≢got (sym e)
+  form-meets a_true p f e two = stop≢got (sym e)
+  form-meets an_integer p f e two = stopped (reads (any_word p)) _ e (λ e1. absurd (two (unread (any_word p) e1))) (λ q e1 k1. stop≢got (sym k1))
+  form-meets a_path p f e two = let l = lost-sound S p f e two in rw (← l.0) (m_path l.1)
+  form-meets an_operation p f e two =
       stopped-number 1 operators p _ (omega arith) e two λ o q a b s k.
       rw s
-      (stopped (go q) _ k (λ e1. m-left a b (bad q f e1 two)) λ y e1 k1.
-      stopped (go y.1) _ k1 (λ e2. m-right a b (valued (good q y e1)) (bad y.1 f e2 two)) λ z e2 k2.
+      (stopped (go q) _ k (λ e1. m_left a b (bad q f e1 two)) λ y e1 k1.
+      stopped (go y.1) _ k1 (λ e2. m_right a b (valued (good q y e1)) (bad y.1 f e2 two)) λ z e2 k2.
       stopped (at (pos 25 ∷ p) (apply (op_of o) y.0 z.0)) _ k2
       (λ e3. at-stop (pos 25 ∷ p) (apply (op_of o) y.0 z.0) e3 λ n e4 w.
       apply-stop o y.0 z.0 a b e4
-      (λ i never. rw (← w, ← i, s) (m-here (kinds a b (valued (good q y e1)) (valued (good y.1 z e2)) never)))
-      (λ i c g never. rw (← w, ← i, s) (m-here (range (good q y e1) (good y.1 z e2) g never))))
+      (λ i never. rw (← w, ← i, s) (m_here (kinds a b (valued (good q y e1)) (valued (good y.1 z e2)) never)))
+      (λ i c g never. rw (← w, ← i, s) (m_here (range (good q y e1) (good y.1 z e2) g never))))
       (λ v e3 k3. stop≢got (sym k3)))
-  form-meets anIdentity p f e two =
-      stopped (value_at S p) _ e (λ e1. let l = lost-sound S p f e1 two in rw (← l.0) (m-one l.1)) λ y e1 k1.
+  form-meets an_identity p f e two =
+      stopped (value_at S p) _ e (λ e1. let l = lost-sound S p f e1 two in rw (← l.0) (m_one l.1)) λ y e1 k1.
       stopped (value_at S y.1) _ k1
-      (λ e2. let l = lost-sound S y.1 f e2 two in rw (← l.0) (m-other (holds-sound S p y e1) l.1))
+      (λ e2. let l = lost-sound S y.1 f e2 two in rw (← l.0) (m_other (holds-sound S p y e1) l.1))
       (λ z e2 k2. stop≢got (sym k2))
-  form-meets noForm p f e two = absurd (two (refused-with 2 (pos 27 ∷ p) e))
+  form-meets no_form p f e two = absurd (two (refused-with 2 (pos 27 ∷ p) e))
 
-  words-meet : (p p' : List ℤ) (r : Form) (f : Fault) → p ≡ pos (numberOfForm r) ∷ p' → evaluateForm go S p r ≡ stop f → (f.number ≡ 2 → ⊥) → Meets S false (suc d) p f
+  words-meet : (p p' : List ℤ) (r : Form) (f : Fault) → p ≡ pos (number_of_form r) ∷ p' → evaluate_form go S p r ≡ stop f → (f.number ≡ 2 → ⊥) → Meets S false (suc d) p f
   words-meet p p' r f w e two = rw w (form-meets r p' f (rw w at e) two)
 
 pub meets-sound : (S : Cells) (d : ℕ) (p : List ℤ) (f : Fault) → evaluate d S p ≡ stop f → (f.number ≡ 2 → ⊥) → Meets S false d p f
-unfolding evaluate evaluateForm
+unfolding evaluate evaluate_form
 meets-sound S zero p f e two = absurd (two (refused-with 2 p e))
 meets-sound S (suc d) p f e two =
-    words-meet S d (λ q. evaluate d S q) (λ q x h. evaluate-sound S d q x h) (λ q g h t. meets-sound S d q g h t) p (drop 1 p) (form_of (numberAt p 0)) f
+    words-meet S d (λ q. evaluate d S q) (λ q x h. evaluate-sound S d q x h) (λ q g h t. meets-sound S d q g h t) p (drop 1 p) (form_of (number_at p 0)) f
     (form-words p (λ q. absurd (two (refused-with 2 p (rw q at e))))) e two
 
 -- ---- where the rules refuse, the definition stops
 
 pub meets-complete : {S : Cells} {d : ℕ} {p : List ℤ} {f : Fault} → Meets S false d p f → evaluate d S p ≡ stop f
-unfolding evaluateForm
-meets-complete {S} (m-path {d = d} {p = p} l) = rw (evaluate-opens S d aPath p (apart λ z. omega arith)) (lost-complete S l)
-meets-complete {S} (m-left {d = d} {o = o} {p = p} a b m) =
-    rw (evaluate-opens S d anOperation (pos o ∷ p) (apart λ z. omega arith), number-of 1 operators o p a b) (stops_then _ (meets-complete m))
-meets-complete {S} (m-right {d = d} {o = o} {p = p} a b (valued l) m) =
-    rw (evaluate-opens S d anOperation (pos o ∷ p) (apart λ z. omega arith), number-of 1 operators o p a b, evaluate-complete l) (stops_then _ (meets-complete m))
-meets-complete {S} (m-here (kinds {d = d} {o = o} {p = p} a b (valued {v = x} l) (valued {v = y} r) never)) =
-    rw (evaluate-opens S d anOperation (pos o ∷ p) (apart λ z. omega arith), number-of 1 operators o p a b, evaluate-complete l, evaluate-complete r)
+unfolding evaluate_form
+meets-complete {S} (m_path {d = d} {p = p} l) = rw (evaluate-opens S d a_path p (apart λ z. omega arith)) (lost-complete S l)
+meets-complete {S} (m_left {d = d} {o = o} {p = p} a b m) =
+    rw (evaluate-opens S d an_operation (pos o ∷ p) (apart λ z. omega arith), number-of 1 operators o p a b) (stops_then _ (meets-complete m))
+meets-complete {S} (m_right {d = d} {o = o} {p = p} a b (valued l) m) =
+    rw (evaluate-opens S d an_operation (pos o ∷ p) (apart λ z. omega arith), number-of 1 operators o p a b, evaluate-complete l) (stops_then _ (meets-complete m))
+meets-complete {S} (m_here (kinds {d = d} {o = o} {p = p} a b (valued {v = x} l) (valued {v = y} r) never)) =
+    rw (evaluate-opens S d an_operation (pos o ∷ p) (apart λ z. omega arith), number-of 1 operators o p a b, evaluate-complete l, evaluate-complete r)
     (stops_then _ (stops_at (pos 25 ∷ pos o ∷ p) (no-kind-stops o x y a b never)))
-meets-complete {S} (m-here (range {d = d} {o = o} {a = x} {b = y} {p = p} l r g never)) =
-    rw (evaluate-opens S d anOperation (pos o ∷ p) (apart λ z. omega arith), number-of 1 operators o p (gives-operator g).0 (gives-operator g).1, evaluate-complete l, evaluate-complete r)
+meets-complete {S} (m_here (range {d = d} {o = o} {a = x} {b = y} {p = p} l r g never)) =
+    rw (evaluate-opens S d an_operation (pos o ∷ p) (apart λ z. omega arith), number-of 1 operators o p (gives-operator g).0 (gives-operator g).1, evaluate-complete l, evaluate-complete r)
     (stops_then _ (stops_at (pos 25 ∷ pos o ∷ p) (no-value-stops o x y (gives-operator g).0 (gives-operator g).1 g never)))
-meets-complete {S} (m-one {d = d} {p = p} l) = rw (evaluate-opens S d anIdentity p (apart λ z. omega arith)) (stops_then _ (lost-complete S l))
-meets-complete {S} (m-other {d = d} {p = p} h l) = rw (evaluate-opens S d anIdentity p (apart λ z. omega arith), holds-complete S h) (stops_then _ (lost-complete S l))
+meets-complete {S} (m_one {d = d} {p = p} l) = rw (evaluate-opens S d an_identity p (apart λ z. omega arith)) (stops_then _ (lost-complete S l))
+meets-complete {S} (m_other {d = d} {p = p} h l) = rw (evaluate-opens S d an_identity p (apart λ z. omega arith), holds-complete S h) (stops_then _ (lost-complete S l))

@@ -1,4 +1,4 @@
--- Paths: the definitions `follow`, `wayAt` and `value_at` say the same as the rules `Leads`, `Names` and `Holds`. Assumes nothing.
+-- Paths: the definitions `follow`, `way_at` and `value_at` say the same as the rules `Leads`, `Names` and `Holds`. Assumes nothing.
 use mathlib.Core.Path.{◌≡◌, refl, sym, ap, ◌∙◌}
 use mathlib.Core.Logic.{◌≢◌, ◌↔◌}
 use mathlib.Core.Bool.{Bool}
@@ -10,7 +10,7 @@ use borrow.Author.Tests.{ne_eqb}
 use lib.Dec.{eqb}
 use lib.IntN.{ℤ, pos}
 use lib.ListN.{drop}
-use Rattle.words.specs.Words.{numberAt}
+use Rattle.words.specs.Words.{number_at}
 use Rattle.words.specs.Answer.{got}
 use Rattle.words.proofs.AnswerLaws.{got-inj, stop≢got, step}
 use Rattle.tables.specs.declared.Value.{Value}
@@ -19,15 +19,15 @@ use Rattle.tables.specs.declared.Slot.{Slot}
 use Rattle.tables.specs.declared.Slot.TheVariants.{Absent, Has}
 use Rattle.tables.specs.declared.Found.{Found}
 use Rattle.tables.specs.declared.Found.TheVariants.{At, Nothing}
-use Rattle.tables.specs.Sizes.{variables, fieldLocation}
+use Rattle.tables.specs.Sizes.{variables, field_location}
 use Rattle.tables.specs.Cells.{Cells}
-use Rattle.tables.specs.Records.{fieldCount, labelAt, fieldWith}
+use Rattle.tables.specs.Records.{field_count, label_at, field_with}
 use Rattle.tables.proofs.SearchLaws.{Seeking, seeking-starts, seeking-goes-on}
 use Rattle.tables.proofs.FindLaws.{find-hits, find-ends}
-use Rattle.program.specs.Forms.{mostSteps}
+use Rattle.program.specs.Forms.{most_steps}
 use Rattle.program.proofs.NumberLaws.{number-of}
-use Rattle.rules.specs.State.{orRefuse, slot_at, present}
-use Rattle.rules.specs.Paths.{aRecord, a_field, follow, Way, wayAt, value_at}
+use Rattle.rules.specs.State.{or_refuse, slot_at, present}
+use Rattle.rules.specs.Paths.{a_record, a_field, follow, Way, way_at, value_at}
 use Rattle.rules.specs.Rules.Expressions.{HasField, Leads, here, by, Names, names, Holds, holds}
 use Rattle.rules.proofs.WordSteps.{or-got, present-got, by_number}
 
@@ -35,43 +35,43 @@ use Rattle.rules.proofs.WordSteps.{or-got, present-got, by_number}
 
 module _ (heap : List ℤ) (r label : ℕ) where
   abbrev named : ℕ → Bool
-  named f = eqb (labelAt heap r f) label
+  named f = eqb (label_at heap r f) label
 
   -- no place below f has the label, so that the search stands at f
-  seeking-at : (f : ℕ) → f ≤ fieldCount heap r → ((g : ℕ) → g < f → labelAt heap r g ≢ label) → Seeking named (fieldCount heap r) f
+  seeking-at : (f : ℕ) → f ≤ field_count heap r → ((g : ℕ) → g < f → label_at heap r g ≢ label) → Seeking named (field_count heap r) f
   seeking-at zero l h = seeking-starts
   seeking-at (suc f) l h =
       let e : f + 1 ≡ suc f = omega arith in
-      rw e at (seeking-goes-on (seeking-at f (omega arith) (λ g m. h g (omega arith))) (omega arith) (ne_eqb (labelAt heap r f) label (h f (omega arith))))
+      rw e at (seeking-goes-on (seeking-at f (omega arith) (λ g m. h g (omega arith))) (omega arith) (ne_eqb (label_at heap r f) label (h f (omega arith))))
 
-  pub field-complete : {l : ℕ} → HasField heap r label l → fieldWith heap r label ≡ At l
+  pub field-complete : {l : ℕ} → HasField heap r label l → field_with heap r label ≡ At l
   field-complete (HasField.field f used is first) = sym (find-hits heap r label f (seeking-at f (omega arith) first) used is)
 
   -- the search from f on, with `left` places to go
-  search-sound : (left f : ℕ) {l : ℕ} → left + f ≡ fieldCount heap r → ((g : ℕ) → g < f → labelAt heap r g ≢ label) → fieldWith heap r label ≡ At l → HasField heap r label l
+  search-sound : (left f : ℕ) {l : ℕ} → left + f ≡ field_count heap r → ((g : ℕ) → g < f → label_at heap r g ≢ label) → field_with heap r label ≡ At l → HasField heap r label l
   search-sound zero f {l} s h e =
       let c : Nothing ≡ At l = find-ends heap r label f (seeking-at f (omega arith) h) (omega arith) ∙ e in
       absurd (let z : ◌≡◌ {A = ℕ} 0 1 = cc in omega arith)
-  search-sound (suc left) f {l} s h e = go (ℕ_discrete (labelAt heap r f) label) (λ k. search-sound left (suc f) (omega arith) k e)
+  search-sound (suc left) f {l} s h e = go (ℕ_discrete (label_at heap r f) label) (λ k. search-sound left (suc f) (omega arith) k e)
     where
-      go : Dec (labelAt heap r f ≡ label) → (((g : ℕ) → g < suc f → labelAt heap r g ≢ label) → HasField heap r label l) → HasField heap r label l
+      go : Dec (label_at heap r f ≡ label) → (((g : ℕ) → g < suc f → label_at heap r g ≢ label) → HasField heap r label l) → HasField heap r label l
       go (yes y) ih =
-          let c : At (fieldLocation r f) ≡ At l = find-hits heap r label f (seeking-at f (omega arith) h) (omega arith) y ∙ e in
-          let i : fieldLocation r f ≡ l = cc in
+          let c : At (field_location r f) ≡ At l = find-hits heap r label f (seeking-at f (omega arith) h) (omega arith) y ∙ e in
+          let i : field_location r f ≡ l = cc in
           rw (← i) (HasField.field f (omega arith) y h)
       go (no n) ih = ih (λ g m q. last g m q (ℕ_discrete g f))
         where
-          last : (g : ℕ) → g < suc f → labelAt heap r g ≡ label → Dec (g ≡ f) → ⊥
+          last : (g : ℕ) → g < suc f → label_at heap r g ≡ label → Dec (g ≡ f) → ⊥
           last g m q (yes i) = n (rw (← i) q)
           last g m q (no i) = h g (omega arith) q
 
   -- the field that is found is the first with the label
-  pub field-iff : (l : ℕ) → (fieldWith heap r label ≡ At l) ↔ HasField heap r label l
-  field-iff l = (search-sound (fieldCount heap r) 0 (omega arith) (λ g m. absurd (omega arith)), field-complete)
+  pub field-iff : (l : ℕ) → (field_with heap r label ≡ At l) ↔ HasField heap r label l
+  field-iff l = (search-sound (field_count heap r) 0 (omega arith) (λ g m. absurd (omega arith)), field-complete)
 
 -- ---- paths
 
-a-record : {r : ℕ} (s : Slot) → aRecord s ≡ got r → s ≡ Has (Ref r)
+a-record : {r : ℕ} (s : Slot) → a_record s ≡ got r → s ≡ Has (Ref r)
 a-record (Has (Ref r)) e = ap (λ (q : ℕ). Has (Ref q)) (got-inj e)
 a-record (Has Nil) e = stop≢got e
 a-record (Has (Truth b)) e = stop≢got e
@@ -87,40 +87,40 @@ module _ (S : Cells) where
   unfolding follow
   follow-sound zero l p x e = rw (← got-inj e) here
   follow-sound (suc n) l p x e =
-      step (aRecord (slot_at S l)) _ e λ r e1 k1.
-      step (a_field (fieldWith S.heap r (numberAt p 0))) _ k1 λ next e2 k2.
+      step (a_record (slot_at S l)) _ e λ r e1 k1.
+      step (a_field (field_with S.heap r (number_at p 0))) _ k1 λ next e2 k2.
       step (follow S n next (drop 1 p)) _ k2 λ y e3 k3.
       rw (← got-inj k3)
-      (by (a-record (slot_at S l) e1) ((field-iff S.heap r (numberAt p 0) next).0 (a-field (fieldWith S.heap r (numberAt p 0)) e2))
+      (by (a-record (slot_at S l) e1) ((field-iff S.heap r (number_at p 0) next).0 (a-field (field_with S.heap r (number_at p 0)) e2))
       (follow-sound n next (drop 1 p) y e3))
 
   pub leads-complete : {l n to : ℕ} {p : List ℤ} {prefix : List ℕ} → Leads S l n p to prefix → follow S n l p ≡ got (to, prefix)
   unfolding follow
   leads-complete here = refl
-  leads-complete (by {r = r} {p = p} e h k) = rw (e, field-complete S.heap r (numberAt p 0) h, leads-complete k)
+  leads-complete (by {r = r} {p = p} e h k) = rw (e, field-complete S.heap r (number_at p 0) h, leads-complete k)
 
-  names-sound : (p : List ℤ) (w : Way) → wayAt S p ≡ got w → Names S p w
-  unfolding wayAt
+  names-sound : (p : List ℤ) (w : Way) → way_at S p ≡ got w → Names S p w
+  unfolding way_at
   names-sound p w e =
       by_number 0 (variables - 1) p _ (omega arith) e λ x q a b s k.
-      by_number 0 mostSteps q _ (omega arith) k λ n r c d t j.
-      step (orRefuse 7 p (follow S n x r)) _ j λ y e1 k1.
+      by_number 0 most_steps q _ (omega arith) k λ n r c d t j.
+      step (or_refuse 7 p (follow S n x r)) _ j λ y e1 k1.
       rw (s, t, ← got-inj k1) (names {x = x} (omega arith) d (follow-sound n x r y (or-got 7 p (follow S n x r) e1)))
 
-  names-complete : {p : List ℤ} {w : Way} → Names S p w → wayAt S p ≡ got w
-  unfolding wayAt
+  names-complete : {p : List ℤ} {w : Way} → Names S p w → way_at S p ≡ got w
+  unfolding way_at
   names-complete (names {x = x} {n = n} {p = p} a b l) =
-      rw (number-of 0 (variables - 1) x (pos n ∷ p) (omega arith) (omega arith), number-of 0 mostSteps n p (omega arith) b, leads-complete l)
+      rw (number-of 0 (variables - 1) x (pos n ∷ p) (omega arith) (omega arith), number-of 0 most_steps n p (omega arith) b, leads-complete l)
 
   -- an L names a cell by the definition exactly where it does by the rules
-  pub names-iff : (p : List ℤ) (w : Way) → (wayAt S p ≡ got w) ↔ Names S p w
+  pub names-iff : (p : List ℤ) (w : Way) → (way_at S p ≡ got w) ↔ Names S p w
   names-iff p w = (names-sound p w, names-complete)
 
   pub holds-sound : (p : List ℤ) (x : Value × List ℤ) → value_at S p ≡ got x → Holds S p x.0 x.1
   unfolding value_at
   holds-sound p x e =
-      step (wayAt S p) _ e λ w e1 k1.
-      step (orRefuse 7 p (present (slot_at S w.cell))) _ k1 λ v e2 k2.
+      step (way_at S p) _ e λ w e1 k1.
+      step (or_refuse 7 p (present (slot_at S w.cell))) _ k1 λ v e2 k2.
       rw (← got-inj k2) (holds (names-sound p w e1) (present-got (slot_at S w.cell) (or-got 7 p (present (slot_at S w.cell)) e2)))
 
   pub holds-complete : {p : List ℤ} {v : Value} {q : List ℤ} → Holds S p v q → value_at S p ≡ got (v, q)

@@ -10,11 +10,11 @@ use Rattle.words.specs.Answer.{got, stop}
 use Rattle.words.proofs.AnswerLaws.{stop≢got, got-inj, step, tested}
 use Rattle.tables.specs.declared.Sort.TheVariants.{Values}
 use Rattle.tables.specs.Cells.{Cells}
-use Rattle.program.specs.Forms.{mostParts, required, expressionDepth}
+use Rattle.program.specs.Forms.{most_parts, required, expression_depth}
 use Rattle.program.specs.Reading.{number}
 use Rattle.rules.specs.State.{Res, reads, refused, positions}
-use Rattle.rules.specs.Evaluation.{aBool, evaluate, kind}
-use Rattle.rules.specs.Constraints.{Part, satisfies, part_at, parts_at, constraintAt, fifteen, kept_at, keptParts, ownParts, counted}
+use Rattle.rules.specs.Evaluation.{a_bool, evaluate, kind}
+use Rattle.rules.specs.Constraints.{Part, satisfies, part_at, parts_at, constraint_at, fifteen, kept_at, kept_parts, own_parts, counted}
 use Rattle.rules.specs.Proposals.{Asked}
 use Rattle.rules.proofs.EffectLaws.{Near, effect-same}
 use Rattle.rules.proofs.SamePaths.{kind-same}
@@ -41,11 +41,11 @@ module _ (asked : Asked) (S Z : Cells) (near : Near asked S Z) where
   unfolding part_at
   part-again p x e =
       step (reads (number 1 required p)) _ e λ n e1 k1.
-      step (kind expressionDepth S n.1) _ k1 λ k e2 k2.
-      tested (refused 8 p) (aBool k.0) _ k2 λ c k3.
+      step (kind expression_depth S n.1) _ k1 λ k e2 k2.
+      tested (refused 8 p) (a_bool k.0) _ k2 λ c k3.
       record {
-        one = record { priority = n.0; satisfied = satisfies (evaluate expressionDepth Z n.1) };
-        is = rw (← got-inj k3, e1, kind-stays expressionDepth n.1, e2, c);
+        one = record { priority = n.0; satisfied = satisfies (evaluate expression_depth Z n.1) };
+        is = rw (← got-inj k3, e1, kind-stays expression_depth n.1, e2, c);
       }
 
   parts_again : (m : ℕ) (p : List ℤ) (x : List Part × List ℤ) → parts_at m S p ≡ got x → Again (parts_at m Z p) x.1
@@ -58,26 +58,26 @@ module _ (asked : Asked) (S Z : Cells) (near : Near asked S Z) where
       let b = parts_again m y.1 z e2 in
       record { one = a.one ∷ b.one; is = rw (← got-inj k2, a.is, b.is) }
 
-  constraint-again : (p : List ℤ) (ps : List Part) → constraintAt S p ≡ got ps → Reads (constraintAt Z p)
-  unfolding constraintAt
+  constraint-again : (p : List ℤ) (ps : List Part) → constraint_at S p ≡ got ps → Reads (constraint_at Z p)
+  unfolding constraint_at
   constraint-again p ps e =
-      step (reads (number 1 mostParts p)) _ e λ m e1 k1.
+      step (reads (number 1 most_parts p)) _ e λ m e1 k1.
       step (parts_at m.0 S m.1) _ k1 λ x e2 k2.
       let a = parts_again m.0 m.1 x e2 in
       record { parts = a.one; is = rw (e1, a.is) }
 
-  kept_again : (program : List ℤ) (ns : List ℕ) (ps : List Part) → keptParts program S ns ≡ got ps → Reads (keptParts program Z ns)
-  unfolding keptParts kept_at
+  kept_again : (program : List ℤ) (ns : List ℕ) (ps : List Part) → kept_parts program S ns ≡ got ps → Reads (kept_parts program Z ns)
+  unfolding kept_parts kept_at
   kept_again program [] ps e = record { parts = []; is = refl }
   kept_again program (n ∷ ns) ps e =
       step (fifteen (kept_at program S n)) _ e λ x e1 k1.
-      step (keptParts program S ns) _ k1 λ y e2 k2.
+      step (kept_parts program S ns) _ k1 λ y e2 k2.
       let a = constraint-again (drop (n + 1) program) x (fifteen-got (kept_at program S n) x e1) in
       let b = kept_again program ns y e2 in
       record { parts = a.parts ++ b.parts; is = rw (a.is, b.is) }
 
-  own-again : (own : Option (List ℤ)) (ps : List Part) → ownParts S own ≡ got ps → Reads (ownParts Z own)
-  unfolding ownParts
+  own-again : (own : Option (List ℤ)) (ps : List Part) → own_parts S own ≡ got ps → Reads (own_parts Z own)
+  unfolding own_parts
   own-again none ps e = record { parts = []; is = refl }
   own-again (some p) ps e = constraint-again p ps e
 
@@ -85,8 +85,8 @@ module _ (asked : Asked) (S Z : Cells) (near : Near asked S Z) where
   pub counted-again : (program kept : List ℤ) (own : Option (List ℤ)) (ps : List Part) → counted program kept own S ≡ got ps → Reads (counted program kept own Z)
   unfolding counted
   counted-again program kept own ps e =
-      step (ownParts S own) _ e λ x e1 k1.
-      step (keptParts program S (positions kept Values)) _ k1 λ y e2 k2.
+      step (own_parts S own) _ e λ x e1 k1.
+      step (kept_parts program S (positions kept Values)) _ k1 λ y e2 k2.
       let a = own-again own x e1 in
       let b = kept_again program (positions kept Values) y e2 in
       record { parts = b.parts ++ a.parts; is = rw (a.is, b.is) }

@@ -16,7 +16,7 @@ use Rattle.rules.proofs.ClassLaws.{class-iff, false≢true}
 
 module _ (ts : List Tie) (target : ℕ) (v : Value) (now : Cells) (fit : Fit now) where
   update-sized : {Y : Cells} → Update ts target v now Y → Sized Y
-  update-sized a = record { environment = a.environment-length ∙ fit.sized.environment; heap = a.heap-length ∙ fit.sized.heap }
+  update-sized a = record { environment = a.environment_length ∙ fit.sized.environment; heap = a.heap_length ∙ fit.sized.heap }
 
   update-numbered : {Y : Cells} → Update ts target v now Y → Numbered Y.heap
   update-numbered a =

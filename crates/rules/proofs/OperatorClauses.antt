@@ -6,17 +6,17 @@ use native.Mathlib.Omega.{arith}
 use lib.IntN.{ℤ, ◌+ℤ◌, ◌-ℤ◌, ◌*ℤ◌}
 use lib.ListN.{get_or-eq_default}
 use lib.Signed.{lt_z, le_z}
-use Rattle.words.specs.Words.{eqZ}
+use Rattle.words.specs.Words.{eq_z}
 use Rattle.words.specs.Range.{fits}
 use Rattle.words.specs.Answer.{Answer, got, stop, ◌>>◌, want}
 use Rattle.tables.specs.declared.Value.{Value}
 use Rattle.tables.specs.declared.Value.TheVariants.{Nil, Bool as Truth, Int, Ref}
 use Rattle.tables.specs.Values.{cell_of}
-use Rattle.rules.specs.Evaluation.{Kind, isBool, isInt, isNil, kind_of, Op, noOp, ops, op_of, an_int, aBool, theNil, comparable, two, takes, gives, same, int_of, boolOf, ranged, made, apply}
+use Rattle.rules.specs.Evaluation.{Kind, is_bool, is_int, is_nil, kind_of, Op, no_op, ops, op_of, an_int, a_bool, the_nil, comparable, two, takes, gives, same, int_of, bool_of, ranged, made, apply}
 
-pub no-op : (o : ℕ) → 11 < o → op_of o ≡ noOp
+pub no-op : (o : ℕ) → 11 < o → op_of o ≡ no_op
 unfolding op_of
-no-op o h = get_or-eq_default ops noOp {n = o} (omega arith)
+no-op o h = get_or-eq_default ops no_op {n = o} (omega arith)
 
 -- which kinds an operator takes
 module _ (a b : Kind) where
@@ -38,7 +38,7 @@ module _ (a b : Kind) where
   unfolding takes op_of
   takes-unequal = refl
 
-  pub comparable-is : comparable a b ≡ ((an_int a && an_int b) || (aBool a && aBool b) || (theNil a && theNil b))
+  pub comparable-is : comparable a b ≡ ((an_int a && an_int b) || (a_bool a && a_bool b) || (the_nil a && the_nil b))
   unfolding comparable
   comparable-is = refl
 
@@ -50,11 +50,11 @@ module _ (a b : Kind) where
   unfolding takes op_of
   takes-nine = refl
 
-  pub takes-ten : takes (op_of 10) a b ≡ (aBool a && aBool b)
+  pub takes-ten : takes (op_of 10) a b ≡ (a_bool a && a_bool b)
   unfolding takes op_of
   takes-ten = refl
 
-  pub takes-eleven : takes (op_of 11) a b ≡ (aBool a && aBool b)
+  pub takes-eleven : takes (op_of 11) a b ≡ (a_bool a && a_bool b)
   unfolding takes op_of
   takes-eleven = refl
 
@@ -104,11 +104,11 @@ module _ (a b : Value) where
   unfolding made op_of
   made-9 = refl
 
-  pub made-10 : made (op_of 10) a b ≡ got (Truth (boolOf a && boolOf b))
+  pub made-10 : made (op_of 10) a b ≡ got (Truth (bool_of a && bool_of b))
   unfolding made op_of
   made-10 = refl
 
-  pub made-11 : made (op_of 11) a b ≡ got (Truth (boolOf a || boolOf b))
+  pub made-11 : made (op_of 11) a b ≡ got (Truth (bool_of a || bool_of b))
   unfolding made op_of
   made-11 = refl
 
@@ -120,7 +120,7 @@ module _ (a b : Value) where
   unfolding made
   made_none o h = rw (no-op o h)
 
-  pub same-is : same a b ≡ (eqZ (cell_of a).kind (cell_of b).kind && eqZ (cell_of a).payload (cell_of b).payload)
+  pub same-is : same a b ≡ (eq_z (cell_of a).kind (cell_of b).kind && eq_z (cell_of a).payload (cell_of b).payload)
   unfolding same
   same-is = refl
 

@@ -7,19 +7,19 @@ use native.Mathlib.Omega.{arith}
 use native.Mathlib.Decide.{ℕ_discrete}
 use lib.IntN.{ℤ, ◌+ℤ◌, ◌-ℤ◌, ◌*ℤ◌}
 use lib.Signed.{lt_z, le_z}
-use Rattle.words.specs.Words.{eqZ}
+use Rattle.words.specs.Words.{eq_z}
 use Rattle.words.specs.Range.{fits}
 use Rattle.words.specs.Answer.{Answer, got, ◌>>◌, want}
 use Rattle.words.proofs.AnswerLaws.{got-inj, stop≢got, tested}
-use Rattle.words.proofs.Laws.{eqZ-refl, eqZ-true}
+use Rattle.words.proofs.Laws.{eq_z-refl, eq_z-true}
 use Rattle.tables.specs.declared.Value.{Value}
 use Rattle.tables.specs.declared.Value.TheVariants.{Nil, Bool as Truth, Int, Ref}
 use Rattle.tables.specs.declared.Slot.TheVariants.{Has}
-use Rattle.tables.specs.Values.{cell, cell_of, slotOf, Sound}
+use Rattle.tables.specs.Values.{cell, cell_of, slot_of, Sound}
 use Rattle.tables.proofs.SearchLaws.{cases, and_left, and_right, and-true}
 use Rattle.tables.proofs.ValueLaws.{slot-of-cell}
 use Rattle.program.specs.Forms.{operators}
-use Rattle.rules.specs.Evaluation.{Kind, isNil, isBool, isInt, isRef, kind_of, op_of, an_int, aBool, comparable, two, takes, gives, same, int_of, boolOf, ranged, made, apply}
+use Rattle.rules.specs.Evaluation.{Kind, is_nil, is_bool, is_int, is_ref, kind_of, op_of, an_int, a_bool, comparable, two, takes, gives, same, int_of, bool_of, ranged, made, apply}
 use Rattle.rules.specs.Rules.Operators.{Gives, Makes}
 
 -- ---- kind and payload
@@ -28,15 +28,15 @@ module _ (a b : Value) where
   pub same_true : same a b ≡ true → cell_of a ≡ cell_of b
   unfolding same
   same_true e =
-      let k : (cell_of a).kind ≡ (cell_of b).kind = eqZ-true _ _ (and_left (eqZ (cell_of a).kind (cell_of b).kind) _ e) in
-      let v : (cell_of a).payload ≡ (cell_of b).payload = eqZ-true _ _ (and_right (eqZ (cell_of a).kind (cell_of b).kind) _ e) in
+      let k : (cell_of a).kind ≡ (cell_of b).kind = eq_z-true _ _ (and_left (eq_z (cell_of a).kind (cell_of b).kind) _ e) in
+      let v : (cell_of a).payload ≡ (cell_of b).payload = eq_z-true _ _ (and_right (eq_z (cell_of a).kind (cell_of b).kind) _ e) in
       let c : cell (cell_of a).kind (cell_of a).payload ≡ cell (cell_of b).kind (cell_of b).payload = cc in
       c
 
   pub cell_same : cell_of a ≡ cell_of b → same a b ≡ true
   unfolding same
   cell_same e =
-      rw e (and-true (eqZ (cell_of b).kind (cell_of b).kind) (eqZ (cell_of b).payload (cell_of b).payload) (eqZ-refl (cell_of b).kind) (eqZ-refl (cell_of b).payload))
+      rw e (and-true (eq_z (cell_of b).kind (cell_of b).kind) (eq_z (cell_of b).payload (cell_of b).payload) (eq_z-refl (cell_of b).kind) (eq_z-refl (cell_of b).payload))
 
   pub same_false : same a b ≡ false → cell_of a ≢ cell_of b
   same_false e q =
@@ -50,11 +50,11 @@ module _ (a b : Value) where
   -- of values that a cell can hold: kind and payload are the same exactly where the value is
   pub same-value : Sound a → Sound b → cell_of a ≡ cell_of b → a ≡ b
   same-value x y e =
-      let q : Has a ≡ Has b = sym (slot-of-cell a x) ∙ ap slotOf e ∙ slot-of-cell b y in
+      let q : Has a ≡ Has b = sym (slot-of-cell a x) ∙ ap slot_of e ∙ slot-of-cell b y in
       cc
 
 -- a value that is no reference
-plain-sound : (a : Value) → kind_of a ≢ isRef → Sound a
+plain-sound : (a : Value) → kind_of a ≢ is_ref → Sound a
 plain-sound Nil h = tt
 plain-sound (Truth b) h = tt
 plain-sound (Int n) h = tt
@@ -63,63 +63,63 @@ plain-sound (Ref r) h = absurd (h refl)
 -- ---- which kinds an operator takes
 
 -- what is asked of two kinds holds of these
-ints : (P : Kind → Kind → Type 0) (a b : Kind) → (an_int a && an_int b) ≡ true → P isInt isInt → P a b
-ints P isInt isInt e k = k
-ints P isInt isNil e k = absurd (true≢false (sym e))
-ints P isInt isBool e k = absurd (true≢false (sym e))
-ints P isInt isRef e k = absurd (true≢false (sym e))
-ints P isNil b e k = absurd (true≢false (sym e))
-ints P isBool b e k = absurd (true≢false (sym e))
-ints P isRef b e k = absurd (true≢false (sym e))
+ints : (P : Kind → Kind → Type 0) (a b : Kind) → (an_int a && an_int b) ≡ true → P is_int is_int → P a b
+ints P is_int is_int e k = k
+ints P is_int is_nil e k = absurd (true≢false (sym e))
+ints P is_int is_bool e k = absurd (true≢false (sym e))
+ints P is_int is_ref e k = absurd (true≢false (sym e))
+ints P is_nil b e k = absurd (true≢false (sym e))
+ints P is_bool b e k = absurd (true≢false (sym e))
+ints P is_ref b e k = absurd (true≢false (sym e))
 
-bools : (P : Kind → Kind → Type 0) (a b : Kind) → (aBool a && aBool b) ≡ true → P isBool isBool → P a b
-bools P isBool isBool e k = k
-bools P isBool isNil e k = absurd (true≢false (sym e))
-bools P isBool isInt e k = absurd (true≢false (sym e))
-bools P isBool isRef e k = absurd (true≢false (sym e))
-bools P isNil b e k = absurd (true≢false (sym e))
-bools P isInt b e k = absurd (true≢false (sym e))
-bools P isRef b e k = absurd (true≢false (sym e))
+bools : (P : Kind → Kind → Type 0) (a b : Kind) → (a_bool a && a_bool b) ≡ true → P is_bool is_bool → P a b
+bools P is_bool is_bool e k = k
+bools P is_bool is_nil e k = absurd (true≢false (sym e))
+bools P is_bool is_int e k = absurd (true≢false (sym e))
+bools P is_bool is_ref e k = absurd (true≢false (sym e))
+bools P is_nil b e k = absurd (true≢false (sym e))
+bools P is_int b e k = absurd (true≢false (sym e))
+bools P is_ref b e k = absurd (true≢false (sym e))
 
 -- two integers, two booleans or two nils are of one kind, and no references
-one-kind : (P : Kind → Kind → Type 0) (a b : Kind) → comparable a b ≡ true → ((k : Kind) → k ≢ isRef → P k k) → P a b
+one-kind : (P : Kind → Kind → Type 0) (a b : Kind) → comparable a b ≡ true → ((k : Kind) → k ≢ is_ref → P k k) → P a b
 unfolding comparable
-one-kind P isNil isNil e f = f isNil (λ q. true≢false cc)
-one-kind P isBool isBool e f = f isBool (λ q. true≢false cc)
-one-kind P isInt isInt e f = f isInt (λ q. true≢false cc)
-one-kind P isNil isBool e f = absurd (true≢false (sym e))
-one-kind P isNil isInt e f = absurd (true≢false (sym e))
-one-kind P isNil isRef e f = absurd (true≢false (sym e))
-one-kind P isBool isNil e f = absurd (true≢false (sym e))
-one-kind P isBool isInt e f = absurd (true≢false (sym e))
-one-kind P isBool isRef e f = absurd (true≢false (sym e))
-one-kind P isInt isNil e f = absurd (true≢false (sym e))
-one-kind P isInt isBool e f = absurd (true≢false (sym e))
-one-kind P isInt isRef e f = absurd (true≢false (sym e))
-one-kind P isRef b e f = absurd (true≢false (sym e))
+one-kind P is_nil is_nil e f = f is_nil (λ q. true≢false cc)
+one-kind P is_bool is_bool e f = f is_bool (λ q. true≢false cc)
+one-kind P is_int is_int e f = f is_int (λ q. true≢false cc)
+one-kind P is_nil is_bool e f = absurd (true≢false (sym e))
+one-kind P is_nil is_int e f = absurd (true≢false (sym e))
+one-kind P is_nil is_ref e f = absurd (true≢false (sym e))
+one-kind P is_bool is_nil e f = absurd (true≢false (sym e))
+one-kind P is_bool is_int e f = absurd (true≢false (sym e))
+one-kind P is_bool is_ref e f = absurd (true≢false (sym e))
+one-kind P is_int is_nil e f = absurd (true≢false (sym e))
+one-kind P is_int is_bool e f = absurd (true≢false (sym e))
+one-kind P is_int is_ref e f = absurd (true≢false (sym e))
+one-kind P is_ref b e f = absurd (true≢false (sym e))
 
-compared : (k : Kind) → k ≢ isRef → comparable k k ≡ true
+compared : (k : Kind) → k ≢ is_ref → comparable k k ≡ true
 unfolding comparable
-compared isNil h = refl
-compared isBool h = refl
-compared isInt h = refl
-compared isRef h = absurd (h refl)
+compared is_nil h = refl
+compared is_bool h = refl
+compared is_int h = refl
+compared is_ref h = absurd (h refl)
 
 module _ (a b : Kind) where
   pub gives-sound : (o : ℕ) → 1 ≤ o → o ≤ operators → takes (op_of o) a b ≡ true → Gives o a b (gives (op_of o))
   unfolding takes gives op_of
   gives-sound zero h l e = absurd (omega arith)
-  gives-sound (suc zero) h l e = ints (λ x y. Gives 1 x y isInt) a b e (Gives.number (omega arith) (omega arith))
-  gives-sound (suc (suc zero)) h l e = ints (λ x y. Gives 2 x y isInt) a b e (Gives.number (omega arith) (omega arith))
-  gives-sound (suc (suc (suc zero))) h l e = ints (λ x y. Gives 3 x y isInt) a b e (Gives.number (omega arith) (omega arith))
-  gives-sound (suc (suc (suc (suc zero)))) h l e = ints (λ x y. Gives 4 x y isBool) a b e (Gives.order (omega arith) (omega arith))
-  gives-sound (suc (suc (suc (suc (suc zero))))) h l e = ints (λ x y. Gives 5 x y isBool) a b e (Gives.order (omega arith) (omega arith))
-  gives-sound (suc (suc (suc (suc (suc (suc zero)))))) h l e = one-kind (λ x y. Gives 6 x y isBool) a b e λ k. Gives.equality (omega arith) (omega arith)
-  gives-sound (suc (suc (suc (suc (suc (suc (suc zero))))))) h l e = one-kind (λ x y. Gives 7 x y isBool) a b e λ k. Gives.equality (omega arith) (omega arith)
-  gives-sound (suc (suc (suc (suc (suc (suc (suc (suc zero)))))))) h l e = ints (λ x y. Gives 8 x y isBool) a b e (Gives.reverse (omega arith) (omega arith))
-  gives-sound (suc (suc (suc (suc (suc (suc (suc (suc (suc zero))))))))) h l e = ints (λ x y. Gives 9 x y isBool) a b e (Gives.reverse (omega arith) (omega arith))
-  gives-sound (suc (suc (suc (suc (suc (suc (suc (suc (suc (suc zero)))))))))) h l e = bools (λ x y. Gives 10 x y isBool) a b e (Gives.logic (omega arith) (omega arith))
-  gives-sound (suc (suc (suc (suc (suc (suc (suc (suc (suc (suc (suc zero))))))))))) h l e = bools (λ x y. Gives 11 x y isBool) a b e (Gives.logic (omega arith) (omega arith))
+  gives-sound (suc zero) h l e = ints (λ x y. Gives 1 x y is_int) a b e (Gives.number (omega arith) (omega arith))
+  gives-sound (suc (suc zero)) h l e = ints (λ x y. Gives 2 x y is_int) a b e (Gives.number (omega arith) (omega arith))
+  gives-sound (suc (suc (suc zero))) h l e = ints (λ x y. Gives 3 x y is_int) a b e (Gives.number (omega arith) (omega arith))
+  gives-sound (suc (suc (suc (suc zero)))) h l e = ints (λ x y. Gives 4 x y is_bool) a b e (Gives.order (omega arith) (omega arith))
+  gives-sound (suc (suc (suc (suc (suc zero))))) h l e = ints (λ x y. Gives 5 x y is_bool) a b e (Gives.order (omega arith) (omega arith))
+  gives-sound (suc (suc (suc (suc (suc (suc zero)))))) h l e = one-kind (λ x y. Gives 6 x y is_bool) a b e λ k. Gives.equality (omega arith) (omega arith)
+  gives-sound (suc (suc (suc (suc (suc (suc (suc zero))))))) h l e = one-kind (λ x y. Gives 7 x y is_bool) a b e λ k. Gives.equality (omega arith) (omega arith)
+  gives-sound (suc (suc (suc (suc (suc (suc (suc (suc zero)))))))) h l e = ints (λ x y. Gives 8 x y is_bool) a b e (Gives.reverse (omega arith) (omega arith))
+  gives-sound (suc (suc (suc (suc (suc (suc (suc (suc (suc zero))))))))) h l e = ints (λ x y. Gives 9 x y is_bool) a b e (Gives.reverse (omega arith) (omega arith))
+  gives-sound (suc (suc (suc (suc (suc (suc (suc (suc (suc (suc zero)))))))))) h l e = bools (λ x y. Gives 10 x y is_bool) a b e (Gives.logic (omega arith) (omega arith))
+  gives-sound (suc (suc (suc (suc (suc (suc (suc (suc (suc (suc (suc zero))))))))))) h l e = bools (λ x y. Gives 11 x y is_bool) a b e (Gives.logic (omega arith) (omega arith))
   gives-sound (suc (suc (suc (suc (suc (suc (suc (suc (suc (suc (suc (suc o)))))))))))) h l e = absurd (omega arith)
 
 pub gives-operator : {o : ℕ} {a b k : Kind} → Gives o a b k → (1 ≤ o) × (o ≤ operators)
@@ -144,12 +144,12 @@ Given a b k o = (takes (op_of o) a b ≡ true) × (gives (op_of o) ≡ k)
 pub gives-complete : {o : ℕ} {a b k : Kind} → Gives o a b k → Given a b k o
 unfolding takes gives op_of
 gives-complete (Gives.number h l) =
-    from (Given isInt isInt isInt) 1 h (refl, refl) λ i. from (Given isInt isInt isInt) 2 i (refl, refl) λ j. from (Given isInt isInt isInt) 3 j (refl, refl) λ k. absurd (omega arith)
-gives-complete (Gives.order h l) = from (Given isInt isInt isBool) 4 h (refl, refl) λ i. from (Given isInt isInt isBool) 5 i (refl, refl) λ j. absurd (omega arith)
+    from (Given is_int is_int is_int) 1 h (refl, refl) λ i. from (Given is_int is_int is_int) 2 i (refl, refl) λ j. from (Given is_int is_int is_int) 3 j (refl, refl) λ k. absurd (omega arith)
+gives-complete (Gives.order h l) = from (Given is_int is_int is_bool) 4 h (refl, refl) λ i. from (Given is_int is_int is_bool) 5 i (refl, refl) λ j. absurd (omega arith)
 gives-complete (Gives.equality {k = a} h l x) =
-    from (Given a a isBool) 6 h (compared a x, refl) λ i. from (Given a a isBool) 7 i (compared a x, refl) λ j. absurd (omega arith)
-gives-complete (Gives.reverse h l) = from (Given isInt isInt isBool) 8 h (refl, refl) λ i. from (Given isInt isInt isBool) 9 i (refl, refl) λ j. absurd (omega arith)
-gives-complete (Gives.logic h l) = from (Given isBool isBool isBool) 10 h (refl, refl) λ i. from (Given isBool isBool isBool) 11 i (refl, refl) λ j. absurd (omega arith)
+    from (Given a a is_bool) 6 h (compared a x, refl) λ i. from (Given a a is_bool) 7 i (compared a x, refl) λ j. absurd (omega arith)
+gives-complete (Gives.reverse h l) = from (Given is_int is_int is_bool) 8 h (refl, refl) λ i. from (Given is_int is_int is_bool) 9 i (refl, refl) λ j. absurd (omega arith)
+gives-complete (Gives.logic h l) = from (Given is_bool is_bool is_bool) 10 h (refl, refl) λ i. from (Given is_bool is_bool is_bool) 11 i (refl, refl) λ j. absurd (omega arith)
 
 -- ---- what an operator makes
 
@@ -169,7 +169,7 @@ int-made P f v (Truth x) b e k = stop≢got e
 int-made P f v (Ref r) b e k = stop≢got e
 
 bool-made : (P : Value → Value → Type 0) (f : Bool → Bool → Bool) (v a b : Value)
-    → (want {E = ℕ} 8 (aBool (kind_of a) && aBool (kind_of b)) >> got (Truth (f (boolOf a) (boolOf b)))) ≡ got v
+    → (want {E = ℕ} 8 (a_bool (kind_of a) && a_bool (kind_of b)) >> got (Truth (f (bool_of a) (bool_of b)))) ≡ got v
     → ((m n : Bool) → Truth (f m n) ≡ v → P (Truth m) (Truth n)) → P a b
 bool-made P f v (Truth m) (Truth n) e k = k m n (got-inj e)
 bool-made P f v (Truth m) Nil e k = stop≢got e
@@ -186,7 +186,7 @@ agree false true x y = x.1 (y.0 refl)
 agree false false x y = refl
 
 -- kind and payload of plain values of one kind
-module _ (a b : Value) (k : kind_of a ≡ kind_of b) (x : kind_of a ≢ isRef) where
+module _ (a b : Value) (k : kind_of a ≡ kind_of b) (x : kind_of a ≢ is_ref) where
   by-cell : cell_of a ≡ cell_of b → a ≡ b
   by-cell = same-value a b (plain-sound a x) (plain-sound b (λ q. x (k ∙ q)))
 
@@ -202,9 +202,9 @@ module _ (a b : Value) (k : kind_of a ≡ kind_of b) (x : kind_of a ≢ isRef) w
 module _ (v a b : Value) where
   -- = and ≠: two plain values of one kind are one, or are apart
   like-made : {X : Type 0} (f : Bool → Bool) → (want {E = ℕ} 8 (comparable (kind_of a) (kind_of b)) >> got (Truth (f (same a b)))) ≡ got v
-      → (kind_of a ≡ kind_of b → kind_of a ≢ isRef → Truth (f (same a b)) ≡ v → X) → X
+      → (kind_of a ≡ kind_of b → kind_of a ≢ is_ref → Truth (f (same a b)) ≡ v → X) → X
   like-made {X} f e h =
-      tested 8 (comparable (kind_of a) (kind_of b)) _ e λ c k. one-kind (λ m n. (m ≡ n → m ≢ isRef → X) → X) (kind_of a) (kind_of b) c (λ m x g. g refl x) (λ q x. h q x (got-inj k))
+      tested 8 (comparable (kind_of a) (kind_of b)) _ e λ c k. one-kind (λ m n. (m ≡ n → m ≢ is_ref → X) → X) (kind_of a) (kind_of b) c (λ m x g. g refl x) (λ q x. h q x (got-inj k))
 
   pub makes-sound : (o : ℕ) → 1 ≤ o → o ≤ operators → apply (op_of o) a b ≡ got v → Makes o a b v
   unfolding apply made takes op_of

@@ -13,12 +13,12 @@ use Rattle.tables.specs.declared.Slot.TheVariants.{Has}
 use Rattle.tables.specs.declared.Sort.TheVariants.{Identities}
 use Rattle.tables.specs.Values.{Sound}
 use Rattle.tables.specs.Cells.{Cells}
-use Rattle.tables.specs.Records.{fieldWith}
+use Rattle.tables.specs.Records.{field_with}
 use Rattle.fit.specs.Fit.{Fit}
 use Rattle.rules.specs.State.{slot_at, positions}
-use Rattle.rules.specs.Paths.{Way, wayAt}
-use Rattle.rules.specs.Identities.{Tie, tieAt, tiesOf, ties, class_of, identityPhase}
-use Rattle.rules.specs.Rules.Identities.{Frozen, of-target, of-side}
+use Rattle.rules.specs.Paths.{Way, way_at}
+use Rattle.rules.specs.Identities.{Tie, tie_at, ties_of, ties, class_of, identity_phase}
+use Rattle.rules.specs.Rules.Identities.{Frozen, of_target, of_side}
 use Rattle.rules.specs.Steps.Phases.{Target, Ready}
 use Rattle.rules.specs.Steps.PathsAfter.{PathsAfter, SamePaths}
 use Rattle.rules.proofs.PutAllLaws.{put-all-found}
@@ -27,23 +27,23 @@ use Rattle.rules.proofs.ReadyLaws.{TieOf, tie-of, tie-from, ready-found}
 use Rattle.rules.proofs.LeastChange.{phase-frozen, phase-written}
 
 -- each kept position has its tie
-pub tie-at-position : (program : List ℤ) (S : Cells) (ps : List ℕ) (ts : List Tie) → tiesOf program S ps ≡ got ts → (position : ℕ) → OneOf position ps → (t : Tie) × (OneOf t ts × (tieAt S (drop (position + 1) program) ≡ got t))
-unfolding tiesOf
+pub tie-at-position : (program : List ℤ) (S : Cells) (ps : List ℕ) (ts : List Tie) → ties_of program S ps ≡ got ts → (position : ℕ) → OneOf position ps → (t : Tie) × (OneOf t ts × (tie_at S (drop (position + 1) program) ≡ got t))
+unfolding ties_of
 tie-at-position program S [] ts e position m = absurd (Memᴰ.not-nil m)
 tie-at-position program S (k ∷ ps) ts e position m =
-    step (tieAt S (drop (k + 1) program)) _ e λ u e1 k1.
-    step (tiesOf program S ps) _ k1 λ us e2 k2.
+    step (tie_at S (drop (k + 1) program)) _ e λ u e1 k1.
+    step (ties_of program S ps) _ k1 λ us e2 k2.
     one-of-cons position k ps m
     (λ q. (u, (rw (sym (got-inj k2)) (OneOf.head refl), rw q e1)))
     (λ n. let w = tie-at-position program S ps us e2 position n in (w.0, (rw (sym (got-inj k2)) (OneOf.tail w.1.0), w.1.1)))
 
 -- the ties are the same where each is
-ties-same : (program : List ℤ) (S Z : Cells) (ps : List ℕ) (ts : List Tie) → tiesOf program S ps ≡ got ts → ((p : List ℤ) (t : Tie) → OneOf t ts → tieAt S p ≡ got t → tieAt Z p ≡ got t) → tiesOf program Z ps ≡ got ts
-unfolding tiesOf
+ties-same : (program : List ℤ) (S Z : Cells) (ps : List ℕ) (ts : List Tie) → ties_of program S ps ≡ got ts → ((p : List ℤ) (t : Tie) → OneOf t ts → tie_at S p ≡ got t → tie_at Z p ≡ got t) → ties_of program Z ps ≡ got ts
+unfolding ties_of
 ties-same program S Z [] ts e h = e
 ties-same program S Z (k ∷ ps) ts e h =
-    step (tieAt S (drop (k + 1) program)) _ e λ u e1 k1.
-    step (tiesOf program S ps) _ k1 λ us e2 k2.
+    step (tie_at S (drop (k + 1) program)) _ e λ u e1 k1.
+    step (ties_of program S ps) _ k1 λ us e2 k2.
     let q : u ∷ us ≡ ts = got-inj k2 in
     rw (
       h (drop (k + 1) program) u (rw (sym q) (OneOf.head refl)) e1,
@@ -53,29 +53,29 @@ ties-same program S Z (k ∷ ps) ts e h =
 
 module _ (program kept : List ℤ) (before now : Cells) (word : List ℤ) (target : ℕ) (prefix : List ℕ) (v : Value) (ts : List Tie) (Z : Cells)
     (fit : Fit before) (ready : Ready before now) (reached : Target before target prefix) (sound : Sound v) (followed : ties program kept before ≡ got ts)
-    (answered : identityPhase program kept before now word target prefix v ≡ got Z) where
+    (answered : identity_phase program kept before now word target prefix v ≡ got Z) where
   -- the records that were referred to have the same fields
-  found : (k r label : ℕ) → slot_at before k ≡ Has (Ref r) → fieldWith Z.heap r label ≡ fieldWith before.heap r label
+  found : (k r label : ℕ) → slot_at before k ≡ Has (Ref r) → field_with Z.heap r label ≡ field_with before.heap r label
   found k r label e =
       rw (phase-written program kept before now word target prefix v ts fit ready reached sound followed Z answered)
       (put-all-found v now (class_of ts target) r label ∙ ready-found before fit ready k r label e)
 
-  frozen : (p : List ℤ) (w : Way) → wayAt before p ≡ got w → ((l : ℕ) → OneOf l w.prefix → Frozen prefix ts l) → wayAt Z p ≡ got w
+  frozen : (p : List ℤ) (w : Way) → way_at before p ≡ got w → ((l : ℕ) → OneOf l w.prefix → Frozen prefix ts l) → way_at Z p ≡ got w
   frozen p w e h = way_same before p w e Z found
       (λ l m. phase-frozen program kept before now word target prefix v ts fit ready reached sound followed Z answered l (h l m))
 
-  tie-left : (p : List ℤ) (t : Tie) → OneOf t ts → (o : TieOf before p t) → wayAt Z p ≡ got o.left
-  tie-left p t m o = frozen p o.left o.left-way (λ l n. of-side t m (rw o.is (Memᴰ.append_left o.right.prefix n)))
+  tie-left : (p : List ℤ) (t : Tie) → OneOf t ts → (o : TieOf before p t) → way_at Z p ≡ got o.left
+  tie-left p t m o = frozen p o.left o.left-way (λ l n. of_side t m (rw o.is (Memᴰ.append_left o.right.prefix n)))
 
-  tie-right : (p : List ℤ) (t : Tie) → OneOf t ts → (o : TieOf before p t) → wayAt Z o.left.rest ≡ got o.right
-  tie-right p t m o = frozen o.left.rest o.right o.right-way (λ l n. of-side t m (rw o.is (Memᴰ.append_right o.left.prefix n)))
+  tie-right : (p : List ℤ) (t : Tie) → OneOf t ts → (o : TieOf before p t) → way_at Z o.left.rest ≡ got o.right
+  tie-right p t m o = frozen o.left.rest o.right o.right-way (λ l n. of_side t m (rw o.is (Memᴰ.append_right o.left.prefix n)))
 
-  tie-stays : (p : List ℤ) (t : Tie) → OneOf t ts → tieAt before p ≡ got t → tieAt Z p ≡ got t
+  tie-stays : (p : List ℤ) (t : Tie) → OneOf t ts → tie_at before p ≡ got t → tie_at Z p ≡ got t
   tie-stays p t m e =
       let o = tie-of before p t e in
       tie-from Z p t (record { left = o.left; right = o.right; left-way = tie-left p t m o; right-way = tie-right p t m o; is = o.is })
 
-  at_position : (position : ℕ) → OneOf position (positions kept Identities) → (t : Tie) × (OneOf t ts × (tieAt before (drop (position + 1) program) ≡ got t))
+  at_position : (position : ℕ) → OneOf position (positions kept Identities) → (t : Tie) × (OneOf t ts × (tie_at before (drop (position + 1) program) ≡ got t))
   unfolding ties
   at_position position m = tie-at-position program before (positions kept Identities) ts followed position m
 
@@ -86,7 +86,7 @@ module _ (program kept : List ℤ) (before now : Cells) (word : List ℤ) (targe
   paths-here : PathsAfter program kept before prefix ts Z
   paths-here = record {
     frozen = frozen;
-    target = λ p w e q. frozen p w e (λ l m. of-target (rw q at m));
+    target = λ p w e q. frozen p w e (λ l m. of_target (rw q at m));
     left = λ position m.
         let a = at_position position m in
         let o = tie-of before (drop (position + 1) program) a.0 a.1.1 in

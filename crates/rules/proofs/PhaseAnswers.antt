@@ -14,7 +14,7 @@ use Rattle.tables.specs.Cells.{Cells}
 use Rattle.fit.specs.Fit.{Fit}
 use Rattle.tables.proofs.SearchLaws.{cases}
 use Rattle.rules.specs.State.{Fault, Res, refused, refuse, slot_at}
-use Rattle.rules.specs.Identities.{Tie, ties, isNode, member, frozenBy, class_of, names, is, clashFree, put_all, identityPhase}
+use Rattle.rules.specs.Identities.{Tie, ties, is_node, member, frozen_by, class_of, names, is, clash_free, put_all, identity_phase}
 use Rattle.rules.specs.Rules.Identities.{IsNamed}
 use Rattle.rules.specs.Steps.PhaseAnswers.{PhaseAnswers, Refuses, PhaseRefuses}
 use Rattle.rules.specs.Steps.Phases.{Clash}
@@ -50,7 +50,7 @@ module _ (word : List ℤ) (Z : Cells) where
 -- a clash that was found: the cell, which is in the class, is frozen and holds something else
 record ClashAt (S : Cells) (frozen : List ℕ) (v : Value) (ls : List ℕ) : Type 0 where
   cell : ℕ
-  in-class : member cell ls ≡ true
+  in_class : member cell ls ≡ true
   is-frozen : member cell frozen ≡ true
   other : is (slot_at S cell) v ≡ false
 
@@ -58,54 +58,54 @@ neither : (a b : Bool) → not a || b ≡ false → (a ≡ true) × (b ≡ false
 neither true b e = (refl, e)
 neither false b e = false≢true (sym e)
 
-clash-found : (S : Cells) (frozen : List ℕ) (v : Value) (ls : List ℕ) → clashFree S frozen v ls ≡ false → ClashAt S frozen v ls
-unfolding clashFree
+clash-found : (S : Cells) (frozen : List ℕ) (v : Value) (ls : List ℕ) → clash_free S frozen v ls ≡ false → ClashAt S frozen v ls
+unfolding clash_free
 clash-found S frozen v [] e = false≢true (sym e)
 clash-found S frozen v (l ∷ ls) e = cases (not (member l frozen) || is (slot_at S l) v)
-    (λ q. let w = clash-found S frozen v ls (rw q at e) in record { cell = w.cell; in-class = member-tail w.cell l ls w.in-class; is-frozen = w.is-frozen; other = w.other })
-    (λ q. let k = neither (member l frozen) (is (slot_at S l) v) q in record { cell = l; in-class = member-head l l ls refl; is-frozen = k.0; other = k.1 })
+    (λ q. let w = clash-found S frozen v ls (rw q at e) in record { cell = w.cell; in_class = member-tail w.cell l ls w.in_class; is-frozen = w.is-frozen; other = w.other })
+    (λ q. let k = neither (member l frozen) (is (slot_at S l) v) q in record { cell = l; in_class = member-head l l ls refl; is-frozen = k.0; other = k.1 })
 
 module _ (program kept : List ℤ) (before now : Cells) (word : List ℤ) (target : ℕ) (prefix : List ℕ) (v : Value) (ts : List Tie)
     (fit : Fit before) (sound : Sound v) (followed : ties program kept before ≡ got ts) where
   abbrev node : Bool
-  node = not (names ts target) || isNode v
+  node = not (names ts target) || is_node v
 
   abbrev free : Bool
-  free = clashFree before (prefix ++ frozenBy ts) v (class_of ts target)
+  free = clash_free before (prefix ++ frozen_by ts) v (class_of ts target)
 
-  phase-tests : identityPhase program kept before now word target prefix v ≡ tests node free word (put_all now (class_of ts target) v)
-  unfolding identityPhase tests
+  phase-tests : identity_phase program kept before now word target prefix v ≡ tests node free word (put_all now (class_of ts target) v)
+  unfolding identity_phase tests
   phase-tests = rw followed
 
-  node-false : (node ≡ false) ↔ (IsNamed ts target × (isNode v ≡ false))
+  node-false : (node ≡ false) ↔ (IsNamed ts target × (is_node v ≡ false))
   node-false = (
-    λ e. let k = neither (names ts target) (isNode v) e in ((names-iff ts target).0 k.0, k.1),
+    λ e. let k = neither (names ts target) (is_node v) e in ((names-iff ts target).0 k.0, k.1),
     λ w. rw ((names-iff ts target).1 w.0, w.1),
   )
 
-  node-true : (node ≡ true) ↔ (IsNamed ts target → isNode v ≡ true)
+  node-true : (node ≡ true) ↔ (IsNamed ts target → is_node v ≡ true)
   node-true = (
-    λ e n. (node-iff (names ts target) (isNode v)).0 e ((names-iff ts target).1 n),
-    λ f. (node-iff (names ts target) (isNode v)).1 (λ q. f ((names-iff ts target).0 q)),
+    λ e n. (node-iff (names ts target) (is_node v)).0 e ((names-iff ts target).1 n),
+    λ f. (node-iff (names ts target) (is_node v)).1 (λ q. f ((names-iff ts target).0 q)),
   )
 
   free-false : (free ≡ false) ↔ Clash prefix ts target v before
   free-false = (
     λ e.
-        let w = clash-found before (prefix ++ frozenBy ts) v (class_of ts target) e in
+        let w = clash-found before (prefix ++ frozen_by ts) v (class_of ts target) e in
         record {
           cell = w.cell;
-          in-class = (class-iff ts target w.cell).0 w.in-class;
+          in_class = (class-iff ts target w.cell).0 w.in_class;
           frozen = (frozen-iff prefix ts w.cell).0 w.is-frozen;
           other = λ h. false≢true (sym w.other ∙ (is-has before fit w.cell v sound).1 h);
         },
     λ c. cases free
         (λ e. absurd (c.other ((is-has before fit c.cell v sound).0
-        ((clash-iff before (prefix ++ frozenBy ts) v (class_of ts target)).0 e c.cell ((class-iff ts target c.cell).1 c.in-class) ((frozen-iff prefix ts c.cell).1 c.frozen)))))
+        ((clash-iff before (prefix ++ frozen_by ts) v (class_of ts target)).0 e c.cell ((class-iff ts target c.cell).1 c.in_class) ((frozen-iff prefix ts c.cell).1 c.frozen)))))
         (λ e. e),
   )
 
-  refuses-here : Refuses (identityPhase program kept before now word target prefix v) before word target prefix v ts
+  refuses-here : Refuses (identity_phase program kept before now word target prefix v) before word target prefix v ts
   refuses-here =
       let Z = put_all now (class_of ts target) v in
       rw phase-tests (record {

@@ -8,16 +8,16 @@ use native.Mathlib.Omega.{arith}
 use borrow.Author.Tests.{eqb-true, eq-eqb}
 use lib.Dec.{eqb}
 use lib.IntN.{ℤ}
-use Rattle.words.specs.Words.{eqZ}
+use Rattle.words.specs.Words.{eq_z}
 use Rattle.words.specs.Answer.{got}
-use Rattle.words.proofs.Laws.{eqZ-true, eqZ-refl}
+use Rattle.words.proofs.Laws.{eq_z-true, eq_z-refl}
 use Rattle.words.proofs.AnswerLaws.{step, tested, got-inj}
 use Rattle.tables.specs.declared.Cell.{Cell}
 use Rattle.tables.specs.declared.Value.{Value}
 use Rattle.tables.specs.declared.Value.TheVariants.{Nil, Bool as Truth, Int, Ref}
 use Rattle.tables.specs.declared.Slot.{Slot}
 use Rattle.tables.specs.declared.Slot.TheVariants.{Absent, Has}
-use Rattle.tables.specs.Values.{cell, cell_of, slotOf, Sound}
+use Rattle.tables.specs.Values.{cell, cell_of, slot_of, Sound}
 use Rattle.tables.specs.Cells.{Cells}
 use Rattle.fit.specs.Fit.{Fit}
 use Rattle.tables.proofs.SearchLaws.{cases, and_left, and_right, and-true}
@@ -25,8 +25,8 @@ use Rattle.tables.proofs.ValueLaws.{slot-of-cell}
 use Rattle.fit.proofs.FitLaws.{fit-ref, fit_count}
 use Rattle.rules.specs.State.{refused, slot_at}
 use Rattle.rules.specs.Evaluation.{same}
-use Rattle.rules.specs.Identities.{Tie, ties, isNode, member, frozenBy, class_of, names, is, clashFree, identityPhase}
-use Rattle.rules.specs.Rules.Identities.{Frozen, of-target, of-side, IsNamed}
+use Rattle.rules.specs.Identities.{Tie, ties, is_node, member, frozen_by, class_of, names, is, clash_free, identity_phase}
+use Rattle.rules.specs.Rules.Identities.{Frozen, of_target, of_side, IsNamed}
 use Rattle.rules.specs.Steps.Phases.{Computed}
 use Rattle.rules.proofs.ClassLaws.{or_left, or_right, or_cases, false≢true, member-head, member-tail, member-cons, member-none, member-in, in-member, class-iff}
 
@@ -37,31 +37,31 @@ unfolding member
 member-append l [] b = (λ e. e, λ e. e)
 member-append l (x ∷ a) b = cases (eqb l x) (λ q. rw q (λ e. e, λ e. e)) (λ q. rw q (member-append l a b))
 
-frozen-side : (l : ℕ) (ts : List Tie) → member l (frozenBy ts) ≡ true → (t : Tie) × (OneOf t ts × OneOf l t.prefix)
-unfolding frozenBy
+frozen-side : (l : ℕ) (ts : List Tie) → member l (frozen_by ts) ≡ true → (t : Tie) × (OneOf t ts × OneOf l t.prefix)
+unfolding frozen_by
 frozen-side l [] e = member-none l e
-frozen-side l (t ∷ ts) e = or_cases (member l t.prefix) (member l (frozenBy ts)) ((member-append l t.prefix (frozenBy ts)).0 e)
+frozen-side l (t ∷ ts) e = or_cases (member l t.prefix) (member l (frozen_by ts)) ((member-append l t.prefix (frozen_by ts)).0 e)
     (λ a. (t, (OneOf.head refl, member-in l t.prefix a)))
     (λ b. let w = frozen-side l ts b in (w.0, (OneOf.tail w.1.0, w.1.1)))
 
-side-frozen : (l : ℕ) {ts : List Tie} (t : Tie) → OneOf t ts → OneOf l t.prefix → member l (frozenBy ts) ≡ true
-unfolding frozenBy
+side-frozen : (l : ℕ) {ts : List Tie} (t : Tie) → OneOf t ts → OneOf l t.prefix → member l (frozen_by ts) ≡ true
+unfolding frozen_by
 side-frozen l t (OneOf.head {x = u} {xs = ts} q) m =
-    (member-append l u.prefix (frozenBy ts)).1 (or_left (member l u.prefix) (member l (frozenBy ts)) (rw q at (in-member l m)))
+    (member-append l u.prefix (frozen_by ts)).1 (or_left (member l u.prefix) (member l (frozen_by ts)) (rw q at (in-member l m)))
 side-frozen l t (OneOf.tail {x = u} {xs = ts} n) m =
-    (member-append l u.prefix (frozenBy ts)).1 (or_right (member l u.prefix) (member l (frozenBy ts)) (side-frozen l t n m))
+    (member-append l u.prefix (frozen_by ts)).1 (or_right (member l u.prefix) (member l (frozen_by ts)) (side-frozen l t n m))
 
-pub frozen-iff : (prefix : List ℕ) (ts : List Tie) (l : ℕ) → (member l (prefix ++ frozenBy ts) ≡ true) ↔ Frozen prefix ts l
+pub frozen-iff : (prefix : List ℕ) (ts : List Tie) (l : ℕ) → (member l (prefix ++ frozen_by ts) ≡ true) ↔ Frozen prefix ts l
 frozen-iff prefix ts l = (
-  λ e. or_cases (member l prefix) (member l (frozenBy ts)) ((member-append l prefix (frozenBy ts)).0 e)
-      (λ a. of-target (member-in l prefix a))
-      (λ b. let w = frozen-side l ts b in of-side w.0 w.1.0 w.1.1),
+  λ e. or_cases (member l prefix) (member l (frozen_by ts)) ((member-append l prefix (frozen_by ts)).0 e)
+      (λ a. of_target (member-in l prefix a))
+      (λ b. let w = frozen-side l ts b in of_side w.0 w.1.0 w.1.1),
   back_to,
 )
   where
-    back_to : Frozen prefix ts l → member l (prefix ++ frozenBy ts) ≡ true
-    back_to (of-target m) = (member-append l prefix (frozenBy ts)).1 (or_left (member l prefix) (member l (frozenBy ts)) (in-member l m))
-    back_to (of-side t n m) = (member-append l prefix (frozenBy ts)).1 (or_right (member l prefix) (member l (frozenBy ts)) (side-frozen l t n m))
+    back_to : Frozen prefix ts l → member l (prefix ++ frozen_by ts) ≡ true
+    back_to (of_target m) = (member-append l prefix (frozen_by ts)).1 (or_left (member l prefix) (member l (frozen_by ts)) (in-member l m))
+    back_to (of_side t n m) = (member-append l prefix (frozen_by ts)).1 (or_right (member l prefix) (member l (frozen_by ts)) (side-frozen l t n m))
 
 -- ---- what an identity names
 
@@ -86,14 +86,14 @@ names-iff ts l = (names-sound ts l, back_to)
 
 -- ---- no clash
 
-pub clash-iff : (S : Cells) (frozen : List ℕ) (v : Value) (ls : List ℕ) → (clashFree S frozen v ls ≡ true) ↔ ((l : ℕ) → member l ls ≡ true → member l frozen ≡ true → is (slot_at S l) v ≡ true)
-unfolding clashFree
+pub clash-iff : (S : Cells) (frozen : List ℕ) (v : Value) (ls : List ℕ) → (clash_free S frozen v ls ≡ true) ↔ ((l : ℕ) → member l ls ≡ true → member l frozen ≡ true → is (slot_at S l) v ≡ true)
+unfolding clash_free
 clash-iff S frozen v [] = (λ e l m. member-none l m, λ f. refl)
 clash-iff S frozen v (k ∷ ls) = (
   λ e l m n. member-cons l k ls m
-      (λ q. holds k (and_left (not (member k frozen) || is (slot_at S k) v) (clashFree S frozen v ls) e) l q n)
-      (λ a. (clash-iff S frozen v ls).0 (and_right (not (member k frozen) || is (slot_at S k) v) (clashFree S frozen v ls) e) l a n),
-  λ f. and-true (not (member k frozen) || is (slot_at S k) v) (clashFree S frozen v ls)
+      (λ q. holds k (and_left (not (member k frozen) || is (slot_at S k) v) (clash_free S frozen v ls) e) l q n)
+      (λ a. (clash-iff S frozen v ls).0 (and_right (not (member k frozen) || is (slot_at S k) v) (clash_free S frozen v ls) e) l a n),
+  λ f. and-true (not (member k frozen) || is (slot_at S k) v) (clash_free S frozen v ls)
       (cases (member k frozen) (λ q. rw q (f k (member-head k k ls refl) q)) (λ q. rw q refl))
       ((clash-iff S frozen v ls).1 (λ l m n. f l (member-tail l k ls m) n)),
 )
@@ -108,15 +108,15 @@ cell_same c d k p = ap (λ x. cell x c.payload) k ∙ ap (λ x. cell d.kind x) p
 
 pub same_self : (v : Value) → same v v ≡ true
 unfolding same
-same_self v = rw (eqZ-refl (cell_of v).kind, eqZ-refl (cell_of v).payload)
+same_self v = rw (eq_z-refl (cell_of v).kind, eq_z-refl (cell_of v).payload)
 
 pub same-is : (v w : Value) → Sound v → Sound w → same v w ≡ true → v ≡ w
 unfolding same
 same-is v w a b e =
-    let k : (cell_of v).kind ≡ (cell_of w).kind = eqZ-true (cell_of v).kind (cell_of w).kind (and_left (eqZ (cell_of v).kind (cell_of w).kind) (eqZ (cell_of v).payload (cell_of w).payload) e) in
-    let p : (cell_of v).payload ≡ (cell_of w).payload = eqZ-true (cell_of v).payload (cell_of w).payload (and_right (eqZ (cell_of v).kind (cell_of w).kind) (eqZ (cell_of v).payload (cell_of w).payload) e) in
+    let k : (cell_of v).kind ≡ (cell_of w).kind = eq_z-true (cell_of v).kind (cell_of w).kind (and_left (eq_z (cell_of v).kind (cell_of w).kind) (eq_z (cell_of v).payload (cell_of w).payload) e) in
+    let p : (cell_of v).payload ≡ (cell_of w).payload = eq_z-true (cell_of v).payload (cell_of w).payload (and_right (eq_z (cell_of v).kind (cell_of w).kind) (eq_z (cell_of v).payload (cell_of w).payload) e) in
     let q = cell_same (cell_of v) (cell_of w) k p in
-    let x : Has v ≡ Has w = sym (slot-of-cell v a) ∙ ap slotOf q ∙ slot-of-cell w b in
+    let x : Has v ≡ Has w = sym (slot-of-cell v a) ∙ ap slot_of q ∙ slot-of-cell w b in
     cc
 
 -- a value that is no reference, or one to a record that is there, is one that a cell can hold
@@ -150,26 +150,26 @@ node-iff false b = (λ e q. false≢true q, λ f. refl)
 module _ (program kept : List ℤ) (before now : Cells) (word : List ℤ) (target : ℕ) (prefix : List ℕ) (v : Value) where
   module _ (fit : Fit before) (sound : Sound v) where
     -- the phase answers exactly where it may, and then with the class's update
-    pub phase-iff : (Z : Cells) → (identityPhase program kept before now word target prefix v ≡ got Z) ↔ Computed program kept before now target prefix v Z
-    unfolding identityPhase
+    pub phase-iff : (Z : Cells) → (identity_phase program kept before now word target prefix v ≡ got Z) ↔ Computed program kept before now target prefix v Z
+    unfolding identity_phase
     phase-iff Z = (
       λ e.
           step (ties program kept before) _ e λ ts e1 k1.
-          tested (refused 13 word) (not (names ts target) || isNode v) _ k1 λ c2 k2.
-          tested (refused 12 word) (clashFree before (prefix ++ frozenBy ts) v (class_of ts target)) _ k2 λ c3 k3.
+          tested (refused 13 word) (not (names ts target) || is_node v) _ k1 λ c2 k2.
+          tested (refused 12 word) (clash_free before (prefix ++ frozen_by ts) v (class_of ts target)) _ k2 λ c3 k3.
           record {
             tied = ts;
             followed = e1;
-            node = λ n. (node-iff (names ts target) (isNode v)).0 c2 ((names-iff ts target).1 n);
-            free = λ l r f. (is-has before fit l v sound).0 ((clash-iff before (prefix ++ frozenBy ts) v (class_of ts target)).0 c3 l ((class-iff ts target l).1 r) ((frozen-iff prefix ts l).1 f));
+            node = λ n. (node-iff (names ts target) (is_node v)).0 c2 ((names-iff ts target).1 n);
+            free = λ l r f. (is-has before fit l v sound).0 ((clash-iff before (prefix ++ frozen_by ts) v (class_of ts target)).0 c3 l ((class-iff ts target l).1 r) ((frozen-iff prefix ts l).1 f));
             written = sym (got-inj k3);
           },
       λ h.
           let ts = h.tied in
           rw (
             h.followed,
-            (node-iff (names ts target) (isNode v)).1 (λ e. h.node ((names-iff ts target).0 e)),
-            (clash-iff before (prefix ++ frozenBy ts) v (class_of ts target)).1 (λ l m f. (is-has before fit l v sound).1 (h.free l ((class-iff ts target l).0 m) ((frozen-iff prefix ts l).0 f))),
+            (node-iff (names ts target) (is_node v)).1 (λ e. h.node ((names-iff ts target).0 e)),
+            (clash-iff before (prefix ++ frozen_by ts) v (class_of ts target)).1 (λ l m f. (is-has before fit l v sound).1 (h.free l ((class-iff ts target l).0 m) ((frozen-iff prefix ts l).0 f))),
             h.written,
           ),
     )

@@ -12,7 +12,7 @@ use lib.Dec.{eqb, leb}
 use lib.IntN.{ℤ, pos}
 use lib.ListN.{length, drop, length-drop}
 use lib.Seq.{drop-drop}
-use Rattle.words.specs.Words.{numberAt}
+use Rattle.words.specs.Words.{number_at}
 use Rattle.words.specs.Answer.{got}
 use Rattle.words.proofs.Laws.{number-cons}
 use Rattle.tables.proofs.SearchLaws.{and_left, and_right}
@@ -21,11 +21,11 @@ use Rattle.tables.specs.declared.Value.{Value}
 use Rattle.tables.specs.declared.Sort.TheVariants.{Values}
 use Rattle.tables.specs.Cells.{Cells}
 use Rattle.fit.specs.Fit.{Fit}
-use Rattle.program.specs.Forms.{expressionDepth}
-use Rattle.program.specs.Reading.{Reading, readPath, readExpression, readConstraint, readStatement}
+use Rattle.program.specs.Forms.{expression_depth}
+use Rattle.program.specs.Reading.{Reading, read_path, read_expression, read_constraint, read_statement}
 use Rattle.program.specs.declared.Spot.{Spot}
 use Rattle.program.specs.declared.Spot.TheVariants.{At, Nowhere}
-use Rattle.program.specs.Where.{statementAt, hasVerb, isAlways}
+use Rattle.program.specs.Where.{statement_at, has_verb, is_always}
 use Rattle.program.specs.Grammar.{Program}
 use Rattle.program.proofs.LengthLaws.{part-refl, part-drop, part-trans, after-got, path-uses, expression-uses}
 use Rattle.program.proofs.GrammarSound.{expression-sound, statement-sound}
@@ -40,12 +40,12 @@ use Rattle.rules.specs.Running.{Tally}
 use Rattle.rules.specs.Rules.Expressions.{nowhere, kinds, range}
 use Rattle.rules.specs.Rules.Constraints.{Reads, FirstNot, ConstraintMeets, Uncounted}
 use Rattle.rules.specs.Rules.Identities.{Phase, PhaseFails}
-use Rattle.rules.specs.Rules.Proposals.{Each, more, Fails, Unsettled, uncounted, no_room, turned_down}
-use Rattle.rules.specs.Rules.Proposals.{no_words, not-formed, not-allowed, not-needed, not-met}
-use Rattle.rules.specs.Rules.Statements.{pastPath, Gives, Refused, f-value, f-target, f-field, f-full, f-phase, f-given, f-always, f-once, f-identity, f-unkept}
+use Rattle.rules.specs.Rules.Proposals.{Each, more, Fails, Unsettled, uncounted, no_room, turned-down}
+use Rattle.rules.specs.Rules.Proposals.{no_words, not_formed, not_allowed, not_needed, not_met}
+use Rattle.rules.specs.Rules.Statements.{past_path, Gives, Refused, f_value, f_target, f_field, f_full, f_phase, f_given, f_always, f_once, f_identity, f_unkept}
 use Rattle.rules.specs.Rules.Kept.{AtStatement, at}
 use Rattle.rules.specs.Steps.Holds.{Holds, StatementThere}
-use Rattle.rules.specs.Claims.Answers.{Wrong, path, operator, test, part, side, Found, in-statement, in-test, Inside, of-statement, of-kept}
+use Rattle.rules.specs.Claims.Answers.{Wrong, path, operator, test, part, side, Found, in_statement, in_test, Inside, of_statement, of_kept}
 use Rattle.rules.proofs.KeepLaws.{positions-iff}
 use Rattle.rules.proofs.HoldLaws.{each_map}
 use Rattle.rules.proofs.PartLaws.{constraint-iff}
@@ -100,22 +100,22 @@ outside n = (leb 5 n && leb n 19) && (not (eqb n 7) && (not (eqb n 8) && (not (e
 
 module _ (program : List ℤ) where
   -- a refusal inside a statement that holds no block is found there
-  found_in : {Y : Cells} {c : Bool} {p q : List ℤ} {f : Fault} → StatementThere program p → readStatement 0 p ≡ got q → Inner Y c (drop 1 p) q f
+  found_in : {Y : Cells} {c : Bool} {p q : List ℤ} {f : Fault} → StatementThere program p → read_statement 0 p ≡ got q → Inner Y c (drop 1 p) q f
       → Found program Y f.number (place_of program f) c p
   found_in {Y} {c} {p} {q} {f} here e x =
       let w = there-part here in
       let whole = part-trans w (part-trans (part-drop 1 p) x.within) in
       let l : length x.at ≤ length p - 1 = rw (length-drop 1 p) at x.within.short in
       rw x.word
-      (in-statement {c = c} (statement-sound 0 p q e) (omega (arith, x.before, l, w.short)) (omega (arith, x.before, whole.short)) (rw whole.is x.wrong))
+      (in_statement {c = c} (statement-sound 0 p q e) (omega (arith, x.before, l, w.short)) (omega (arith, x.before, whole.short)) (rw whole.is x.wrong))
 
-  found-test : {Y : Cells} {verb : ℕ} {p q : List ℤ} {f : Fault} → StatementThere program (pos verb ∷ p) → 7 ≤ verb → readExpression expressionDepth false p ≡ got q → Inner Y false p q f
+  found-test : {Y : Cells} {verb : ℕ} {p q : List ℤ} {f : Fault} → StatementThere program (pos verb ∷ p) → 7 ≤ verb → read_expression expression_depth false p ≡ got q → Inner Y false p q f
       → Found program Y f.number (place_of program f) false (pos verb ∷ p)
   found-test {p = p} {q = q} here h e x =
       let w = part-trans (there-part here) (part-drop 1 (pos _ ∷ p)) in
       let whole = part-trans w x.within in
       rw x.word
-      (in-test h (expression-sound expressionDepth false p q e) (omega (arith, x.within.short, w.short)) (omega (arith, x.before, whole.short)) (rw whole.is x.wrong))
+      (in_test h (expression-sound expression_depth false p q e) (omega (arith, x.within.short, w.short)) (omega (arith, x.before, whole.short)) (rw whole.is x.wrong))
 
 -- where the statement at p is refused: at its word, at a word of its own, or, for 15, in a kept constraint
 pub data Placed (program : List ℤ) (S : State) (p : List ℤ) (n place : ℕ) : Type 0 where
@@ -126,21 +126,21 @@ pub data Placed (program : List ℤ) (S : State) (p : List ℤ) (n place : ℕ) 
 module _ (program : List ℤ) (g : Program program) (S : State) (hold : Holds program S) where
   -- ---- inside the statement
 
-  within : {c : Bool} {p q : List ℤ} {f : Fault} → StatementThere program p → readStatement 0 p ≡ got q → Inner S.cells c (drop 1 p) q f → Placed program S p f.number (place_of program f)
+  within : {c : Bool} {p q : List ℤ} {f : Fault} → StatementThere program p → read_statement 0 p ≡ got q → Inner S.cells c (drop 1 p) q f → Placed program S p f.number (place_of program f)
   within here e x = inner (found_in program here e x)
 
   -- it reads as it does with no block inside it
-  flat : {p : List ℤ} {m : Reading (List ℤ)} (here : StatementThere program p) → ((d : ℕ) → readStatement d p ≡ m) → readStatement 0 p ≡ got here.statement.rest
+  flat : {p : List ℤ} {m : Reading (List ℤ)} (here : StatementThere program p) → ((d : ℕ) → read_statement d p ≡ m) → read_statement 0 p ≡ got here.statement.rest
   flat here opens = opens 0 ∙ sym (opens here.statement.nest) ∙ here.statement.reads
 
   assign-placed : {p : List ℤ} {f : Fault} → StatementThere program (pos 1 ∷ p)
-      → ((r q : List ℤ) → pastPath p ≡ r → readPath p ≡ got r → readExpression expressionDepth false r ≡ got q → Inner S.cells false p q f) → Placed program S (pos 1 ∷ p) f.number (place_of program f)
+      → ((r q : List ℤ) → past_path p ≡ r → read_path p ≡ got r → read_expression expression_depth false r ≡ got q → Inner S.cells false p q f) → Placed program S (pos 1 ∷ p) f.number (place_of program f)
   assign-placed {p} here k =
       let e = flat here (λ d. assign-opens d p) in
-      step (readPath p) _ (sym (assign-opens 0 p) ∙ e) λ r e1 e2.
+      step (read_path p) _ (sym (assign-opens 0 p) ∙ e) λ r e1 e2.
       within here e (k r here.statement.rest (past-path p here.statement ∙ after-got e1) e1 e2)
 
-  constraint-placed : {p : List ℤ} {f : Fault} (verb : ℕ) (here : StatementThere program (pos verb ∷ p)) → ((d : ℕ) → readStatement d (pos verb ∷ p) ≡ readConstraint p)
+  constraint-placed : {p : List ℤ} {f : Fault} (verb : ℕ) (here : StatementThere program (pos verb ∷ p)) → ((d : ℕ) → read_statement d (pos verb ∷ p) ≡ read_constraint p)
       → ConstraintMeets S.cells p f → Placed program S (pos verb ∷ p) f.number (place_of program f)
   constraint-placed verb here opens m =
       let e = flat here opens in
@@ -153,21 +153,21 @@ module _ (program : List ℤ) (g : Program program) (S : State) (hold : Holds pr
   kept-reads = each_map (λ k h. (h.parts, (constraint-iff S.cells (drop (k + 1) program) h.parts).0 h.reads)) (positions S.kept Values) hold.values
 
   -- a kept position is that of an always-statement
-  always-there : (k : ℕ) → isAlways program Values k ≡ true → (nest : ℕ) × (statementAt program k ≡ At 3 nest)
-  always-there k e = go (statementAt program k) refl (sym (always-is program Values k) ∙ e)
+  always-there : (k : ℕ) → is_always program Values k ≡ true → (nest : ℕ) × (statement_at program k ≡ At 3 nest)
+  always-there k e = go (statement_at program k) refl (sym (always-is program Values k) ∙ e)
     where
-      go : (s : Spot) → statementAt program k ≡ s → hasVerb 3 s ≡ true → (nest : ℕ) × (statementAt program k ≡ At 3 nest)
+      go : (s : Spot) → statement_at program k ≡ s → has_verb 3 s ≡ true → (nest : ℕ) × (statement_at program k ≡ At 3 nest)
       go (At verb nest) i h = let z : verb ≡ 3 = eqb-true verb 3 h in (nest, rw z at i)
       go Nowhere i h = absurd (true≢false (sym h))
 
   kept-found : {Y : Cells} {k : ℕ} {f : Fault} → Fit Y → FirstNot (Reads program Y) (positions S.kept Values) k → ConstraintMeets Y (drop (k + 1) program) f
       → Found program Y f.number (place_of program f) true (drop k program)
   kept-found {Y} {k} {f} fit first m =
-      let a = always-there k (first-each ((positions-iff (λ j. isAlways program Values j ≡ true) S.kept Values).1 (((stand-iff program S.kept).0 hold.stands).1 Values)) first) in
-      let word : numberAt (drop k program) 0 ≡ 3 = there-verb k g a.1 in
+      let a = always-there k (first-each ((positions-iff (λ j. is_always program Values j ≡ true) S.kept Values).1 (((stand-iff program S.kept).0 hold.stands).1 Values)) first) in
+      let word : number_at (drop k program) 0 ≡ 3 = there-verb k g a.1 in
       let is : drop k program ≡ pos 3 ∷ drop 1 (drop k program) = rw word at (number-cons (drop k program) (omega arith)) in
       let here = statement-there g (at k a.1) in
-      let opens : (d : ℕ) → readStatement d (drop k program) ≡ readConstraint (drop 1 (drop k program)) = λ d. ap (λ (t : List ℤ). readStatement d t) is ∙ always-opens d (drop 1 (drop k program)) in
+      let opens : (d : ℕ) → read_statement d (drop k program) ≡ read_constraint (drop 1 (drop k program)) = λ d. ap (λ (t : List ℤ). read_statement d t) is ∙ always-opens d (drop 1 (drop k program)) in
       let e = flat here opens in
       let m' : ConstraintMeets Y (drop 1 (drop k program)) f = rw (drop-drop 1 k program) m in
       found_in program here e (constraint-inner Y fit m' (sym (opens 0) ∙ e))
@@ -176,23 +176,23 @@ module _ (program : List ℤ) (g : Program program) (S : State) (hold : Holds pr
 
   turned-outer : {kept : List ℤ} {asked : Asked} {Y : Cells} {before : List Piece} {ws : List ℤ} {n : ℕ} → Fails program kept asked Y before ws n → outside n ≡ true
   turned-outer (no_words e) = refl
-  turned-outer (not-formed a b) = refl
-  turned-outer (not-allowed a b) = refl
-  turned-outer (not-needed a b c) = refl
-  turned-outer (not-met a b c d e f) = refl
+  turned-outer (not_formed a b) = refl
+  turned-outer (not_allowed a b) = refl
+  turned-outer (not_needed a b c) = refl
+  turned-outer (not_met a b c d e f) = refl
 
   -- the parts that count are those of what is kept, and a C of its own
   unsettled-placed : {asked : Asked} {Y : Cells} {ws : List ℤ} {f : Fault} {p : List ℤ} → Unsettled program S.kept asked p Y ws f
       → (Uncounted program S.kept Y asked.own f → Placed program S p f.number (place_of program f)) → Placed program S p f.number (place_of program f)
   unsettled-placed (uncounted u) k = k u
   unsettled-placed (no_room c r) k = plain refl refl
-  unsettled-placed (turned_down c r x) k = plain refl (turned-outer x)
+  unsettled-placed (turned-down c r x) k = plain refl (turned-outer x)
 
   given-placed : {target : ℕ} {prefix : List ℕ} {v : Value} {N Y : Cells} {f : Fault} {p : List ℤ} {o : Option (List ℤ)} → o ≡ none → StatementThere program p
       → Gives S.cells p target prefix v N → Phase program S.kept S.cells N target prefix v Y → Uncounted program S.kept Y o f → Placed program S p f.number (place_of program f)
   given-placed e here gives phase (Uncounted.own m) = absurd (let z : ◌≡◌ {A = ℕ} 0 1 = cc in omega arith)
   given-placed e here gives phase (Uncounted.kept reads first m) =
-      in_kept refl (of-kept gives phase first (kept-found (gives-fit program S hold gives here.statement phase) first m))
+      in_kept refl (of_kept gives phase first (kept-found (gives-fit program S hold gives here.statement phase) first m))
 
   own-placed : {f : Fault} {p c : List ℤ} {o : Option (List ℤ)} → o ≡ some c → (ConstraintMeets S.cells c f → Placed program S p f.number (place_of program f))
       → Uncounted program S.kept S.cells o f → Placed program S p f.number (place_of program f)
@@ -202,40 +202,40 @@ module _ (program : List ℤ) (g : Program program) (S : State) (hold : Holds pr
   -- ---- every refusal
 
   pub refused-placed : {ws p : List ℤ} {f : Fault} → StatementThere program p → Refused program S ws p f → Placed program S p f.number (place_of program f)
-  refused-placed here (f-value m) = assign-placed here λ r q i e1 e2. inner-on ((path-uses _).good r e1).part (omega arith) (meets-inner S.cells hold.fit (rw i at m) e2)
-  refused-placed here (f-target {p = p} v a) =
-      assign-placed here λ r q i e1 e2. inner-on (part-refl p) ((expression-uses expressionDepth false r).good q e2).part.short (lost-inner S.cells hold.fit (nowhere a) e1)
-  refused-placed here (f-field {x = x} {m = m} {p = p} a b u) =
+  refused-placed here (f_value m) = assign-placed here λ r q i e1 e2. inner-on ((path-uses _).good r e1).part (omega arith) (meets-inner S.cells hold.fit (rw i at m) e2)
+  refused-placed here (f_target {p = p} v a) =
+      assign-placed here λ r q i e1 e2. inner-on (part-refl p) ((expression-uses expression_depth false r).good q e2).part.short (lost-inner S.cells hold.fit (nowhere a) e1)
+  refused-placed here (f_field {x = x} {m = m} {p = p} a b u) =
       let e = flat here (λ d. new-opens d p x m a b) in
       within here e (inner-on (part-drop 2 (pos x ∷ pos m ∷ p)) (omega arith) (fields-inner S.cells hold.fit [] u (sym (new-opens 0 p x m a b) ∙ e)))
-  refused-placed here (f-full a b c d) = plain refl refl
-  refused-placed here (f-phase gives (PhaseFails.no_Node a b c)) = plain refl refl
-  refused-placed here (f-phase gives (PhaseFails.clash a b c d e)) = plain refl refl
-  refused-placed here (f-given gives phase u) = unsettled-placed u (given-placed refl here gives phase)
-  refused-placed here (f-always {p = p} r u) = unsettled-placed u (own-placed refl (constraint-placed 3 here (λ d. always-opens d p)))
-  refused-placed here (f-once {p = p} u) = unsettled-placed u (own-placed refl (constraint-placed 4 here (λ d. once-opens d p)))
-  refused-placed here (f-identity {verb = verb} {p = p} a b u) =
+  refused-placed here (f_full a b c d) = plain refl refl
+  refused-placed here (f_phase gives (PhaseFails.no_Node a b c)) = plain refl refl
+  refused-placed here (f_phase gives (PhaseFails.clash a b c d e)) = plain refl refl
+  refused-placed here (f_given gives phase u) = unsettled-placed u (given-placed refl here gives phase)
+  refused-placed here (f_always {p = p} r u) = unsettled-placed u (own-placed refl (constraint-placed 3 here (λ d. always-opens d p)))
+  refused-placed here (f_once {p = p} u) = unsettled-placed u (own-placed refl (constraint-placed 4 here (λ d. once-opens d p)))
+  refused-placed here (f_identity {verb = verb} {p = p} a b u) =
       let e = flat here (λ d. same-opens d p verb a b) in
       go e (unsame-sided S.cells hold.fit u (sym (same-opens 0 p verb a b) ∙ e)) here
     where
-      go : {q p : List ℤ} {f : Fault} → readStatement 0 (pos verb ∷ p) ≡ got q → Sided S.cells hold.fit (pos verb ∷ p) p q f → StatementThere program (pos verb ∷ p) → Placed program S (pos verb ∷ p) f.number (place_of program f)
+      go : {q p : List ℤ} {f : Fault} → read_statement 0 (pos verb ∷ p) ≡ got q → Sided S.cells hold.fit (pos verb ∷ p) p q f → StatementThere program (pos verb ∷ p) → Placed program S (pos verb ∷ p) f.number (place_of program f)
       go e (at_side x) here = within here e x
       go e both-differ here = plain refl refl
-  refused-placed here (f-unkept a b) = plain refl refl
+  refused-placed here (f_unkept a b) = plain refl refl
 
 -- every end of a run
 pub ends-placed : {program : List ℤ} {budget n place : ℕ} {u : Tally} {p : List ℤ} → Program program → Holds program u.state → Ends program budget u p n place → Placed program u.state p n place
 ends-placed g hold (unpaid here) = plain refl refl
 ends-placed {program} {u = u} g hold (refuses here low r) = refused-placed program g u.state hold here r
 ends-placed {program} {u = u} g hold (untested {p = p} {q = q} here a b t x) =
-    let e : readExpression expressionDepth false p ≡ got q = rw t.split (expression-complete t.piece q) in
+    let e : read_expression expression_depth false p ≡ got q = rw t.split (expression-complete t.piece q) in
     inner (found-test program here a e (test-inner u.state.cells hold.fit x e))
 
 -- ---- what follows for its number and its place
 
 found_number : {program p : List ℤ} {S : Cells} {c : Bool} {n place : ℕ} → Found program S n place c p → OneOf n inner-numbers
-found_number (in-statement a b c w) = wrong-number w
-found_number (in-test a b c d w) = wrong-number w
+found_number (in_statement a b c w) = wrong-number w
+found_number (in_test a b c d w) = wrong-number w
 
 pub inner-range : {n : ℕ} → OneOf n inner-numbers → (5 ≤ n) × (n ≤ 19)
 inner-range o = inner-cases o (λ e. (omega arith, omega arith)) (λ e. (omega arith, omega arith)) (λ e. (omega arith, omega arith)) (λ e. (omega arith, omega arith))
@@ -267,7 +267,7 @@ placed-own (in_kept e i) k = absurd (k (fifteen e))
 
 pub placed-inside : {program p : List ℤ} {S : State} {n place : ℕ} → Placed program S p n place → OneOf n inner-numbers → Inside program S p place n
 placed-inside {n = n} (plain e h) o = absurd (outside-apart n h o)
-placed-inside (inner f) o = of-statement f
+placed-inside (inner f) o = of_statement f
 placed-inside (in_kept e i) o = rw e i
 
 pub placed-found : {program p : List ℤ} {S : State} {n place : ℕ} → Placed program S p n place → OneOf n inner-numbers → n ≢ 15 → (c : Bool) × Found program S.cells n place c p
@@ -278,12 +278,12 @@ placed-found (in_kept e i) o k = absurd (k e)
 -- ---- a place inside the line is inside the program
 
 found-short : {program p : List ℤ} {S : Cells} {c : Bool} {n place : ℕ} → Found program S n place c p → place < length program
-found-short (in-statement t a b w) = omega arith
-found-short (in-test h t a b w) = omega arith
+found-short (in_statement t a b w) = omega arith
+found-short (in_test h t a b w) = omega arith
 
 pub inside-short : {program p : List ℤ} {S : State} {n place : ℕ} → Inside program S p place n → place < length program
-inside-short (of-statement f) = found-short f
-inside-short (of-kept g h k f) = found-short f
+inside-short (of_statement f) = found-short f
+inside-short (of_kept g h k f) = found-short f
 
 pub inner-or : (n : ℕ) → Dec (OneOf n inner-numbers)
 inner-or n = go (ℕ_discrete n 7) (ℕ_discrete n 8) (ℕ_discrete n 9) (ℕ_discrete n 15)

@@ -6,15 +6,15 @@ use mathlib.Core.Option.{Option, none, some}
 use Prim.Native.Nat.{ℕ, zero, suc}
 use lib.Dec.{eqb, ltb, leb}
 use lib.IntN.{ℤ, pos}
-use Rattle.words.specs.Words.{number_of, eqZ}
+use Rattle.words.specs.Words.{number_of, eq_z}
 use Rattle.words.specs.Answer.{Answer, got, stop, ◌>>=◌, ◌>>◌, want}
 use Rattle.tables.specs.declared.Cell.{Cell}
 use Rattle.tables.specs.Values.{cell}
-use Rattle.tables.specs.Cells.{Cells, cell_at, putCell}
+use Rattle.tables.specs.Cells.{Cells, cell_at, put_cell}
 use Rattle.rules.specs.State.{refused}
 use Rattle.rules.specs.Evaluation.{at}
-use Rattle.rules.specs.Constraints.{counted, allHold, requiredHold}
-use Rattle.rules.specs.Proposals.{Entry, entries, proposal, mayTake, isTarget, entryFits, entriesFit, putEntry, applied, none?, Asked, settle}
+use Rattle.rules.specs.Constraints.{counted, all_hold, required_hold}
+use Rattle.rules.specs.Proposals.{Entry, entries, proposal, may_take, is_target, entry_fits, entries_fit, put_entry, applied, none?, Asked, settle}
 
 -- ---- form
 
@@ -47,32 +47,32 @@ proposal-more n ws = refl
 -- ---- entries
 
 pub may-take-is : (c : Cell) (w : ℤ)
-    → mayTake c w ≡ (cond (eqb (number_of c.kind) 2) (eqZ w (pos 0) || eqZ w (pos 1)) (eqb (number_of c.kind) 3) && not (eqZ w c.payload))
-unfolding mayTake
+    → may_take c w ≡ (cond (eqb (number_of c.kind) 2) (eq_z w (pos 0) || eq_z w (pos 1)) (eqb (number_of c.kind) 3) && not (eq_z w c.payload))
+unfolding may_take
 may-take-is c w = refl
 
 module _ (S : Cells) where
-  pub entry-fits-is : (t : Option ℕ) (e : Entry) → entryFits S t e ≡ (mayTake (cell_at S e.location) e.payload && not (isTarget t e.location))
-  unfolding entryFits
+  pub entry-fits-is : (t : Option ℕ) (e : Entry) → entry_fits S t e ≡ (may_take (cell_at S e.location) e.payload && not (is_target t e.location))
+  unfolding entry_fits
   entry-fits-is t e = refl
 
-  pub entries-fit-none : (t : Option ℕ) → entriesFit S t [] ≡ true
-  unfolding entriesFit
+  pub entries-fit-none : (t : Option ℕ) → entries_fit S t [] ≡ true
+  unfolding entries_fit
   entries-fit-none t = refl
 
-  pub entries-fit-more : (t : Option ℕ) (e : Entry) (es : List Entry) → entriesFit S t (e ∷ es) ≡ (entryFits S t e && entriesFit S t es)
-  unfolding entriesFit
+  pub entries-fit-more : (t : Option ℕ) (e : Entry) (es : List Entry) → entries_fit S t (e ∷ es) ≡ (entry_fits S t e && entries_fit S t es)
+  unfolding entries_fit
   entries-fit-more t e es = refl
 
-  pub put-entry-is : (e : Entry) → putEntry S e ≡ putCell S e.location (cell (cell_at S e.location).kind e.payload)
-  unfolding putEntry
+  pub put-entry-is : (e : Entry) → put_entry S e ≡ put_cell S e.location (cell (cell_at S e.location).kind e.payload)
+  unfolding put_entry
   put-entry-is e = refl
 
   pub applied-none : applied S [] ≡ S
   unfolding applied
   applied-none = refl
 
-  pub applied-more : (e : Entry) (es : List Entry) → applied S (e ∷ es) ≡ applied (putEntry S e) es
+  pub applied-more : (e : Entry) (es : List Entry) → applied S (e ∷ es) ≡ applied (put_entry S e) es
   unfolding applied
   applied-more e es = refl
 
@@ -80,6 +80,6 @@ module _ (S : Cells) where
 
 pub settle_is : (program kept : List ℤ) (asked : Asked) (word : List ℤ) (S : Cells) (ws : List ℤ)
     → settle program kept asked word S ws
-    ≡ (counted program kept asked.own S >>= λ before. want (refused 14 word) asked.room >> (at word (proposal ws) >>= λ x. want (refused 17 word) (entriesFit S asked.target x.0) >> (want (refused 18 word) (not (allHold before) || none? x.0) >> (counted program kept asked.own (applied S x.0) >>= λ after. want (refused 19 word) (requiredHold after) >> got (applied S x.0, x.1)))))
+    ≡ (counted program kept asked.own S >>= λ before. want (refused 14 word) asked.room >> (at word (proposal ws) >>= λ x. want (refused 17 word) (entries_fit S asked.target x.0) >> (want (refused 18 word) (not (all_hold before) || none? x.0) >> (counted program kept asked.own (applied S x.0) >>= λ after. want (refused 19 word) (required_hold after) >> got (applied S x.0, x.1)))))
 unfolding settle
 settle_is program kept asked word S ws = refl

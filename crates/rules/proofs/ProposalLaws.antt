@@ -9,8 +9,8 @@ use Rattle.words.proofs.AnswerLaws.{got-inj, step, tested}
 use Rattle.tables.specs.Cells.{Cells}
 use Rattle.rules.specs.State.{refused}
 use Rattle.rules.specs.Evaluation.{at}
-use Rattle.rules.specs.Constraints.{counted, allHold, requiredHold}
-use Rattle.rules.specs.Proposals.{entriesFit, proposal, applied, none?, Asked, settle}
+use Rattle.rules.specs.Constraints.{counted, all_hold, required_hold}
+use Rattle.rules.specs.Proposals.{entries_fit, proposal, applied, none?, Asked, settle}
 use Rattle.rules.specs.Rules.Proposals.{Settles}
 use Rattle.rules.specs.Claims.Effect.{ProposalsMove}
 use Rattle.rules.proofs.WordSteps.{at-got}
@@ -27,10 +27,10 @@ module _ (program kept : List ℤ) (asked : Asked) (word : List ℤ) (S : Cells)
         step (counted program kept asked.own S) _ e λ before e1 k1.
         tested (refused 14 word) asked.room _ k1 λ room k2.
         step (at word (proposal ws)) _ k2 λ x e3 k3.
-        tested (refused 17 word) (entriesFit S asked.target x.0) _ k3 λ fits k4.
-        tested (refused 18 word) (not (allHold before) || none? x.0) _ k4 λ need k5.
+        tested (refused 17 word) (entries_fit S asked.target x.0) _ k3 λ fits k4.
+        tested (refused 18 word) (not (all_hold before) || none? x.0) _ k4 λ need k5.
         step (counted program kept asked.own (applied S x.0)) _ k5 λ after e6 k6.
-        tested (refused 19 word) (requiredHold after) _ k6 λ met k7.
+        tested (refused 19 word) (required_hold after) _ k6 λ met k7.
         let i : applied S x.0 ≡ Z = ap (λ (y : Cells × List ℤ). y.0) (got-inj k7) in
         let j : x.1 ≡ rest = ap (λ (y : Cells × List ℤ). y.1) (got-inj k7) in
         record {

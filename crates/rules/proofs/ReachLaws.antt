@@ -7,7 +7,7 @@ use Rattle.rules.specs.State.{State}
 use Rattle.rules.specs.Running.{Tally}
 use Rattle.rules.specs.Steps.Holds.{Holds}
 use Rattle.rules.specs.Claims.Answers.{Reached, at_first, after_one}
-use Rattle.rules.specs.Rules.Answers.{firstTally}
+use Rattle.rules.specs.Rules.Answers.{first_tally}
 use Rattle.rules.proofs.WalkLaws.{tally_of, program-keeps}
 use Rattle.rules.proofs.ProgramCode.{there-at}
 use Rattle.rules.proofs.Holding.{statements-hold}
@@ -31,4 +31,4 @@ whole-reaches program ws budget S reads holds =
             reached = after_one h.reached (there-at here) ((steps-rule program p t.state t.unread here.statement h.holds l).0 k);
           };
     })
-    reads.yields (firstTally S ws) (record { holds = holds; reached = at_first })
+    reads.yields (first_tally S ws) (record { holds = holds; reached = at_first })

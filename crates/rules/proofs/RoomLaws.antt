@@ -8,10 +8,10 @@ use lib.IntN.{ℤ}
 use lib.ListN.{length}
 use Rattle.tables.specs.declared.Value.{Value}
 use Rattle.tables.specs.declared.Sort.{Sort}
-use Rattle.tables.specs.Sizes.{constraintsWords}
+use Rattle.tables.specs.Sizes.{constraints_words}
 use Rattle.tables.specs.Cells.{Cells, Sized}
-use Rattle.tables.specs.Records.{recordCount, fieldCount, labelAt}
-use Rattle.tables.specs.Kept.{mostKept, keptCount, positionAt, withPosition}
+use Rattle.tables.specs.Records.{record_count, field_count, label_at}
+use Rattle.tables.specs.Kept.{most_kept, kept_count, position_at, with_position}
 use Rattle.tables.proofs.FindLaws.{fields-same}
 use Rattle.tables.proofs.KeptLaws.{keep-length, keep-full, keep-count, keep-count-other, keep-old, keep-position-other}
 use Rattle.rules.specs.State.{State}
@@ -22,7 +22,7 @@ use Rattle.rules.specs.Claims.Answers.{Reached, at_first, after_one}
 use Rattle.rules.specs.Rules.Identities.{Phase}
 use Rattle.rules.specs.Rules.Proposals.{Settles}
 use Rattle.rules.specs.Rules.Statements.{Adds, Keeps, again, added, Gives, assigns, makes}
-use Rattle.rules.specs.Rules.Statements.{Steps, s-skip, s-gives, s-once, s-always, s-once-identity, s-always-identity}
+use Rattle.rules.specs.Rules.Statements.{Steps, s_skip, s_gives, s_once, s_always, s_once_identity, s_always_identity}
 use Rattle.rules.specs.Rules.Answers.{Passes, Answered, unstarted, finished, stopped}
 use Rattle.rules.specs.Claims.Room.{Stays, StepsStay, RunsStay}
 use Rattle.rules.proofs.ProposalLaws.{proposals-move}
@@ -32,9 +32,9 @@ use Rattle.rules.proofs.RunFacts.{answers}
 -- ---- records
 
 pub record RecordsStay (S Z : Cells) : Type 0 where
-  count : recordCount S.heap ≤ recordCount Z.heap
-  fields : (r : ℕ) → r < recordCount S.heap → fieldCount Z.heap r ≡ fieldCount S.heap r
-  labels : (r f : ℕ) → r < recordCount S.heap → labelAt Z.heap r f ≡ labelAt S.heap r f
+  count : record_count S.heap ≤ record_count Z.heap
+  fields : (r : ℕ) → r < record_count S.heap → field_count Z.heap r ≡ field_count S.heap r
+  labels : (r f : ℕ) → r < record_count S.heap → label_at Z.heap r f ≡ label_at S.heap r f
 
 -- what becomes of an environment and a heap of their lengths
 pub record Grows (S Z : Cells) : Type 0 where
@@ -63,7 +63,7 @@ phase-grows {now = now} {Y = Y} z h =
     let u = h.update in
     record {
       stay = record { count = rw u.records (omega arith); fields = λ r b. fields-same Y.heap now.heap r (u.counts r); labels = λ r f b. u.labels r f };
-      sized = record { environment = u.environment-length ∙ z.environment; heap = u.heap-length ∙ z.heap };
+      sized = record { environment = u.environment_length ∙ z.environment; heap = u.heap_length ∙ z.heap };
     }
 
 -- and so does a proposal
@@ -83,7 +83,7 @@ new-grows {S} {now} z a = record {
     fields = λ r h. fields-same now.heap S.heap r (a.counts r (λ e. omega arith));
     labels = λ r f h. a.labels r f (λ e g. omega arith);
   };
-  sized = record { environment = a.environment-length ∙ z.environment; heap = a.heap-length ∙ z.heap };
+  sized = record { environment = a.environment_length ∙ z.environment; heap = a.heap_length ∙ z.heap };
 }
 
 -- what an assignment or a new gives
@@ -94,8 +94,8 @@ gives-grows z (makes a b f room adds) = new-grows z adds
 -- ---- kept positions
 
 pub record PositionsStay (c d : List ℤ) : Type 0 where
-  count : (s : Sort) → keptCount c s ≤ keptCount d s
-  places : (s : Sort) (i : ℕ) → i < keptCount c s → positionAt d s i ≡ positionAt c s i
+  count : (s : Sort) → kept_count c s ≤ kept_count d s
+  places : (s : Sort) (i : ℕ) → i < kept_count c s → position_at d s i ≡ position_at c s i
 
 positions-self : (c : List ℤ) → PositionsStay c c
 positions-self c = record { count = λ s. omega arith; places = λ s i h. refl }
@@ -103,20 +103,20 @@ positions-self c = record { count = λ s. omega arith; places = λ s i h. refl }
 positions-trans : {c d e : List ℤ} → PositionsStay c d → PositionsStay d e → PositionsStay c e
 positions-trans a b = record { count = λ s. omega (arith, a.count s, b.count s); places = λ s i h. b.places s i (omega (arith, a.count s)) ∙ a.places s i h }
 
-module _ (c : List ℤ) (s : Sort) (k : ℕ) (long : length c ≡ constraintsWords) where
-  with-stays : PositionsStay c (withPosition c s k)
-  with-stays = record { count = λ t. counts t (same-sort t s) (dec_lt (keptCount c s) (mostKept s)); places = λ t i h. place t i h (same-sort t s) }
+module _ (c : List ℤ) (s : Sort) (k : ℕ) (long : length c ≡ constraints_words) where
+  with-stays : PositionsStay c (with_position c s k)
+  with-stays = record { count = λ t. counts t (same-sort t s) (dec_lt (kept_count c s) (most_kept s)); places = λ t i h. place t i h (same-sort t s) }
     where
-      counts : (t : Sort) → Dec (t ≡ s) → Dec (keptCount c s < mostKept s) → keptCount c t ≤ keptCount (withPosition c s k) t
+      counts : (t : Sort) → Dec (t ≡ s) → Dec (kept_count c s < most_kept s) → kept_count c t ≤ kept_count (with_position c s k) t
       counts t (yes e) (yes l) = rw (e, keep-count c s k long l) (omega arith)
       counts t (yes e) (no l) = rw (keep-full c s k (omega arith)) (omega arith)
       counts t (no n) d = rw (keep-count-other c s k t n) (omega arith)
 
-      place : (t : Sort) (i : ℕ) → i < keptCount c t → Dec (t ≡ s) → positionAt (withPosition c s k) t i ≡ positionAt c t i
+      place : (t : Sort) (i : ℕ) → i < kept_count c t → Dec (t ≡ s) → position_at (with_position c s k) t i ≡ position_at c t i
       place t i h (yes e) = rw e (keep-old c s k i (rw e at h))
       place t i h (no n) = keep-position-other c s k t i n
 
-keeps-stay : {c d : List ℤ} {s : Sort} {k : ℕ} → length c ≡ constraintsWords → Keeps c s k d → PositionsStay c d
+keeps-stay : {c d : List ℤ} {s : Sort} {k : ℕ} → length c ≡ constraints_words → Keeps c s k d → PositionsStay c d
 keeps-stay {c} long (again e) = positions-self c
 keeps-stay {c} {s = s} {k = k} long (added e l) = with-stays c s k long
 
@@ -130,7 +130,7 @@ keeps-long {c} {s = s} {k = k} (added e l) = keep-length c s k
 pub record Step (S Z : State) : Type 0 where
   pub cells : Grows S.cells Z.cells
   pub kept : PositionsStay S.kept Z.kept
-  pub long : length Z.kept ≡ constraintsWords
+  pub long : length Z.kept ≡ constraints_words
 
 pub step_stays : {S Z : State} → Step S Z → Stays S Z
 step_stays a = let r = a.cells.stay in record { records = r.count; fields = r.fields; labels = r.labels; kept = a.kept.count; places = a.kept.places }
@@ -138,29 +138,29 @@ step_stays a = let r = a.cells.stay in record { records = r.count; fields = r.fi
 pub step-trans : {S Y Z : State} → Step S Y → Step Y Z → Step S Z
 step-trans a b = record { cells = grows-trans a.cells b.cells; kept = positions-trans a.kept b.kept; long = b.long }
 
-pub step-self : (S : State) → Sized S.cells → length S.kept ≡ constraintsWords → Step S S
+pub step-self : (S : State) → Sized S.cells → length S.kept ≡ constraints_words → Step S S
 step-self S z long = record { cells = grows_self S.cells z; kept = positions-self S.kept; long = long }
 
-module _ (program : List ℤ) (S : State) (ws : List ℤ) (z : Sized S.cells) (long : length S.kept ≡ constraintsWords) where
+module _ (program : List ℤ) (S : State) (ws : List ℤ) (z : Sized S.cells) (long : length S.kept ≡ constraints_words) where
   pub step_of : {p : List ℤ} {l : Left} → Steps program S ws p l → Step S l.state
-  step_of s-skip = step-self S z long
-  step_of (s-gives {Y = Y} {Z = Z} {rest = rest} g phase s) =
+  step_of s_skip = step-self S z long
+  step_of (s_gives {Y = Y} {Z = Z} {rest = rest} g phase s) =
       let a = gives-grows z g in
       let b = phase-grows a.sized phase in
       record { cells = grows-trans a (grows-trans b (settles-grows program S.kept _ Y ws Z rest b.sized s)); long = long; kept = positions-self S.kept }
-  step_of (s-always {Z = Z} {rest = rest} s k) =
+  step_of (s_always {Z = Z} {rest = rest} s k) =
       record { cells = settles-grows program S.kept _ S.cells ws Z rest z s; long = keeps-long k ∙ long; kept = keeps-stay long k }
-  step_of (s-once {Z = Z} {rest = rest} s) =
+  step_of (s_once {Z = Z} {rest = rest} s) =
       record { cells = settles-grows program S.kept _ S.cells ws Z rest z s; long = long; kept = positions-self S.kept }
-  step_of (s-always-identity a k) = record { cells = grows_self S.cells z; long = keeps-long k ∙ long; kept = keeps-stay long k }
-  step_of (s-once-identity a) = step-self S z long
+  step_of (s_always_identity a k) = record { cells = grows_self S.cells z; long = keeps-long k ∙ long; kept = keeps-stay long k }
+  step_of (s_once_identity a) = step-self S z long
 
 pub steps-stay : StepsStay
 steps-stay program p S ws l z long s = step_stays (step_of program S ws z long s)
 
 -- ---- chains and runs
 
-chain : (program ws : List ℤ) (S Z : State) (us : List ℤ) (n : ℕ) → Sized S.cells → length S.kept ≡ constraintsWords → Reached program ws S Z us n → Step S Z
+chain : (program ws : List ℤ) (S Z : State) (us : List ℤ) (n : ℕ) → Sized S.cells → length S.kept ≡ constraints_words → Reached program ws S Z us n → Step S Z
 chain program ws S Z us n z long at_first = step-self S z long
 chain program ws S Z us n z long (after_one {Z = Y} {us = vs} {n = m} r here s) =
     let a = chain program ws S Y vs m z long r in

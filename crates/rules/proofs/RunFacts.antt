@@ -9,10 +9,10 @@ use lib.ListN.{length}
 use Rattle.words.specs.Words.{number_of}
 use Rattle.words.specs.Answer.{stop}
 use Rattle.words.proofs.AnswerLaws.{stop-inj}
-use Rattle.program.specs.Forms.{mostWords, blockDepth}
-use Rattle.program.specs.Reading.{readProgram}
+use Rattle.program.specs.Forms.{most_words, block_depth}
+use Rattle.program.specs.Reading.{read_program}
 use Rattle.program.specs.declared.Spot.TheVariants.{Nowhere}
-use Rattle.program.specs.Where.{statementAt}
+use Rattle.program.specs.Where.{statement_at}
 use Rattle.program.proofs.LengthLaws.{part-refl}
 use Rattle.program.proofs.JudgeLaws.{first-unfit, over-long}
 use Rattle.rules.specs.State.{State}
@@ -20,7 +20,7 @@ use Rattle.rules.specs.Statements.{position_of}
 use Rattle.rules.specs.Running.{Tally, on, end}
 use Rattle.rules.specs.Start.{Ended}
 use Rattle.rules.specs.Rules.Runs.{block, Runs}
-use Rattle.rules.specs.Rules.Answers.{Unstarted, wrong, unreadable, unfit, broken, Passes, firstTally, given, Answered, unstarted, finished, stopped}
+use Rattle.rules.specs.Rules.Answers.{Unstarted, wrong, unreadable, unfit, broken, Passes, first_tally, given, Answered, unstarted, finished, stopped}
 use Rattle.rules.specs.Claims.Answers.{Reached, at_first, Answer, Answers}
 use Rattle.rules.specs.Steps.Holds.{Holds, StatementThere}
 use Rattle.rules.specs.Steps.ByVerb.{ByVerb}
@@ -36,16 +36,16 @@ use Rattle.rules.proofs.StandRules.{stands-iff}
 use Rattle.rules.proofs.AnswerRules.{whole-rule}
 
 -- a statement stands at its word
-not-nowhere : {program p : List ℤ} → StatementThere program p → statementAt program (position_of program p) ≡ Nowhere → ⊥
+not-nowhere : {program p : List ℤ} → StatementThere program p → statement_at program (position_of program p) ≡ Nowhere → ⊥
 not-nowhere here z = at-nowhere (sym here.there ∙ z)
 
 -- the place of a program that does not read
-pub unread-places : (p : List ℤ) (k : ℕ) → readProgram p ≡ stop k → (k ≤ mostWords) × ((k ≤ length p) × (mostWords < length p → k ≡ mostWords))
-unread-places p k e = go (dec_lt mostWords (length p))
+pub unread-places : (p : List ℤ) (k : ℕ) → read_program p ≡ stop k → (k ≤ most_words) × ((k ≤ length p) × (most_words < length p → k ≡ most_words))
+unread-places p k e = go (dec_lt most_words (length p))
   where
-    go : Dec (mostWords < length p) → (k ≤ mostWords) × ((k ≤ length p) × (mostWords < length p → k ≡ mostWords))
+    go : Dec (most_words < length p) → (k ≤ most_words) × ((k ≤ length p) × (most_words < length p → k ≡ most_words))
     go (yes l) =
-        let q : mostWords ≡ k = stop-inj (sym (over-long p l) ∙ e) in
+        let q : most_words ≡ k = stop-inj (sym (over-long p l) ∙ e) in
         (omega arith, (omega arith, λ h. sym q))
     go (no n) =
         let w : k ≤ length p = (first-unfit p (omega arith) e).within in
@@ -58,7 +58,7 @@ unstarted-low (unreadable x e) = (omega arith, omega arith)
 unstarted-low (unfit x y z) = (omega arith, omega arith)
 unstarted-low (broken x y z w) = (omega arith, omega arith)
 
-unstarted-two : {program : List ℤ} {budget : ℤ} {S : State} {n k : ℕ} → Unstarted program budget S n k → n ≡ 2 → readProgram program ≡ stop k
+unstarted-two : {program : List ℤ} {budget : ℤ} {S : State} {n k : ℕ} → Unstarted program budget S n k → n ≡ 2 → read_program program ≡ stop k
 unstarted-two (wrong x) q = absurd (omega arith)
 unstarted-two (unreadable x e) q = e
 unstarted-two (unfit x y z) q = absurd (omega arith)
@@ -66,15 +66,15 @@ unstarted-two (broken x y z w) q = absurd (omega arith)
 
 module _ (program ws : List ℤ) (budget : ℤ) (S : State) where
   -- refused at the start
-  early-facts : {n k : ℕ} → Unstarted program budget S n k → Answer program ws budget S (given n k (firstTally S ws))
+  early-facts : {n k : ℕ} → Unstarted program budget S n k → Answer program ws budget S (given n k (first_tally S ws))
   early-facts {n} {k} b =
       let low = unstarted-low b in
       record {
         known = omega (arith, low.1);
         finished = λ e. absurd (omega (arith, e, low.0));
         early = λ l h. (b, refl);
-        unread-place = λ e. unread-places program k (unstarted-two b e);
-        at-statement = λ l. absurd (omega (arith, l, low.1));
+        unread_place = λ e. unread-places program k (unstarted-two b e);
+        at_statement = λ l. absurd (omega (arith, l, low.1));
         inside = λ o. absurd (let r = inner-range o in omega (arith, r.0, low.1));
         steps = omega arith;
         accepted = omega arith;
@@ -88,8 +88,8 @@ module _ (program ws : List ℤ) (budget : ℤ) (S : State) where
     known = omega arith;
     finished = λ e. refl;
     early = λ l h. absurd (omega arith);
-    unread-place = λ e. absurd (omega arith);
-    at-statement = λ l. absurd (omega arith);
+    unread_place = λ e. absurd (omega arith);
+    at_statement = λ l. absurd (omega arith);
     inside = λ o. absurd (let r = inner-range o in omega (arith, r.0));
     steps = c.steps;
     accepted = c.accepted;
@@ -106,8 +106,8 @@ module _ (program ws : List ℤ) (budget : ℤ) (S : State) where
         known = k.1;
         finished = λ e. absurd (omega (arith, k.0));
         early = λ g h. absurd (omega (arith, k.0));
-        unread-place = λ e. absurd (omega (arith, k.0));
-        at-statement = λ h apart. rw (placed-own x apart) (not-nowhere here);
+        unread_place = λ e. absurd (omega (arith, k.0));
+        at_statement = λ h apart. rw (placed-own x apart) (not-nowhere here);
         inside = λ o. (p, (there-at here, placed-inside x o));
         steps = c.steps;
         accepted = c.accepted;
@@ -124,13 +124,13 @@ module _ (program ws : List ℤ) (budget : ℤ) (S : State) where
     whole-counts : Counts ws (number_of budget) (tally_of (whole program ws budget S))
     whole-counts =
         program-keeps program (number_of budget) p.1.0.short (Counts ws (number_of budget)) (PaidCounts ws (number_of budget)) (counts-kept program ws (number_of budget)) p.1.0.yields
-        (firstTally S ws) (record { part = part-refl ws; steps = omega arith; accepted = omega arith })
+        (first_tally S ws) (record { part = part-refl ws; steps = omega arith; accepted = omega arith })
 
     pub whole-reached : Reaches program ws S (tally_of (whole program ws budget S))
     whole-reached = whole-reaches program ws budget S p.1.0 holds
 
     -- where it is refused
-    module _ {n place : ℕ} {t : Tally} (r : Runs program (number_of budget) (block blockDepth program) (firstTally S ws) (end n place t)) where
+    module _ {n place : ℕ} {t : Tally} (r : Runs program (number_of budget) (block block_depth program) (first_tally S ws) (end n place t)) where
       comes-to : whole program ws budget S ≡ end n place t
       comes-to = (whole-rule program ws budget S (end n place t) p).1 r
 

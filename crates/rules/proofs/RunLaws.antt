@@ -6,17 +6,17 @@ use lib.IntN.{ℤ}
 use lib.ListN.{length}
 use Rattle.words.specs.Words.{number_of}
 use Rattle.words.specs.Answer.{Answer, got, stop}
-use Rattle.program.specs.Forms.{blockDepth}
+use Rattle.program.specs.Forms.{block_depth}
 use Rattle.rules.specs.State.{State}
-use Rattle.rules.specs.Running.{Tally, Out, on, end, doBlock}
+use Rattle.rules.specs.Running.{Tally, Out, on, end, do_block}
 use Rattle.rules.specs.Start.{Early, starts, ended, run}
-use Rattle.rules.specs.Rules.Answers.{firstTally, given}
+use Rattle.rules.specs.Rules.Answers.{first_tally, given}
 
 module _ (program ws : List ℤ) (budget : ℤ) (S : State) where
   abbrev pub whole : Out
-  whole = doBlock blockDepth program (number_of budget) program (firstTally S ws)
+  whole = do_block block_depth program (number_of budget) program (first_tally S ws)
 
-  pub run-early : {e : Early} → starts program budget S ≡ stop e → run program ws budget S ≡ given e.number e.place (firstTally S ws)
+  pub run-early : {e : Early} → starts program budget S ≡ stop e → run program ws budget S ≡ given e.number e.place (first_tally S ws)
   unfolding run
   run-early e = rw (e, run)
 
@@ -30,7 +30,7 @@ module _ (program ws : List ℤ) (budget : ℤ) (S : State) where
 
   -- the three ways
   pub data Way : Type 0 where
-    at-start : (e : Early) → starts program budget S ≡ stop e → run program ws budget S ≡ given e.number e.place (firstTally S ws) → Way
+    at-start : (e : Early) → starts program budget S ≡ stop e → run program ws budget S ≡ given e.number e.place (first_tally S ws) → Way
     to_end : (t : Tally) → starts program budget S ≡ got tt → whole ≡ on t → run program ws budget S ≡ given 0 (length program) t → Way
     on-way : (n place : ℕ) (t : Tally) → starts program budget S ≡ got tt → whole ≡ end n place t → run program ws budget S ≡ given n place t → Way
 

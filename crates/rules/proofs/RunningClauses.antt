@@ -8,17 +8,17 @@ use borrow.Author.Tests.{lt-ltb, le-ltb}
 use lib.Dec.{ltb}
 use lib.IntN.{ℤ}
 use lib.ListN.{length, drop}
-use Rattle.words.specs.Words.{numberAt}
+use Rattle.words.specs.Words.{number_at}
 use Rattle.words.specs.Answer.{Answer, got, stop}
-use Rattle.program.specs.Forms.{Verb, skip, assign, new, always, once, alwaysSame, onceSame, branch, loop, noVerb, verbOf}
-use Rattle.program.specs.Reading.{number, readBlock, readStatement, after}
-use Rattle.program.proofs.NumberLaws.{number_fits, number-high}
+use Rattle.program.specs.Forms.{Verb, skip, assign, new, always, once, always_same, once_same, branch, loop, no_verb, verb_of}
+use Rattle.program.specs.Reading.{number, read_block, read_statement, after}
+use Rattle.program.proofs.NumberLaws.{number_fits_lem, number-high}
 use Rattle.rules.specs.State.{State, Fault, Res}
-use Rattle.rules.specs.Statements.{Left, position_of, place_of, doSimple}
-use Rattle.rules.specs.Running.{Tally, Out, on, end, thenOut, oneMore, paid, leaves, taken, noted, test, tested, turns, pastTest, doVerb, doStatement, doStatements, doBlock}
+use Rattle.rules.specs.Statements.{Left, position_of, place_of, do_simple}
+use Rattle.rules.specs.Running.{Tally, Out, on, end, then_out, one_more, paid, leaves, taken, noted, test, tested, turns, past_test, do_verb, do_statement, do_statements, do_block}
 
 module _ (budget place : ℕ) (t : Tally) where
-  pub paid-on : t.steps < budget → paid budget place t ≡ on (oneMore t)
+  pub paid-on : t.steps < budget → paid budget place t ≡ on (one_more t)
   unfolding paid
   paid-on h = rw (lt-ltb t.steps budget h, paid)
 
@@ -53,7 +53,7 @@ turns-none body program budget place p t = refl
 
 pub turns_more : (body : Tally → Out) (program : List ℤ) (budget place : ℕ) (p : List ℤ) (fuel : ℕ) (t : Tally)
     → turns body program budget place p (suc fuel) t
-    ≡ tested program t (test t.state.cells p) (λ u. thenOut (body u) λ w. thenOut (paid budget place w) λ z. turns body program budget place p fuel z) (λ u. on u)
+    ≡ tested program t (test t.state.cells p) (λ u. then_out (body u) λ w. then_out (paid budget place w) λ z. turns body program budget place p fuel z) (λ u. on u)
 unfolding turns
 turns_more body program budget place p fuel t = refl
 
@@ -65,58 +65,58 @@ pub data Simple : Verb → Type 0 where
   is-new : Simple new
   is-always : Simple always
   is-once : Simple once
-  is-always-same : Simple alwaysSame
-  is-once-same : Simple onceSame
+  is-always-same : Simple always_same
+  is-once-same : Simple once_same
 
 module _ (block : List ℤ → Tally → Out) (past : List ℤ → List ℤ) (program : List ℤ) (budget : ℕ) (p : List ℤ) (t : Tally) where
-  pub verb-simple : (v : Verb) → Simple v → doVerb block past program budget p v t ≡ taken program t (doSimple program p t.state t.unread v)
-  unfolding doVerb
+  pub verb-simple : (v : Verb) → Simple v → do_verb block past program budget p v t ≡ taken program t (do_simple program p t.state t.unread v)
+  unfolding do_verb
   verb-simple skip is-skip = refl
   verb-simple assign is-assign = refl
   verb-simple new is-new = refl
   verb-simple always is-always = refl
   verb-simple once is-once = refl
-  verb-simple alwaysSame is-always-same = refl
-  verb-simple onceSame is-once-same = refl
+  verb-simple always_same is-always-same = refl
+  verb-simple once_same is-once-same = refl
 
   -- a word that is no verb is refused as a simple statement that is none
-  pub verb-none : doVerb block past program budget p noVerb t ≡ taken program t (doSimple program p t.state t.unread noVerb)
-  unfolding doVerb taken doSimple
+  pub verb-none : do_verb block past program budget p no_verb t ≡ taken program t (do_simple program p t.state t.unread no_verb)
+  unfolding do_verb taken do_simple
   verb-none = refl
 
-  pub verb-branch : doVerb block past program budget p branch t
-      ≡ tested program t (test t.state.cells (drop 1 p)) (λ u. block (pastTest p) u) (λ u. block (past (pastTest p)) u)
-  unfolding doVerb
+  pub verb-branch : do_verb block past program budget p branch t
+      ≡ tested program t (test t.state.cells (drop 1 p)) (λ u. block (past_test p) u) (λ u. block (past (past_test p)) u)
+  unfolding do_verb
   verb-branch = refl
 
-  pub verb-loop : doVerb block past program budget p loop t ≡ turns (λ u. block (pastTest p) u) program budget (position_of program p) (drop 1 p) (suc budget) t
-  unfolding doVerb
+  pub verb-loop : do_verb block past program budget p loop t ≡ turns (λ u. block (past_test p) u) program budget (position_of program p) (drop 1 p) (suc budget) t
+  unfolding do_verb
   verb-loop = refl
 
-  pub statement-is : doStatement block past program budget p t ≡ thenOut (paid budget (position_of program p) t) (λ u. doVerb block past program budget p (verbOf (numberAt p 0)) u)
-  unfolding doStatement
+  pub statement-is : do_statement block past program budget p t ≡ then_out (paid budget (position_of program p) t) (λ u. do_verb block past program budget p (verb_of (number_at p 0)) u)
+  unfolding do_statement
   statement-is = refl
 
 module _ (block : List ℤ → Tally → Out) (d : ℕ) (program : List ℤ) (budget : ℕ) (p : List ℤ) (t : Tally) where
-  pub statements-none : doStatements block d program budget 0 p t ≡ on t
-  unfolding doStatements
+  pub statements-none : do_statements block d program budget 0 p t ≡ on t
+  unfolding do_statements
   statements-none = refl
 
-  pub statements-more : (n : ℕ) → doStatements block d program budget (suc n) p t
-      ≡ thenOut (doStatement block (λ q. after (readBlock d q)) program budget p t) (λ u. doStatements block d program budget n (after (readStatement d p)) u)
-  unfolding doStatements
+  pub statements-more : (n : ℕ) → do_statements block d program budget (suc n) p t
+      ≡ then_out (do_statement block (λ q. after (read_block d q)) program budget p t) (λ u. do_statements block d program budget n (after (read_statement d p)) u)
+  unfolding do_statements
   statements-more n = refl
 
 module _ (program : List ℤ) (budget : ℕ) (p : List ℤ) (t : Tally) where
-  pub block_none : doBlock 0 program budget p t ≡ end 2 (position_of program p) t
-  unfolding doBlock
+  pub block_none : do_block 0 program budget p t ≡ end 2 (position_of program p) t
+  unfolding do_block
   block_none = refl
 
-  pub block-unfit : (d : ℕ) → 255 < numberAt p 0 → doBlock (suc d) program budget p t ≡ end 2 (position_of program p) t
-  unfolding doBlock
-  block-unfit d h = rw (number-high 0 255 p (omega arith) h, doBlock)
+  pub block-unfit : (d : ℕ) → 255 < number_at p 0 → do_block (suc d) program budget p t ≡ end 2 (position_of program p) t
+  unfolding do_block
+  block-unfit d h = rw (number-high 0 255 p (omega arith) h, do_block)
 
-  pub block-is : (d : ℕ) → numberAt p 0 ≤ 255
-      → doBlock (suc d) program budget p t ≡ doStatements (λ q u. doBlock d program budget q u) d program budget (numberAt p 0) (drop 1 p) t
-  unfolding doBlock
-  block-is d h = rw (number_fits 0 255 p (omega arith) h, doBlock)
+  pub block-is : (d : ℕ) → number_at p 0 ≤ 255
+      → do_block (suc d) program budget p t ≡ do_statements (λ q u. do_block d program budget q u) d program budget (number_at p 0) (drop 1 p) t
+  unfolding do_block
+  block-is d h = rw (number_fits_lem 0 255 p (omega arith) h, do_block)

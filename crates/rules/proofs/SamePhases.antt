@@ -9,10 +9,10 @@ use Rattle.words.specs.Answer.{got}
 use Rattle.words.proofs.AnswerLaws.{got-inj, step, tested}
 use Rattle.tables.specs.declared.Value.{Value}
 use Rattle.tables.specs.Values.{cell_of}
-use Rattle.tables.specs.Cells.{Cells, putCell, Sized}
+use Rattle.tables.specs.Cells.{Cells, put_cell, Sized}
 use Rattle.tables.proofs.CellLaws.{put-sized}
 use Rattle.rules.specs.State.{refused}
-use Rattle.rules.specs.Identities.{isNode, ties, frozenBy, class_of, names, clashFree, put_all, identityPhase}
+use Rattle.rules.specs.Identities.{is_node, ties, frozen_by, class_of, names, clash_free, put_all, identity_phase}
 use Rattle.rules.specs.Proposals.{Asked, settle}
 use Rattle.rules.specs.Structure.{Same}
 use Rattle.rules.proofs.Structure.{Alike, cells-alike, put_same}
@@ -24,12 +24,12 @@ use Rattle.rules.proofs.ProposalLaws.{settle-iff}
 -- ---- the identity phase
 
 pub phase-sized : (program kept : List ℤ) (before now : Cells) (word : List ℤ) (target : ℕ) (prefix : List ℕ) (v : Value) {X : Cells}
-    → Sized now → identityPhase program kept before now word target prefix v ≡ got X → Sized X
-unfolding identityPhase
+    → Sized now → identity_phase program kept before now word target prefix v ≡ got X → Sized X
+unfolding identity_phase
 phase-sized program kept before now word target prefix v z e =
     step (ties program kept before) _ e λ ts e1 k1.
-    tested (refused 13 word) (not (names ts target) || isNode v) _ k1 λ c2 k2.
-    tested (refused 12 word) (clashFree before (prefix ++ frozenBy ts) v (class_of ts target)) _ k2 λ c3 k3.
+    tested (refused 13 word) (not (names ts target) || is_node v) _ k1 λ c2 k2.
+    tested (refused 12 word) (clash_free before (prefix ++ frozen_by ts) v (class_of ts target)) _ k2 λ c3 k3.
     rw (← got-inj k3) (put-all-sized v now (class_of ts target) z)
 
 module _ (v w : Value) (a : Alike v w) where
@@ -38,21 +38,21 @@ module _ (v w : Value) (a : Alike v w) where
   unfolding put_all
   all_same [] S Z s i j = s
   all_same (l ∷ ls) S Z s i j =
-      all_same ls (putCell S l (cell_of v)) (putCell Z l (cell_of w)) (put_same S Z s i j l (cell_of v) (cell_of w) (cells-alike a))
+      all_same ls (put_cell S l (cell_of v)) (put_cell Z l (cell_of w)) (put_same S Z s i j l (cell_of v) (cell_of w) (cells-alike a))
       (put-sized S l (cell_of v) i) (put-sized Z l (cell_of w) j)
 
   -- paths are followed in S and Z, of one structure, and X and Y, of one structure, take alike values: one structure is left
   pub phase-same : (S Z : Cells) → Same S Z → (X Y : Cells) → Same X Y → Sized X → Sized Y
       → (program kept word : List ℤ) (target : ℕ) (prefix prefix' : List ℕ) (X' Y' : Cells)
-      → identityPhase program kept S X word target prefix v ≡ got X' → identityPhase program kept Z Y word target prefix' w ≡ got Y' → Same X' Y'
-  unfolding identityPhase
+      → identity_phase program kept S X word target prefix v ≡ got X' → identity_phase program kept Z Y word target prefix' w ≡ got Y' → Same X' Y'
+  unfolding identity_phase
   phase-same S Z s X Y t i j program kept word target prefix prefix' X' Y' e g =
       step (ties program kept S) _ e λ ts e1 k1.
-      tested (refused 13 word) (not (names ts target) || isNode v) _ k1 λ c2 k2.
-      tested (refused 12 word) (clashFree S (prefix ++ frozenBy ts) v (class_of ts target)) _ k2 λ c3 k3.
+      tested (refused 13 word) (not (names ts target) || is_node v) _ k1 λ c2 k2.
+      tested (refused 12 word) (clash_free S (prefix ++ frozen_by ts) v (class_of ts target)) _ k2 λ c3 k3.
       step (ties program kept Z) _ g λ us g1 m1.
-      tested (refused 13 word) (not (names us target) || isNode w) _ m1 λ d2 m2.
-      tested (refused 12 word) (clashFree Z (prefix' ++ frozenBy us) w (class_of us target)) _ m2 λ d3 m3.
+      tested (refused 13 word) (not (names us target) || is_node w) _ m1 λ d2 m2.
+      tested (refused 12 word) (clash_free Z (prefix' ++ frozen_by us) w (class_of us target)) _ m2 λ d3 m3.
       let q : ts ≡ us = got-inj (sym e1 ∙ ties-same S Z s program kept ∙ g1) in
       rw (← got-inj k3, ← got-inj m3, ← q) (all_same (class_of ts target) X Y t i j)
 

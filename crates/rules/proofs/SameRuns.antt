@@ -8,16 +8,16 @@ use native.Mathlib.Omega.{arith}
 use lib.Dec.{ltb}
 use lib.IntN.{ℤ}
 use lib.ListN.{length, length-append, drop}
-use Rattle.words.specs.Words.{numberAt}
+use Rattle.words.specs.Words.{number_at}
 use Rattle.words.specs.Answer.{got, stop}
 use Rattle.words.proofs.AnswerLaws.{either}
 use Rattle.tables.specs.Cells.{Sized}
 use Rattle.tables.proofs.SearchLaws.{cases}
-use Rattle.program.specs.Forms.{mostStatements, Verb, skip, assign, new, always, once, alwaysSame, onceSame, branch, loop, noVerb, verbOf}
-use Rattle.program.specs.Reading.{number, readBlock, readStatement, after}
+use Rattle.program.specs.Forms.{most_statements, Verb, skip, assign, new, always, once, always_same, once_same, branch, loop, no_verb, verb_of}
+use Rattle.program.specs.Reading.{number, read_block, read_statement, after}
 use Rattle.rules.specs.State.{State, Res}
-use Rattle.rules.specs.Statements.{Left, position_of, doSimple}
-use Rattle.rules.specs.Running.{Tally, Out, on, end, thenOut, paid, taken, noted, test, tested, turns, pastTest, doVerb, doStatement, doStatements, doBlock}
+use Rattle.rules.specs.Statements.{Left, position_of, do_simple}
+use Rattle.rules.specs.Running.{Tally, Out, on, end, then_out, paid, taken, noted, test, tested, turns, past_test, do_verb, do_statement, do_statements, do_block}
 use Rattle.rules.specs.Structure.{SameState}
 use Rattle.rules.proofs.OutLaws.{end≢on, on-inj, then-on}
 use Rattle.rules.proofs.SameStatements.{Simple, simple}
@@ -63,10 +63,10 @@ compat-back {t} {u} a b c = record {
       ∙ ap (λ x. c.two ++ x) b.is ∙ sym (append_assoc c.two b.new u.tests);
 }
 
-then_grows : (f g : Tally → Out) → Grows f → Grows g → Grows (λ t. thenOut (f t) g)
+then_grows : (f g : Tally → Out) → Grows f → Grows g → Grows (λ t. then_out (f t) g)
 then_grows f g a b t t' e = then-on (f t) g e λ m e1 e2. grown-trans (a t m e1) (b m t' e2)
 
-then-good : (f f' g g' : Tally → Out) → Good f f' → Good g g' → Good (λ t. thenOut (f t) g) (λ t. thenOut (f' t) g')
+then-good : (f f' g g' : Tally → Out) → Good f f' → Good g g' → Good (λ t. then_out (f t) g) (λ t. then_out (f' t) g')
 then-good f f' g g' a b = record {
   grows = then_grows f g a.grows b.grows;
   grows' = then_grows f' g' a.grows' b.grows';
@@ -103,11 +103,11 @@ side-grows : (b : Bool) (f g : Tally → Out) → Grows f → Grows g → Grows 
 side-grows true f g x y = x
 side-grows false f g x y = y
 
-testOut {ℓ} : {X : Type ℓ} {t' : Tally} (program : List ℤ) (t : Tally) (r : Res Bool) (f g : Tally → Out) → tested program t r f g ≡ on t' → ((b : Bool) → side b f g (noted b t) ≡ on t' → X) → X
+test_out {ℓ} : {X : Type ℓ} {t' : Tally} (program : List ℤ) (t : Tally) (r : Res Bool) (f g : Tally → Out) → tested program t r f g ≡ on t' → ((b : Bool) → side b f g (noted b t) ≡ on t' → X) → X
 unfolding tested
-testOut program t (got true) f g e k = k true e
-testOut program t (got false) f g e k = k false e
-testOut program t (stop n) f g e k = end≢on e
+test_out program t (got true) f g e k = k true e
+test_out program t (got false) f g e k = k false e
+test_out program t (stop n) f g e k = end≢on e
 
 note-grows : (b : Bool) (t : Tally) → Grown t (noted b t)
 note-grows b t = record { new = b ∷ []; is = refl }
@@ -117,7 +117,7 @@ heads b d t u z l = last-eq z.one z.two u.tests b d (rw l at z.meet)
 
 test-grows : (program p : List ℤ) (f g : Tally → Out) → Grows f → Grows g → Grows (λ t. tested program t (test t.state.cells p) f g)
 test-grows program p f g x y t t' e =
-    testOut program t (test t.state.cells p) f g e λ b k. grown-trans (note-grows b t) (side-grows b f g x y (noted b t) t' k)
+    test_out program t (test t.state.cells p) f g e λ b k. grown-trans (note-grows b t) (side-grows b f g x y (noted b t) t' k)
 
 test_good : (program p : List ℤ) (f f' g g' : Tally → Out) → Good f f' → Good g g'
     → Good (λ t. tested program t (test t.state.cells p) f g) (λ t. tested program t (test t.state.cells p) f' g')
@@ -125,8 +125,8 @@ test_good program p f f' g g' x y = record {
   grows = test-grows program p f g x.grows y.grows;
   grows' = test-grows program p f' g' x.grows' y.grows';
   two = λ t u t' u' r e h c.
-      testOut program t (test t.state.cells p) f g e λ b k.
-      testOut program u (test u.state.cells p) f' g' h λ d m.
+      test_out program t (test t.state.cells p) f g e λ b k.
+      test_out program u (test u.state.cells p) f' g' h λ d m.
       let z : Compat (noted b t) (noted d u) =
       compat-back (side-grows b f g x.grows y.grows (noted b t) t' k) (side-grows d f' g' x.grows' y.grows' (noted d u) u' m) c in
       let q : b ≡ d = heads b d t u z r.log in
@@ -179,7 +179,7 @@ paid-good budget budget' place = record {
 
 -- one turn more, and the rest
 abbrev turn : (Tally → Out) → ℕ → ℕ → (Tally → Out) → Tally → Out
-turn body budget place rest u = thenOut (body u) λ w. thenOut (paid budget place w) λ z. rest z
+turn body budget place rest u = then_out (body u) λ w. then_out (paid budget place w) λ z. rest z
 
 turns-grows : (body : Tally → Out) (program : List ℤ) (budget place : ℕ) (p : List ℤ) → Grows body → (fuel : ℕ) → Grows (λ t. turns body program budget place p fuel t)
 unfolding turns
@@ -210,18 +210,18 @@ turns-good body body' program budget budget' place p a (suc fuel) (suc fuel') =
 
 -- ---- statements that hold no block
 
-takenOut {ℓ} : {X : Type ℓ} {t' : Tally} (program : List ℤ) (t : Tally) (r : Res Left) → taken program t r ≡ on t' → ((l : Left) → r ≡ got l → l.state ≡ t'.state → t.tests ≡ t'.tests → X) → X
+taken_out {ℓ} : {X : Type ℓ} {t' : Tally} (program : List ℤ) (t : Tally) (r : Res Left) → taken program t r ≡ on t' → ((l : Left) → r ≡ got l → l.state ≡ t'.state → t.tests ≡ t'.tests → X) → X
 unfolding taken
-takenOut program t (got l) e k = k l refl (ap (λ x. x.state) (on-inj e)) (ap (λ x. x.tests) (on-inj e))
-takenOut program t (stop n) e k = end≢on e
+taken_out program t (got l) e k = k l refl (ap (λ x. x.state) (on-inj e)) (ap (λ x. x.tests) (on-inj e))
+taken_out program t (stop n) e k = end≢on e
 
 simple-good : (program : List ℤ) (h : State → List ℤ → Res Left) → Simple h → Good (λ t. taken program t (h t.state t.unread)) (λ t. taken program t (h t.state t.unread))
 simple-good program h s = record {
   grows = still;
   grows' = still;
   two = λ t u t' u' r e g c.
-      takenOut program t (h t.state t.unread) e λ l e1 q k.
-      takenOut program u (h u.state u.unread) g λ m g1 q' k'.
+      taken_out program t (h t.state t.unread) e λ l e1 q k.
+      taken_out program u (h u.state u.unread) g λ m g1 q' k'.
       record {
         same = rw (← q, ← q') (s.two t.state u.state t.unread u.unread l m r.same r.sized r.sized' e1 g1);
         sized = rw (← q) (s.sized t.state t.unread l r.sized e1);
@@ -231,49 +231,49 @@ simple-good program h s = record {
 }
   where
     still : Grows (λ t. taken program t (h t.state t.unread))
-    still t t' e = takenOut program t (h t.state t.unread) e λ l e1 q k. record { new = []; is = sym k }
+    still t t' e = taken_out program t (h t.state t.unread) e λ l e1 q k. record { new = []; is = sym k }
 
 -- ---- blocks
 
 module _ (program : List ℤ) (budget budget' : ℕ) where
   module _ (block block' : List ℤ → Tally → Out) (b : (q : List ℤ) → Good (block q) (block' q)) (past : List ℤ → List ℤ) where
-    verb-good : (p : List ℤ) (v : Verb) → Good (λ t. doVerb block past program budget p v t) (λ t. doVerb block' past program budget' p v t)
-    unfolding doVerb
-    verb-good p skip = simple-good program (λ S ws. doSimple program p S ws skip) (simple program p skip)
-    verb-good p assign = simple-good program (λ S ws. doSimple program p S ws assign) (simple program p assign)
-    verb-good p new = simple-good program (λ S ws. doSimple program p S ws new) (simple program p new)
-    verb-good p always = simple-good program (λ S ws. doSimple program p S ws always) (simple program p always)
-    verb-good p once = simple-good program (λ S ws. doSimple program p S ws once) (simple program p once)
-    verb-good p alwaysSame = simple-good program (λ S ws. doSimple program p S ws alwaysSame) (simple program p alwaysSame)
-    verb-good p onceSame = simple-good program (λ S ws. doSimple program p S ws onceSame) (simple program p onceSame)
-    verb-good p branch = test_good program (drop 1 p) _ _ _ _ (b (pastTest p)) (b (past (pastTest p)))
-    verb-good p loop = turns-good _ _ program budget budget' (position_of program p) (drop 1 p) (b (pastTest p)) (suc budget) (suc budget')
-    verb-good p noVerb = end-good 2 2 (position_of program p) (position_of program p)
+    verb-good : (p : List ℤ) (v : Verb) → Good (λ t. do_verb block past program budget p v t) (λ t. do_verb block' past program budget' p v t)
+    unfolding do_verb
+    verb-good p skip = simple-good program (λ S ws. do_simple program p S ws skip) (simple program p skip)
+    verb-good p assign = simple-good program (λ S ws. do_simple program p S ws assign) (simple program p assign)
+    verb-good p new = simple-good program (λ S ws. do_simple program p S ws new) (simple program p new)
+    verb-good p always = simple-good program (λ S ws. do_simple program p S ws always) (simple program p always)
+    verb-good p once = simple-good program (λ S ws. do_simple program p S ws once) (simple program p once)
+    verb-good p always_same = simple-good program (λ S ws. do_simple program p S ws always_same) (simple program p always_same)
+    verb-good p once_same = simple-good program (λ S ws. do_simple program p S ws once_same) (simple program p once_same)
+    verb-good p branch = test_good program (drop 1 p) _ _ _ _ (b (past_test p)) (b (past (past_test p)))
+    verb-good p loop = turns-good _ _ program budget budget' (position_of program p) (drop 1 p) (b (past_test p)) (suc budget) (suc budget')
+    verb-good p no_verb = end-good 2 2 (position_of program p) (position_of program p)
 
-    statement-good : (p : List ℤ) → Good (λ t. doStatement block past program budget p t) (λ t. doStatement block' past program budget' p t)
-    unfolding doStatement
+    statement-good : (p : List ℤ) → Good (λ t. do_statement block past program budget p t) (λ t. do_statement block' past program budget' p t)
+    unfolding do_statement
     statement-good p =
         then-good (λ t. paid budget (position_of program p) t) (λ t. paid budget' (position_of program p) t) _ _
-        (paid-good budget budget' (position_of program p)) (verb-good p (verbOf (numberAt p 0)))
+        (paid-good budget budget' (position_of program p)) (verb-good p (verb_of (number_at p 0)))
 
   statements-good : (block block' : List ℤ → Tally → Out) → ((q : List ℤ) → Good (block q) (block' q)) → (d n : ℕ) (p : List ℤ)
-      → Good (λ t. doStatements block d program budget n p t) (λ t. doStatements block' d program budget' n p t)
-  unfolding doStatements
+      → Good (λ t. do_statements block d program budget n p t) (λ t. do_statements block' d program budget' n p t)
+  unfolding do_statements
   statements-good block block' b d zero p = on-good
   statements-good block block' b d (suc n) p =
-      then-good _ _ _ _ (statement-good block block' b (λ q. after (readBlock d q)) p) (statements-good block block' b d n (after (readStatement d p)))
+      then-good _ _ _ _ (statement-good block block' b (λ q. after (read_block d q)) p) (statements-good block block' b d n (after (read_statement d p)))
 
-  block-good : (d : ℕ) (p : List ℤ) → Good (λ t. doBlock d program budget p t) (λ t. doBlock d program budget' p t)
-  unfolding doBlock
+  block-good : (d : ℕ) (p : List ℤ) → Good (λ t. do_block d program budget p t) (λ t. do_block d program budget' p t)
+  unfolding do_block
   block-good zero p = end-good 2 2 (position_of program p) (position_of program p)
   block-good (suc d) p =
-      either (number 0 mostStatements p)
-      (λ x e. rw (e, doBlock) (statements-good (λ q u. doBlock d program budget q u) (λ q u. doBlock d program budget' q u) (λ q. block-good d q) d x.0 x.1))
-      (λ q e. rw (e, doBlock) (end-good 2 2 (position_of program q) (position_of program q)))
+      either (number 0 most_statements p)
+      (λ x e. rw (e, do_block) (statements-good (λ q u. do_block d program budget q u) (λ q u. do_block d program budget' q u) (λ q. block-good d q) d x.0 x.1))
+      (λ q e. rw (e, do_block) (end-good 2 2 (position_of program q) (position_of program q)))
 
   -- Two runs of one block, from states of one structure, with any proposals and budgets:
   -- if both come through, and their tests came out alike, they leave states of one structure.
   pub blocks-same : (d : ℕ) (p : List ℤ) (t u t' u' : Tally) → SameState t.state u.state → Sized t.state.cells → Sized u.state.cells → t.tests ≡ u.tests
-      → doBlock d program budget p t ≡ on t' → doBlock d program budget' p u ≡ on u' → t'.tests ≡ u'.tests → SameState t'.state u'.state
+      → do_block d program budget p t ≡ on t' → do_block d program budget' p u ≡ on u' → t'.tests ≡ u'.tests → SameState t'.state u'.state
   blocks-same d p t u t' u' s i j l e h k =
       ((block-good d p).two t u t' u' (record { same = s; sized = i; sized' = j; log = l }) e h (record { one = []; two = []; meet = k })).same

@@ -6,18 +6,18 @@ use mathlib.Core.List.{List}
 use Prim.Native.Nat.{ℕ, zero, suc}
 use lib.IntN.{ℤ}
 use lib.ListN.{drop}
-use Rattle.words.specs.Words.{numberAt}
+use Rattle.words.specs.Words.{number_at}
 use Rattle.words.specs.Range.{fits}
 use Rattle.words.specs.Answer.{Answer, got}
 use Rattle.words.proofs.AnswerLaws.{stop≢got, got-inj, step, tested}
 use Rattle.tables.specs.declared.Value.{Value}
 use Rattle.tables.specs.declared.Value.TheVariants.{Bool as Truth}
 use Rattle.tables.specs.Cells.{Cells}
-use Rattle.program.specs.Forms.{operators, Form, aNil, aFalse, aTrue, anInteger, aPath, anOperation, anIdentity, noForm, form_of}
-use Rattle.program.specs.Reading.{number, anyWord}
+use Rattle.program.specs.Forms.{operators, Form, a_nil, a_false, a_true, an_integer, a_path, an_operation, an_identity, no_form, form_of}
+use Rattle.program.specs.Reading.{number, any_word}
 use Rattle.rules.specs.State.{Res, reads}
 use Rattle.rules.specs.Paths.{value_at}
-use Rattle.rules.specs.Evaluation.{Op, add, sub, mul, lt, le, eq, ne, ge, gt, and, or, noOp, op_of, takes, kind_of, ranged, made, apply, at, evaluateForm, evaluate}
+use Rattle.rules.specs.Evaluation.{Op, add, sub, mul, lt, le, eq, ne, ge, gt, and, or, no_op, op_of, takes, kind_of, ranged, made, apply, at, evaluate_form, evaluate}
 use Rattle.rules.specs.Structure.{Same}
 use Rattle.rules.proofs.Structure.{Alike, nils, truths, ints}
 use Rattle.rules.proofs.WordSteps.{at-got}
@@ -57,7 +57,7 @@ made-both ge a b c d e g = truth-both _ _ e g
 made-both gt a b c d e g = truth-both _ _ e g
 made-both and a b c d e g = truth-both _ _ e g
 made-both or a b c d e g = truth-both _ _ e g
-made-both noOp a b c d e g = stop≢got e
+made-both no_op a b c d e g = stop≢got e
 
 apply-both : (o : Op) (a b c d : Value) {v w : Value} → apply o a b ≡ got v → apply o c d ≡ got w → Alike v w
 unfolding apply
@@ -70,17 +70,17 @@ apply-both o a b c d e g =
 
 module _ (S Z : Cells) (s : Same S Z) where
   module _ (go no : List ℤ → Res (Value × List ℤ)) (ih : (q : List ℤ) (x y : Value × List ℤ) → go q ≡ got x → no q ≡ got y → Near x y) where
-    form-near : (p : List ℤ) (f : Form) (x y : Value × List ℤ) → evaluateForm go S p f ≡ got x → evaluateForm no Z p f ≡ got y → Near x y
-    unfolding evaluateForm
-    form-near p aNil x y e g = rw (← got-inj e, ← got-inj g) (nils, refl)
-    form-near p aFalse x y e g = rw (← got-inj e, ← got-inj g) (truths, refl)
-    form-near p aTrue x y e g = rw (← got-inj e, ← got-inj g) (truths, refl)
-    form-near p anInteger x y e g =
-        step (reads (anyWord (drop 1 p))) _ e λ q e1 k1.
-        step (reads (anyWord (drop 1 p))) _ g λ r g1 m1.
+    form-near : (p : List ℤ) (f : Form) (x y : Value × List ℤ) → evaluate_form go S p f ≡ got x → evaluate_form no Z p f ≡ got y → Near x y
+    unfolding evaluate_form
+    form-near p a_nil x y e g = rw (← got-inj e, ← got-inj g) (nils, refl)
+    form-near p a_false x y e g = rw (← got-inj e, ← got-inj g) (truths, refl)
+    form-near p a_true x y e g = rw (← got-inj e, ← got-inj g) (truths, refl)
+    form-near p an_integer x y e g =
+        step (reads (any_word (drop 1 p))) _ e λ q e1 k1.
+        step (reads (any_word (drop 1 p))) _ g λ r g1 m1.
         rw (← got-inj k1, ← got-inj m1) (ints, got-inj (sym e1 ∙ g1))
-    form-near p aPath x y e g = both-near (value-both S Z s (drop 1 p)) e g
-    form-near p anOperation x y e g =
+    form-near p a_path x y e g = both-near (value-both S Z s (drop 1 p)) e g
+    form-near p an_operation x y e g =
         step (reads (number 1 operators (drop 1 p))) _ e λ o e1 k1.
         step (go o.1) _ k1 λ a e2 k2.
         step (go a.1) _ k2 λ b e3 k3.
@@ -94,7 +94,7 @@ module _ (S Z : Cells) (s : Same S Z) where
         let r = ih a.1 b d e3 (rw l.1 g3) in
         rw (← got-inj k4, ← got-inj m4)
         (apply-both (op_of o.0) a.0 b.0 c.0 d.0 (at-got p _ e4) (rw q (at-got p _ g4)), r.1)
-    form-near p anIdentity x y e g =
+    form-near p an_identity x y e g =
         step (value_at S (drop 1 p)) _ e λ a e1 k1.
         step (value_at S a.1) _ k1 λ b e2 k2.
         step (value_at Z (drop 1 p)) _ g λ c g1 m1.
@@ -102,11 +102,11 @@ module _ (S Z : Cells) (s : Same S Z) where
         let l = both-near (value-both S Z s (drop 1 p)) e1 g1 in
         let r = both-near {x = b} {y = d} (value-both S Z s a.1) e2 (rw l.1 g2) in
         rw (← got-inj k2, ← got-inj m2) (truths, r.1)
-    form-near p noForm x y e g = stop≢got e
+    form-near p no_form x y e g = stop≢got e
 
   -- an expression that has a value in both states has alike values
   pub evaluate-near : (d : ℕ) (p : List ℤ) (x y : Value × List ℤ) → evaluate d S p ≡ got x → evaluate d Z p ≡ got y → Near x y
   unfolding evaluate
   evaluate-near zero p x y e g = stop≢got e
   evaluate-near (suc d) p x y e g =
-      form-near (λ q. evaluate d S q) (λ q. evaluate d Z q) (λ q u w i j. evaluate-near d q u w i j) p (form_of (numberAt p 0)) x y e g
+      form-near (λ q. evaluate d S q) (λ q. evaluate d Z q) (λ q u w i j. evaluate-near d q u w i j) p (form_of (number_at p 0)) x y e g

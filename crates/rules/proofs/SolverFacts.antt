@@ -8,21 +8,21 @@ use mathlib.Core.List.{List, [], ◌∷◌, Memᴰ as OneOf}
 use lib.IntN.{ℤ, pos}
 use lib.ListN.{length}
 use lib.Seq.{take_all}
-use Rattle.words.specs.Words.{numberAt}
+use Rattle.words.specs.Words.{number_at}
 use Rattle.words.proofs.Laws.{number-first}
 use Rattle.tables.proofs.SearchLaws.{and_left, and_right}
-use Rattle.program.specs.Forms.{Verb, skip, assign, new, always, once, alwaysSame, onceSame, branch, loop, noVerb, verbOf}
-use Rattle.program.proofs.FormLaws.{numberOfVerb}
+use Rattle.program.specs.Forms.{Verb, skip, assign, new, always, once, always_same, once_same, branch, loop, no_verb, verb_of}
+use Rattle.program.proofs.FormLaws.{number_of_verb}
 use Rattle.rules.specs.State.{State, Fault}
 use Rattle.rules.specs.Identities.{member}
 use Rattle.rules.specs.Statements.{Left, place_of}
 use Rattle.rules.specs.Solvers.{Given}
 use Rattle.rules.specs.Structure.{SameState}
-use Rattle.rules.specs.Rules.Statements.{Steps, s-skip, s-gives, s-always, s-once, s-always-identity, s-once-identity, Refused}
+use Rattle.rules.specs.Rules.Statements.{Steps, s_skip, s_gives, s_always, s_once, s_always_identity, s_once_identity, Refused}
 use Rattle.rules.specs.Rules.Kept.{Stands}
 use Rattle.rules.specs.Rules.Answers.{Unstarted, wrong, unreadable, unfit, broken, Passes}
-use Rattle.rules.specs.Rules.Solvers.{Named, TurnsDown, fails, left_over, accepted, turnedDown, refusal}
-use Rattle.rules.specs.Rules.Solvers.{Tries, t-first, t-second, t_both, t-no-second, t-refused, Asked, unstarted, unnamed, started}
+use Rattle.rules.specs.Rules.Solvers.{Named, TurnsDown, fails, left_over, accepted, turned_down, refusal}
+use Rattle.rules.specs.Rules.Solvers.{Tries, t_first, t_second, t_both, t_no_second, t_refused, Asked, unstarted, unnamed, started}
 use Rattle.rules.specs.Steps.Holds.{Holds, StatementReads}
 use Rattle.rules.specs.Steps.ByVerb.{refusals}
 use Rattle.rules.specs.Claims.Room.{Stays}
@@ -60,18 +60,18 @@ covered-known (k ∷ ns) c n e =
     (λ q. rw q (member-in k outcomes (and_left (member k outcomes) (covered ns) c)))
     (covered-known ns (and_right (member k outcomes) (covered ns) c) n)
 
-verb-known : (v : Verb) → numberOfVerb v ≤ 4 → (n : ℕ) → Listed v n → OneOf n outcomes
+verb-known : (v : Verb) → number_of_verb v ≤ 4 → (n : ℕ) → Listed v n → OneOf n outcomes
 unfolding member
 verb-known skip h = covered-known (refusals skip) refl
 verb-known assign h = covered-known (refusals assign) refl
 verb-known new h = covered-known (refusals new) refl
 verb-known always h = covered-known (refusals always) refl
 verb-known once h = covered-known (refusals once) refl
-verb-known alwaysSame h = absurd (omega arith)
-verb-known onceSame h = absurd (omega arith)
+verb-known always_same h = absurd (omega arith)
+verb-known once_same h = absurd (omega arith)
 verb-known branch h = absurd (omega arith)
 verb-known loop h = absurd (omega arith)
-verb-known noVerb h = absurd (omega arith)
+verb-known no_verb h = absurd (omega arith)
 
 -- ---- how the call came out
 
@@ -85,8 +85,8 @@ blamed-late b = (placed-range b.placed).0
 
 -- refused before the statement, accepted with the slice of one solver, or refused at the statement
 data Came (program : List ℤ) (word : ℤ) (first second : List ℤ) (S : State) : Given → Type 0 where
-  early : {n k : ℕ} → Unstarted program (pos 0) S n k → Came program word first second S (turnedDown S n (pos k))
-  unknown : ((p : List ℤ) → Named program word p → ⊥) → Came program word first second S (turnedDown S 2 word)
+  early : {n k : ℕ} → Unstarted program (pos 0) S n k → Came program word first second S (turned_down S n (pos k))
+  unknown : ((p : List ℤ) → Named program word p → ⊥) → Came program word first second S (turned_down S 2 word)
   takes : {solver : ℕ} {p : List ℤ} {l : Left} → Passes program (pos 0) S → Named program word p → OneOf solver (1 ∷ 2 ∷ [])
       → Steps program S (slice_of solver first second) p l → Came program word first second S (accepted word solver (slice_of solver first second) l.state)
   blames : {p : List ℤ} {f : Fault} → Passes program (pos 0) S → Named program word p → Blamed program S p f → Came program word first second S (refusal program S f)
@@ -103,10 +103,10 @@ module _ {program : List ℤ} {word : ℤ} {S : State} {p : List ℤ} (g : Passe
       let s = named-stands g.1.0 n in
       let holds = passes-hold program (pos 0) S g in
       let v = stood-verb s in
-      let low : numberOfVerb (verbOf (numberAt p 0)) ≤ 4 = omega (arith, s.most) in
+      let low : number_of_verb (verb_of (number_at p 0)) ≤ 4 = omega (arith, s.most) in
       let e = (refused-rule program p S ws s.here.statement holds (omega arith) f).1 r in
       record {
-        known = verb-known (verbOf (numberAt p 0)) low f.number (stops-listed program S ws holds p s.here.statement (omega arith) f e);
+        known = verb-known (verb_of (number_at p 0)) low f.number (stops-listed program S ws holds p s.here.statement (omega arith) f e);
         placed = refused-placed program g.1.0 S holds s.here r;
       }
 
@@ -116,11 +116,11 @@ module _ {program : List ℤ} {word : ℤ} {S : State} {p : List ℤ} (g : Passe
   turned-blamed (left_over a x) = record { known = there 14 outcomes (omega arith); placed = plain refl refl }
 
   tries-came : {first second : List ℤ} {e : Given} → Tries program word first second S p e → Came program word first second S e
-  tries-came (t-first a) = takes {solver = 1} g n (there 0 (1 ∷ 2 ∷ []) (omega arith)) a.steps
-  tries-came (t-second t a) = takes {solver = 2} g n (there 1 (1 ∷ 2 ∷ []) (omega arith)) a.steps
+  tries-came (t_first a) = takes {solver = 1} g n (there 0 (1 ∷ 2 ∷ []) (omega arith)) a.steps
+  tries-came (t_second t a) = takes {solver = 2} g n (there 1 (1 ∷ 2 ∷ []) (omega arith)) a.steps
   tries-came (t_both t u w) = blames g n (turned-blamed u)
-  tries-came (t-no-second t w) = blames g n (turned-blamed t)
-  tries-came (t-refused r o) = blames g n (refused-blamed r)
+  tries-came (t_no_second t w) = blames g n (turned-blamed t)
+  tries-came (t_refused r o) = blames g n (refused-blamed r)
 
 came : {program : List ℤ} {word : ℤ} {first second : List ℤ} {S : State} {e : Given} → Asked program word first second S e → Came program word first second S e
 came (unstarted u w) = early u
@@ -139,7 +139,7 @@ module _ (program : List ℤ) (word : ℤ) (first second : List ℤ) (S : State)
         refuses = λ h. refl;
         part = refl;
         early = λ h l. inl (k, (refl, u));
-        at-statement = λ h w. absurd (omega (arith, low.1));
+        at_statement = λ h w. absurd (omega (arith, low.1));
         inside = λ i. absurd (let r = inner-range i in omega (arith, r.0, low.1));
       }
   kept (unknown w) = record {
@@ -148,7 +148,7 @@ module _ (program : List ℤ) (word : ℤ) (first second : List ℤ) (S : State)
     refuses = λ h. refl;
     part = refl;
     early = λ h l. inr (refl, (refl, w));
-    at-statement = λ h x. absurd (omega arith);
+    at_statement = λ h x. absurd (omega arith);
     inside = λ i. absurd (let r = inner-range i in omega (arith, r.0));
   }
   kept (takes {solver = solver} g n o s) = record {
@@ -157,7 +157,7 @@ module _ (program : List ℤ) (word : ℤ) (first second : List ℤ) (S : State)
     refuses = λ h. absurd (omega arith);
     part = sym (take_all (length (slice_of solver first second)) (slice_of solver first second) (omega arith));
     early = λ h l. absurd (omega arith);
-    at-statement = λ h w. absurd (omega arith);
+    at_statement = λ h w. absurd (omega arith);
     inside = λ i. absurd (let r = inner-range i in omega (arith, r.0));
   }
   kept (blames {p = p} {f = f} g n b) = record {
@@ -166,7 +166,7 @@ module _ (program : List ℤ) (word : ℤ) (first second : List ℤ) (S : State)
     refuses = λ h. refl;
     part = refl;
     early = λ h l. absurd (omega (arith, blamed-late b));
-    at-statement = λ h w. ap pos (placed-own b.placed w) ∙ sym (named-stands g.1.0 n).word-is;
+    at_statement = λ h w. ap pos (placed-own b.placed w) ∙ sym (named-stands g.1.0 n).word-is;
     inside = λ i. (p, (n, (place_of program f, (refl, placed-inside b.placed i))));
   }
 
@@ -195,20 +195,20 @@ solvers-stay program word first second S e a = stays program word first second S
 
 module _ (program : List ℤ) (S : State) (holds : Holds program S) where
   -- a proposal moves the cells after the identity phase, or those of the state before
-  proposed : {ws p : List ℤ} {l : Left} → StatementReads p → 1 ≤ numberAt p 0 → numberAt p 0 ≤ 4 → Steps program S ws p l → Moves program S p l.state
-  proposed here a b (s-skip {p = p}) = absurd (omega (arith, number-first (pos 0) p))
-  proposed {ws} here a b (s-gives {Y = Y} {Z = Z} {rest = rest} g h s) =
+  proposed : {ws p : List ℤ} {l : Left} → StatementReads p → 1 ≤ number_at p 0 → number_at p 0 ≤ 4 → Steps program S ws p l → Moves program S p l.state
+  proposed here a b (s_skip {p = p}) = absurd (omega (arith, number-first (pos 0) p))
+  proposed {ws} here a b (s_gives {Y = Y} {Z = Z} {rest = rest} g h s) =
       given g h (proposals-move program S.kept _ Y ws Z rest (gives-fit program S holds g here h).sized s)
-  proposed {ws} here a b (s-always {Z = Z} {rest = rest} s k) =
+  proposed {ws} here a b (s_always {Z = Z} {rest = rest} s k) =
       Moves.always (proposals-move program S.kept _ S.cells ws Z rest holds.fit.sized s) k
-  proposed {ws} here a b (s-once {Z = Z} {rest = rest} s) =
+  proposed {ws} here a b (s_once {Z = Z} {rest = rest} s) =
       Moves.once (proposals-move program S.kept _ S.cells ws Z rest holds.fit.sized s)
-  proposed here a b (s-always-identity {p = p} x k) = absurd (omega (arith, number-first (pos 5) p))
-  proposed here a b (s-once-identity {p = p} x) = absurd (omega (arith, number-first (pos 6) p))
+  proposed here a b (s_always_identity {p = p} x k) = absurd (omega (arith, number-first (pos 5) p))
+  proposed here a b (s_once_identity {p = p} x) = absurd (omega (arith, number-first (pos 6) p))
 
   one-structure : {p ws us : List ℤ} {l m : Left} → StatementReads p → Steps program S ws p l → Steps program S us p m → SameState l.state m.state
   one-structure {p} {ws} {us} {l} {m} here s r =
-      (simple program p (verbOf (numberAt p 0))).two S S ws us l m (state-refl S) holds.fit.sized holds.fit.sized
+      (simple program p (verb_of (number_at p 0))).two S S ws us l m (state-refl S) holds.fit.sized holds.fit.sized
       ((steps-rule program p S ws here holds l).1 s) ((steps-rule program p S us here holds m).1 r)
 
 module _ (program : List ℤ) (word : ℤ) (S : State) where

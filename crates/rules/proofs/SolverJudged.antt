@@ -9,10 +9,10 @@ use Rattle.words.specs.Words.{number_of}
 use Rattle.words.proofs.AnswerLaws.{stop-inj, stop≢got, either}
 use Rattle.rules.specs.State.{State, Fault}
 use Rattle.rules.specs.Statements.{Left}
-use Rattle.rules.specs.Solvers.{Given, alone, turnsDown}
+use Rattle.rules.specs.Solvers.{Given, alone, turns_down}
 use Rattle.rules.specs.Rules.Statements.{Refused}
 use Rattle.rules.specs.Rules.Answers.{Passes}
-use Rattle.rules.specs.Rules.Solvers.{Named, Accepts, turning, TurnsDown, accepted, Tries, t-first, t-second, t_both, t-no-second, t-refused}
+use Rattle.rules.specs.Rules.Solvers.{Named, Accepts, turning, TurnsDown, accepted, Tries, t_first, t_second, t_both, t_no_second, t_refused}
 use Rattle.rules.specs.Claims.Solvers.{Alone, SolversAlone, SolversJudged}
 use Rattle.rules.proofs.PlacedLaws.{refused-placed, placed-range}
 use Rattle.rules.proofs.EntryRules.{passes-hold}
@@ -21,7 +21,7 @@ use Rattle.rules.proofs.SolverRules.{Stops, accepts-comes, alone-accepts, alone-
 
 -- 0 is none of the numbers that turn a proposal down
 not-zero : {n : ℕ} → OneOf n turning → n ≡ 0 → ⊥
-unfolding turnsDown
+unfolding turns_down
 not-zero o e = not-turning {n = 0} refl (rw e at o)
 
 module _ (program : List ℤ) (word : ℤ) (S : State) (p : List ℤ) (pass : Passes program (pos 0) S) (n : Named program word p) where
@@ -57,22 +57,22 @@ module _ (program : List ℤ) (word : ℤ) (S : State) (p : List ℤ) (pass : Pa
       where
         go : Alone program S p first ⊎ ((f : Fault) × TurnsDown program S p first f) → e ≡ accepted word 2 second l.state
         go (inl b) = absurd (none b)
-        go (inr x) = only (t-second x.1 a)
+        go (inr x) = only (t_second x.1 a)
 
     accepts : Alone program S p first ⊎ Alone program S p second → e.outcome ≡ 0
-    accepts (inl a) = ap (λ x. x.outcome) (only (t-first a.1))
+    accepts (inl a) = ap (λ x. x.outcome) (only (t_first a.1))
     accepts (inr a) = go (comes-judged first (accepts-comes program word S p pass n a.1))
       where
         go : Alone program S p first ⊎ ((f : Fault) × TurnsDown program S p first f) → e.outcome ≡ 0
-        go (inl b) = ap (λ x. x.outcome) (only (t-first b.1))
-        go (inr x) = ap (λ x. x.outcome) (only (t-second x.1 a.1))
+        go (inl b) = ap (λ x. x.outcome) (only (t_first b.1))
+        go (inr x) = ap (λ x. x.outcome) (only (t_second x.1 a.1))
 
   accepted-by : {first second : List ℤ} {e : Given} → Tries program word first second S p e → e.outcome ≡ 0 → Alone program S p first ⊎ Alone program S p second
-  accepted-by (t-first {l = l} a) z = inl (l, a)
-  accepted-by (t-second {l = l} t a) z = inr (l, a)
+  accepted-by (t_first {l = l} a) z = inl (l, a)
+  accepted-by (t_second {l = l} t a) z = inr (l, a)
   accepted-by (t_both t u h) z = absurd (not-zero (turned-number u) z)
-  accepted-by (t-no-second t h) z = absurd (not-zero (turned-number t) z)
-  accepted-by (t-refused r h) z = absurd (refused-not-zero r z)
+  accepted-by (t_no_second t h) z = absurd (not-zero (turned-number t) z)
+  accepted-by (t_refused r h) z = absurd (refused-not-zero r z)
 
 pub solvers-judged : SolversJudged
 solvers-judged program word S p ws pass n = record {
@@ -87,6 +87,6 @@ solvers-alone program word first second S p e pass n a =
     let t = asked-tries pass n a in
     record {
       either = (accepted-by program word S p pass n t, accepts program word S p pass n first second t);
-      by_first = λ l b. only program word S p pass n first second t (t-first b);
-      by-second = second-takes program word S p pass n first second t;
+      by_first = λ l b. only program word S p pass n first second t (t_first b);
+      by_second = second-takes program word S p pass n first second t;
     }

@@ -9,29 +9,29 @@ use borrow.Author.Tests.{leb-true, le-leb}
 use lib.Dec.{leb}
 use lib.IntN.{ℤ, pos, negsuc}
 use lib.ListN.{length, drop}
-use Rattle.words.specs.Words.{number_of, numberAt}
+use Rattle.words.specs.Words.{number_of, number_at}
 use Rattle.words.specs.Answer.{got, stop}
 use Rattle.words.proofs.AnswerLaws.{stop-inj, either}
 use Rattle.tables.proofs.SearchLaws.{cases, and_left, and_right, and-true}
 use Rattle.fit.specs.Fit.{sized}
-use Rattle.program.specs.Forms.{verbOf}
-use Rattle.program.specs.Reading.{readProgram}
+use Rattle.program.specs.Forms.{verb_of}
+use Rattle.program.specs.Reading.{read_program}
 use Rattle.program.specs.Grammar.{Program}
-use Rattle.program.specs.Where.{statementAt}
+use Rattle.program.specs.Where.{statement_at}
 use Rattle.program.specs.declared.Spot.{Spot}
 use Rattle.program.specs.declared.Spot.TheVariants.{At, Nowhere}
-use Rattle.program.proofs.FormLaws.{numberOfVerb}
+use Rattle.program.proofs.FormLaws.{number_of_verb}
 use Rattle.program.proofs.WhereLaws.{statement-past}
 use Rattle.program.proofs.GrammarLaws.{program-sound, program-complete}
 use Rattle.rules.specs.State.{State, Fault, refused}
 use Rattle.rules.specs.Proposals.{Entry, none?}
-use Rattle.rules.specs.Statements.{Left, doSimple}
-use Rattle.rules.specs.Start.{budgetFits, early, starts, tablesAtStart}
-use Rattle.rules.specs.Solvers.{Given, refusing, refusedBy, oneToFour, isNamed, hasMore, whole, alone, turnsDown, thenSecond, tries, passing, ask}
+use Rattle.rules.specs.Statements.{Left, do_simple}
+use Rattle.rules.specs.Start.{budget_fits, early, starts, tables_at_start}
+use Rattle.rules.specs.Solvers.{Given, refusing, refused_by, one_to_four, is_named, has_more, whole, alone, turns_down, then_second, tries, passing, ask}
 use Rattle.rules.specs.Rules.Proposals.{Formed}
 use Rattle.rules.specs.Rules.Statements.{Steps, Refused}
 use Rattle.rules.specs.Rules.Answers.{Measured, Unstarted, wrong, unreadable, unfit, broken, Passes}
-use Rattle.rules.specs.Rules.Solvers.{Named, named, Accepts, turning, TurnsDown, fails, left_over, Tries, t-first, t-second, t_both, t-no-second, t-refused}
+use Rattle.rules.specs.Rules.Solvers.{Named, named, Accepts, turning, TurnsDown, fails, left_over, Tries, t_first, t_second, t_both, t_no_second, t_refused}
 use Rattle.rules.specs.Rules.Solvers.{Asked, unstarted, unnamed, started}
 use Rattle.rules.specs.Claims.Solvers.{SolversRules}
 use Rattle.rules.specs.Steps.Holds.{Holds}
@@ -75,14 +75,14 @@ module _ (program : List ℤ) (word : ℤ) (S : State) (p : List ℤ) (pass : Pa
   holds : Holds program S
   holds = passes-hold program (pos 0) S pass
 
-  low : numberOfVerb (verbOf (numberAt p 0)) < 7
+  low : number_of_verb (verb_of (number_at p 0)) < 7
   low = omega (arith, stood-verb stood, stood.most)
 
-  doing : (ws us : List ℤ) → whole ws ≡ us → alone program (number_of word) S ws ≡ doSimple program p S us (verbOf (numberAt p 0))
+  doing : (ws us : List ℤ) → whole ws ≡ us → alone program (number_of word) S ws ≡ do_simple program p S us (verb_of (number_at p 0))
   doing ws us e =
       alone-is program (number_of word) S ws
-      ∙ ap (λ (q : List ℤ). doSimple program q S (whole ws) (verbOf (numberAt q 0))) stood.part-is
-      ∙ ap (λ (vs : List ℤ). doSimple program p S vs (verbOf (numberAt p 0))) e
+      ∙ ap (λ (q : List ℤ). do_simple program q S (whole ws) (verb_of (number_at q 0))) stood.part-is
+      ∙ ap (λ (vs : List ℤ). do_simple program p S vs (verb_of (number_at p 0))) e
 
   steps_of : (ws us : List ℤ) → whole ws ≡ us → (l : Left) → (alone program (number_of word) S ws ≡ got l) ↔ Steps program S us p l
   steps_of ws us e l =
@@ -97,7 +97,7 @@ module _ (program : List ℤ) (word : ℤ) (S : State) (p : List ℤ) (pass : Pa
   -- ---- accepted
 
   accepts-sound : (ws : List ℤ) (l : Left) → alone program (number_of word) S ws ≡ got l → Accepts program S p ws l
-  accepts-sound ws l e = cases (hasMore ws)
+  accepts-sound ws l e = cases (has_more ws)
       (λ c.
       let t = steps-took stood.least stood.most ((steps_of ws over (whole-more ws c) l).0 e) in
       absurd (never-formed t.es l.unread t.formed))
@@ -106,7 +106,7 @@ module _ (program : List ℤ) (word : ℤ) (S : State) (p : List ℤ) (pass : Pa
       record { steps = s; whole = formed-whole c (steps-took stood.least stood.most s).formed })
 
   accepts-complete : (ws : List ℤ) (l : Left) → Accepts program S p ws l → alone program (number_of word) S ws ≡ got l
-  accepts-complete ws l a = cases (hasMore ws)
+  accepts-complete ws l a = cases (has_more ws)
       (λ c. absurd (formed-more c (steps-took stood.least stood.most a.steps).formed a.whole))
       (λ c. (steps_of ws ws (whole-all ws c) l).1 a.steps)
 
@@ -122,10 +122,10 @@ module _ (program : List ℤ) (word : ℤ) (S : State) (p : List ℤ) (pass : Pa
   -- ---- refused
 
   -- it came to its proposal, and the slice has words left over: 16 whatever else is wrong with it
-  over-stops : (ws : List ℤ) → hasMore ws ≡ true → Comes program S p → alone program (number_of word) S ws ≡ stop (refused 16 p)
+  over-stops : (ws : List ℤ) → has_more ws ≡ true → Comes program S p → alone program (number_of word) S ws ≡ stop (refused 16 p)
   over-stops ws c k = (refused-of ws over (whole-more ws c) (refused 16 p)).1 (comes-unformed k over over-words never-formed)
 
-  over-turns : (ws : List ℤ) → hasMore ws ≡ true → Comes program S p → TurnsDown program S p ws (refused 16 p)
+  over-turns : (ws : List ℤ) → has_more ws ≡ true → Comes program S p → TurnsDown program S p ws (refused 16 p)
   over-turns ws c k = go (shaped ws)
     where
       left : (es : List Entry) (rest : List ℤ) → Formed ws es rest → (rest ≡ [] → ⊥) → TurnsDown program S p ws (refused 16 p)
@@ -137,28 +137,28 @@ module _ (program : List ℤ) (word : ℤ) (S : State) (p : List ℤ) (pass : Pa
       go (unformed h) = fails (comes-unformed k ws (more-words c) h) sixteen (λ es rest f. absurd (h es rest f))
 
   refuses-sound : (ws : List ℤ) (f : Fault) → alone program (number_of word) S ws ≡ stop f → Stops program S p ws f
-  refuses-sound ws f e = cases (hasMore ws)
+  refuses-sound ws f e = cases (has_more ws)
       (λ c. over-sound c (whose ((refused-of ws over (whole-more ws c) f).0 e)))
       (λ c.
       let r = (refused-of ws ws (whole-all ws c) f).0 e in
-      cases (turnsDown f.number)
+      cases (turns_down f.number)
       (λ t. inl (fails r (turning-sound f.number t) (λ es rest x. formed-whole c x)))
       (λ t. inr (r, not-turning t)))
     where
-      over-sound : {f : Fault} → hasMore ws ≡ true → Whose program S over p f → Stops program S p ws f
+      over-sound : {f : Fault} → has_more ws ≡ true → Whose program S over p f → Stops program S p ws f
       over-sound c (its_own t h) = inr (h ws, not-turning t)
       over-sound c (proposals k x) = rw (fails-unformed over-words never-formed x) (inl (over-turns ws c k))
 
   turns-complete : (ws : List ℤ) {f : Fault} → TurnsDown program S p ws f → alone program (number_of word) S ws ≡ stop f
-  turns-complete ws {f} (fails r t w) = cases (hasMore ws)
+  turns-complete ws {f} (fails r t w) = cases (has_more ws)
       (λ c. unformed-stops c (λ es rest x. formed-more c x (w es rest x)) t (whose r))
       (λ c. (refused-of ws ws (whole-all ws c) f).1 r)
     where
-      unformed-stops : {f : Fault} → hasMore ws ≡ true → ((es : List Entry) (rest : List ℤ) → Formed ws es rest → ⊥) → OneOf f.number turning
+      unformed-stops : {f : Fault} → has_more ws ≡ true → ((es : List Entry) (rest : List ℤ) → Formed ws es rest → ⊥) → OneOf f.number turning
           → Whose program S ws p f → alone program (number_of word) S ws ≡ stop f
       unformed-stops c h t (its_own e k) = absurd (not-turning e t)
       unformed-stops c h t (proposals k x) = rw (fails-unformed (more-words c) h x) (over-stops ws c k)
-  turns-complete ws (left_over a x) = cases (hasMore ws)
+  turns-complete ws (left_over a x) = cases (has_more ws)
       (λ c. over-stops ws c (asks-comes a))
       (λ c. absurd (omega (arith, ap length (formed-whole c x))))
 
@@ -185,51 +185,51 @@ module _ (program : List ℤ) (word : ℤ) (S : State) (p : List ℤ) (pass : Pa
     abbrev Now : Given → Type 0
     Now e = Tries program word first second S p e
 
-    second-sound : {f : Fault} → TurnsDown program S p first f → (second ≡ [] → ⊥) → Now (thenSecond program word second S (alone program (number_of word) S second))
+    second-sound : {f : Fault} → TurnsDown program S p first f → (second ≡ [] → ⊥) → Now (then_second program word second S (alone program (number_of word) S second))
     second-sound t h = either (alone program (number_of word) S second)
-        (λ l e. rw (e, second-takes program word second S l) (t-second t ((alone-accepts second l).0 e)))
+        (λ l e. rw (e, second-takes program word second S l) (t_second t ((alone-accepts second l).0 e)))
         (λ g e. rw (e, second-stops program word second S g) (stopped ((alone-refuses second g).0 e)))
       where
-        stopped : {g : Fault} → Stops program S p second g → Now (refusedBy program S g)
+        stopped : {g : Fault} → Stops program S p second g → Now (refused_by program S g)
         stopped (inl d) = t_both t d h
         stopped (inr x) = absurd (never-own (turned-down-comes t) x.0 x.1)
 
     tries-sound : Now (tries program word first second S (alone program (number_of word) S first))
     tries-sound = either (alone program (number_of word) S first)
-        (λ l e. rw (e, first-takes program word second S first l) (t-first ((alone-accepts first l).0 e)))
+        (λ l e. rw (e, first-takes program word second S first l) (t_first ((alone-accepts first l).0 e)))
         (λ f e. stopped e ((alone-refuses first f).0 e))
       where
         stopped : {f : Fault} → alone program (number_of word) S first ≡ stop f → Stops program S p first f → Now (tries program word first second S (alone program (number_of word) S first))
         stopped {f} e (inl t) = cases (none? second)
-            (λ c. rw (e, no_second program word second S first f c) (t-no-second t (without-words second c)))
+            (λ c. rw (e, no_second program word second S first f c) (t_no_second t (without-words second c)))
             (λ c. rw (e, first-turned program word second S first f (turning-complete (turned-number t)) c) (second-sound t (λ z. true≢false (ap none? (sym z) ∙ c))))
-        stopped {f} e (inr x) = rw (e, first_stops program word second S first f (other-number x.1)) (t-refused x.0 x.1)
+        stopped {f} e (inr x) = rw (e, first_stops program word second S first f (other-number x.1)) (t_refused x.0 x.1)
 
     after_first : {f : Fault} → TurnsDown program S p first f → (second ≡ [] → ⊥)
-        → tries program word first second S (alone program (number_of word) S first) ≡ thenSecond program word second S (alone program (number_of word) S second)
+        → tries program word first second S (alone program (number_of word) S first) ≡ then_second program word second S (alone program (number_of word) S second)
     after_first {f} t h = rw ((alone-refuses first f).1 (inl t)) (first-turned program word second S first f (turning-complete (turned-number t)) (some_words second h))
 
     tries-complete : {e : Given} → Now e → tries program word first second S (alone program (number_of word) S first) ≡ e
-    tries-complete (t-first {l = l} a) = rw ((alone-accepts first l).1 a) (first-takes program word second S first l)
-    tries-complete (t-second {l = l} t a) = after_first t (accepts-words a) ∙ rw ((alone-accepts second l).1 a) (second-takes program word second S l)
+    tries-complete (t_first {l = l} a) = rw ((alone-accepts first l).1 a) (first-takes program word second S first l)
+    tries-complete (t_second {l = l} t a) = after_first t (accepts-words a) ∙ rw ((alone-accepts second l).1 a) (second-takes program word second S l)
     tries-complete (t_both {g = g} t d h) = after_first t h ∙ rw ((alone-refuses second g).1 (inl d)) (second-stops program word second S g)
-    tries-complete (t-no-second {f = f} t e) = rw ((alone-refuses first f).1 (inl t)) (no_second program word second S first f (ap none? e))
-    tries-complete (t-refused {f = f} r h) = rw ((alone-refuses first f).1 (inr (r, h))) (first_stops program word second S first f (other-number h))
+    tries-complete (t_no_second {f = f} t e) = rw ((alone-refuses first f).1 (inl t)) (no_second program word second S first f (ap none? e))
+    tries-complete (t_refused {f = f} r h) = rw ((alone-refuses first f).1 (inr (r, h))) (first_stops program word second S first f (other-number h))
 
     pub tries-rule : (e : Given) → (tries program word first second S (alone program (number_of word) S first) ≡ e) ↔ Tries program word first second S p e
     tries-rule e = (λ h. rw h at tries-sound, tries-complete)
 
 -- ---- a statement is named exactly where the rules say so
 
-pub named-sound : {program : List ℤ} {word : ℤ} → Program program → isNamed program word ≡ true → (p : List ℤ) × Named program word p
-named-sound {program} {word} g e = go word (statementAt program (number_of word)) refl (sym (named-is program word) ∙ e)
+pub named-sound : {program : List ℤ} {word : ℤ} → Program program → is_named program word ≡ true → (p : List ℤ) × Named program word p
+named-sound {program} {word} g e = go word (statement_at program (number_of word)) refl (sym (named-is program word) ∙ e)
   where
-    go : (w : ℤ) (s : Spot) → statementAt program (number_of w) ≡ s → oneToFour s ≡ true → (p : List ℤ) × Named program w p
+    go : (w : ℤ) (s : Spot) → statement_at program (number_of w) ≡ s → one_to_four s ≡ true → (p : List ℤ) × Named program w p
     go w Nowhere i h = absurd (true≢false (sym h))
     go (pos k) (At verb nest) i h = (drop k program, named (leb-true 1 verb (and_left (leb 1 verb) (leb verb 4) h)) (leb-true verb 4 (and_right (leb 1 verb) (leb verb 4) h)) i)
     go (negsuc k) (At verb nest) i h = at-nowhere (sym i ∙ sym (statement-past program 2147483648 (omega (arith, g.short))))
 
-pub named-complete : {program p : List ℤ} {word : ℤ} → Named program word p → isNamed program word ≡ true
+pub named-complete : {program p : List ℤ} {word : ℤ} → Named program word p → is_named program word ≡ true
 named-complete {program} (named {k = k} {verb = verb} a b e) = named-is program (pos k) ∙ rw e (and-true (leb 1 verb) (leb verb 4) (le-leb 1 verb a) (le-leb verb 4 b))
 
 -- ---- the start
@@ -240,12 +240,12 @@ module _ (program : List ℤ) (S : State) where
 
   pub sized-iff : (fits ≡ true) ↔ Measured (pos 0) S
   sized-iff = (
-    λ e. (measured-iff program (pos 0) S).0 (and-true fits (budgetFits (pos 0)) e (budget-is (pos 0) ∙ le-leb 0 1000000 (omega arith))),
-    λ m. and_left fits (budgetFits (pos 0)) ((measured-iff program (pos 0) S).1 m),
+    λ e. (measured-iff program (pos 0) S).0 (and-true fits (budget_fits (pos 0)) e (budget-is (pos 0) ∙ le-leb 0 1000000 (omega arith))),
+    λ m. and_left fits (budget_fits (pos 0)) ((measured-iff program (pos 0) S).1 m),
   )
 
   -- past 1 and 2 the start of a run is that of the call
-  pub starts-tables : Measured (pos 0) S → Program program → starts program (pos 0) S ≡ tablesAtStart program S
+  pub starts-tables : Measured (pos 0) S → Program program → starts program (pos 0) S ≡ tables_at_start program S
   unfolding starts early
   starts-tables m g = rw ((measured-iff program (pos 0) S).1 m, program-complete program g)
 
@@ -257,16 +257,16 @@ module _ (program : List ℤ) (word : ℤ) (first second : List ℤ) (S : State)
   ask-wrong e = rw e
 
   module _ (m : Measured (pos 0) S) where
-    ask-unread : {k : ℕ} → readProgram program ≡ stop k → ask program word first second S ≡ refusing S 2 (pos k)
+    ask-unread : {k : ℕ} → read_program program ≡ stop k → ask program word first second S ≡ refusing S 2 (pos k)
     unfolding ask early
     ask-unread e = rw ((sized-iff program S).1 m, e)
 
-    ask-unnamed : Program program → isNamed program word ≡ false → ask program word first second S ≡ refusing S 2 word
+    ask-unnamed : Program program → is_named program word ≡ false → ask program word first second S ≡ refusing S 2 word
     unfolding ask early
     ask-unnamed g e = rw ((sized-iff program S).1 m, program-complete program g, e)
 
-    ask-named : Program program → isNamed program word ≡ true
-        → ask program word first second S ≡ passing (tablesAtStart program S) S (tries program word first second S (alone program (number_of word) S first))
+    ask-named : Program program → is_named program word ≡ true
+        → ask program word first second S ≡ passing (tables_at_start program S) S (tries program word first second S (alone program (number_of word) S first))
     unfolding ask early
     ask-named g e = rw ((sized-iff program S).1 m, program-complete program g, e)
 
@@ -279,14 +279,14 @@ module _ (program : List ℤ) (word : ℤ) (first second : List ℤ) (S : State)
 
   sound : Asked program word first second S (ask program word first second S)
   sound = cases (fits program S)
-      (λ c. either (readProgram program) (λ u e. reads ((sized-iff program S).0 c) (program-sound program e)) (λ k e. unreads ((sized-iff program S).0 c) e))
+      (λ c. either (read_program program) (λ u e. reads ((sized-iff program S).0 c) (program-sound program e)) (λ k e. unreads ((sized-iff program S).0 c) e))
       (λ c. rw (ask-wrong c) (unstarted (wrong λ m. true≢false (sym ((sized-iff program S).1 m) ∙ c)) (λ h. absurd (omega arith))))
     where
-      unreads : {k : ℕ} → Measured (pos 0) S → readProgram program ≡ stop k → Asked program word first second S (ask program word first second S)
+      unreads : {k : ℕ} → Measured (pos 0) S → read_program program ≡ stop k → Asked program word first second S (ask program word first second S)
       unreads m e = rw (ask-unread m e) (unstarted (unreadable m e) (λ h. absurd (omega arith)))
 
       names : {p : List ℤ} → Measured (pos 0) S → Program program → Named program word p → Asked program word first second S (ask program word first second S)
-      names {p} m g n = either (tablesAtStart program S)
+      names {p} m g n = either (tables_at_start program S)
           (λ u e.
           let pass = (passes-iff program (pos 0) S).0 (starts-tables program S m g ∙ e) in
           rw (ask-tries pass n) (started pass n ((tries-rule program word S p pass n first second _).0 refl)))
@@ -295,7 +295,7 @@ module _ (program : List ℤ) (word : ℤ) (first second : List ℤ) (S : State)
           (unstarted ((unstarted-iff program (pos 0) S x).0 (starts-tables program S m g ∙ e)) (λ h. (p, n))))
 
       reads : Measured (pos 0) S → Program program → Asked program word first second S (ask program word first second S)
-      reads m g = cases (isNamed program word)
+      reads m g = cases (is_named program word)
           (λ c. names m g (named-sound g c).1)
           (λ c. rw (ask-unnamed m g c) (unnamed m g (λ p n. true≢false (sym (named-complete n) ∙ c))))
 
@@ -312,7 +312,7 @@ module _ (program : List ℤ) (word : ℤ) (first second : List ℤ) (S : State)
   complete (unstarted (unreadable m e) h) = ask-unread m e
   complete (unstarted (unfit m g f) h) = late m g (unfit m g f) (h (omega arith))
   complete (unstarted (broken m g t f) h) = late m g (broken m g t f) (h (omega arith))
-  complete (unnamed m g h) = ask-unnamed m g (is_false (isNamed program word) (λ e. let x = named-sound g e in h x.0 x.1))
+  complete (unnamed m g h) = ask-unnamed m g (is_false (is_named program word) (λ e. let x = named-sound g e in h x.0 x.1))
   complete (started {p = p} {e = e} pass n t) = ask-tries pass n ∙ (tries-rule program word S p pass n first second e).1 t
 
 pub solvers-rules : SolversRules

@@ -3,11 +3,11 @@ use mathlib.Core.List.{List}
 use native.Mathlib.Omega.{arith}
 use lib.IntN.{ℤ}
 use Rattle.words.specs.Words.{number_of}
-use Rattle.program.specs.Forms.{blockDepth}
+use Rattle.program.specs.Forms.{block_depth}
 use Rattle.rules.specs.State.{State}
 use Rattle.rules.specs.Running.{Out, on, end}
 use Rattle.rules.specs.Rules.Runs.{block, Runs}
-use Rattle.rules.specs.Rules.Answers.{Passes, firstTally, unstarted, finished, stopped}
+use Rattle.rules.specs.Rules.Answers.{Passes, first_tally, unstarted, finished, stopped}
 use Rattle.rules.specs.Steps.Holds.{Holds}
 use Rattle.rules.specs.Claims.Holding.{StatementsStand, RunsStand}
 use Rattle.rules.proofs.ProgramCode.{statement-there}
@@ -26,7 +26,7 @@ statements-stand program p S ws l reads found stands s =
 
 -- what holds after a run that passed its start
 whole-stands : (program ws : List ℤ) (budget : ℤ) (S : State) (o : Out) → Passes program budget S
-    → Runs program (number_of budget) (block blockDepth program) (firstTally S ws) o → Holds program (tally_of o).state
+    → Runs program (number_of budget) (block block_depth program) (first_tally S ws) o → Holds program (tally_of o).state
 whole-stands program ws budget S o p r =
     rw ((whole-rule program ws budget S o p).1 r) at (whole-reached program ws budget S p).holds
 

@@ -6,51 +6,51 @@ use Prim.Native.Nat.{ℕ, zero, suc, ◌+◌}
 use lib.Dec.{leb}
 use lib.IntN.{ℤ}
 use lib.ListN.{length, drop}
-use Rattle.words.specs.Words.{wordAt, number_of}
+use Rattle.words.specs.Words.{word_at, number_of}
 use Rattle.words.specs.Answer.{Answer, got, stop, ◌>>=◌, ◌>>◌, want}
 use Rattle.tables.specs.declared.Sort.TheVariants.{Values, Identities}
 use Rattle.tables.specs.Cells.{Cells}
-use Rattle.fit.specs.Fit.{sized, environmentFits, heapFits}
-use Rattle.program.specs.Forms.{blockDepth}
-use Rattle.program.specs.Reading.{readProgram}
-use Rattle.program.specs.Where.{constraintsStand}
+use Rattle.fit.specs.Fit.{sized, environment_fits, heap_fits}
+use Rattle.program.specs.Forms.{block_depth}
+use Rattle.program.specs.Reading.{read_program}
+use Rattle.program.specs.Where.{constraints_stand}
 use Rattle.rules.specs.State.{State, Fault, Res, positions}
-use Rattle.rules.specs.Constraints.{Part, kept_at, requiredHold}
-use Rattle.rules.specs.Identities.{sameNow}
-use Rattle.rules.specs.Running.{Tally, Out, on, end, doBlock}
-use Rattle.rules.specs.Start.{Early, budgetFits, valuesHold, identitiesHold, early, starts, Ended, ended, run}
+use Rattle.rules.specs.Constraints.{Part, kept_at, required_hold}
+use Rattle.rules.specs.Identities.{same_now}
+use Rattle.rules.specs.Running.{Tally, Out, on, end, do_block}
+use Rattle.rules.specs.Start.{Early, budget_fits, values_hold, identities_hold, early, starts, Ended, ended, run}
 
-pub budget-is : (b : ℤ) → budgetFits b ≡ leb (number_of b) 1000000
-unfolding budgetFits
+pub budget-is : (b : ℤ) → budget_fits b ≡ leb (number_of b) 1000000
+unfolding budget_fits
 budget-is b = refl
 
 module _ (program : List ℤ) (S : Cells) where
-  pub values-none : valuesHold program S [] ≡ got tt
-  unfolding valuesHold
+  pub values-none : values_hold program S [] ≡ got tt
+  unfolding values_hold
   values-none = refl
 
   pub values-read : (position : ℕ) (more : List ℕ) (parts : List Part) → kept_at program S position ≡ got parts
-      → valuesHold program S (position ∷ more) ≡ (want position (requiredHold parts) >> valuesHold program S more)
-  unfolding valuesHold
-  values-read position more parts e = rw (e, valuesHold)
+      → values_hold program S (position ∷ more) ≡ (want position (required_hold parts) >> values_hold program S more)
+  unfolding values_hold
+  values-read position more parts e = rw (e, values_hold)
 
-  pub values-stop : (position : ℕ) (more : List ℕ) (f : Fault) → kept_at program S position ≡ stop f → valuesHold program S (position ∷ more) ≡ stop position
-  unfolding valuesHold
-  values-stop position more f e = rw (e, valuesHold)
+  pub values-stop : (position : ℕ) (more : List ℕ) (f : Fault) → kept_at program S position ≡ stop f → values_hold program S (position ∷ more) ≡ stop position
+  unfolding values_hold
+  values-stop position more f e = rw (e, values_hold)
 
-  pub identities-none : identitiesHold program S [] ≡ got tt
-  unfolding identitiesHold
+  pub identities-none : identities_hold program S [] ≡ got tt
+  unfolding identities_hold
   identities-none = refl
 
-  pub identities-hold : (position : ℕ) (more : List ℕ) (u : Unit {0}) → sameNow S (drop position program) (drop (position + 1) program) ≡ got u
-      → identitiesHold program S (position ∷ more) ≡ identitiesHold program S more
-  unfolding identitiesHold
-  identities-hold position more u e = rw (e, identitiesHold)
+  pub identities-hold : (position : ℕ) (more : List ℕ) (u : Unit {0}) → same_now S (drop position program) (drop (position + 1) program) ≡ got u
+      → identities_hold program S (position ∷ more) ≡ identities_hold program S more
+  unfolding identities_hold
+  identities-hold position more u e = rw (e, identities_hold)
 
-  pub identities-stop : (position : ℕ) (more : List ℕ) (f : Fault) → sameNow S (drop position program) (drop (position + 1) program) ≡ stop f
-      → identitiesHold program S (position ∷ more) ≡ stop position
-  unfolding identitiesHold
-  identities-stop position more f e = rw (e, identitiesHold)
+  pub identities-stop : (position : ℕ) (more : List ℕ) (f : Fault) → same_now S (drop position program) (drop (position + 1) program) ≡ stop f
+      → identities_hold program S (position ∷ more) ≡ stop position
+  unfolding identities_hold
+  identities-stop position more f e = rw (e, identities_hold)
 
 pub early-got : (n : ℕ) (u : Unit {0}) → early n (got u) ≡ got tt
 unfolding early
@@ -62,6 +62,6 @@ early-stop n place = refl
 
 pub starts_is : (program : List ℤ) (budget : ℤ) (S : State)
     → starts program budget S
-    ≡ (early 1 (want 0 (sized S.cells.environment S.cells.heap S.kept && budgetFits budget)) >> (early 2 (readProgram program) >> (early 3 (want 0 (environmentFits (wordAt S.cells.heap 0) S.cells.environment)) >> (early 3 (want 1 (heapFits S.cells.heap)) >> (early 3 (want 2 (constraintsStand program S.kept)) >> (early 4 (valuesHold program S.cells (positions S.kept Values)) >> early 4 (identitiesHold program S.cells (positions S.kept Identities))))))))
+    ≡ (early 1 (want 0 (sized S.cells.environment S.cells.heap S.kept && budget_fits budget)) >> (early 2 (read_program program) >> (early 3 (want 0 (environment_fits (word_at S.cells.heap 0) S.cells.environment)) >> (early 3 (want 1 (heap_fits S.cells.heap)) >> (early 3 (want 2 (constraints_stand program S.kept)) >> (early 4 (values_hold program S.cells (positions S.kept Values)) >> early 4 (identities_hold program S.cells (positions S.kept Identities))))))))
 unfolding starts
 starts_is program budget S = refl

@@ -7,18 +7,18 @@ use native.Mathlib.Decide.{dec_lt}
 use lib.IntN.{ℤ, pos}
 use lib.ListN.{length, get_or}
 use lib.Seq.{drop-append_seam}
-use Rattle.words.specs.Words.{numberAt}
+use Rattle.words.specs.Words.{number_at}
 use Rattle.words.proofs.Laws.{number-first, number-drop}
-use Rattle.program.specs.Forms.{Verb, noVerb, verbs, verbOf}
-use Rattle.program.specs.Grammar.{Labels, Path, statementOf, Yields}
-use Rattle.program.specs.Reading.{readPath, after}
+use Rattle.program.specs.Forms.{Verb, no_verb, verbs, verb_of}
+use Rattle.program.specs.Grammar.{Labels, Path, statement_of, Yields}
+use Rattle.program.specs.Reading.{read_path, after}
 use Rattle.program.specs.Told.{told}
-use Rattle.program.proofs.FormLaws.{numberOfVerb, verb-number}
+use Rattle.program.proofs.FormLaws.{number_of_verb, verb-number}
 use Rattle.program.proofs.LengthLaws.{after-got}
 use Rattle.program.proofs.BlockLaws.{statement-none}
 use Rattle.program.proofs.GrammarLaws.{path-complete}
 use Rattle.program.proofs.GrammarSound.{statement-sound}
-use Rattle.rules.specs.Rules.Statements.{pastPath}
+use Rattle.rules.specs.Rules.Statements.{past_path}
 use Rattle.rules.specs.Steps.Holds.{StatementReads}
 use Rattle.rules.proofs.VerbLaws.{verb-back, verb-none, told-apart}
 
@@ -26,17 +26,17 @@ use Rattle.rules.proofs.VerbLaws.{verb-back, verb-none, told-apart}
 
 module _ (p : List ℤ) (here : StatementReads p) where
   -- it reads, so its word stands for a verb
-  pub known : numberOfVerb (verbOf (numberAt p 0)) < 9
-  known = go (dec_lt (numberOfVerb (verbOf (numberAt p 0))) 9)
+  pub known : number_of_verb (verb_of (number_at p 0)) < 9
+  known = go (dec_lt (number_of_verb (verb_of (number_at p 0))) 9)
     where
-      go : Dec (numberOfVerb (verbOf (numberAt p 0)) < 9) → numberOfVerb (verbOf (numberAt p 0)) < 9
+      go : Dec (number_of_verb (verb_of (number_at p 0)) < 9) → number_of_verb (verb_of (number_at p 0)) < 9
       go (yes l) = l
-      go (no n) = absurd (told-apart p here.rest (statement-none here.nest p (verb-none (verbOf (numberAt p 0)) n) ∙ ap told here.reads))
+      go (no n) = absurd (told-apart p here.rest (statement-none here.nest p (verb-none (verb_of (number_at p 0)) n) ∙ ap told here.reads))
 
-  pub statement-verb : (v : Verb) → numberAt p 0 ≡ numberOfVerb v → verbOf (numberAt p 0) ≡ v
+  pub statement-verb : (v : Verb) → number_at p 0 ≡ number_of_verb v → verb_of (number_at p 0) ≡ v
   statement-verb v e =
-      sym (verb-back (verbOf (numberAt p 0)))
-      ∙ ap (λ n. get_or verbs n noVerb) (sym (verb-number (numberAt p 0) known) ∙ e) ∙ verb-back v
+      sym (verb-back (verb_of (number_at p 0)))
+      ∙ ap (λ n. get_or verbs n no_verb) (sym (verb-number (number_at p 0) known) ∙ e) ∙ verb-back v
 
 -- ---- the part after an L
 
@@ -44,9 +44,9 @@ pub labels_length : {n : ℕ} {ls : List ℤ} → Labels n ls → length ls ≡ 
 labels_length Labels.none = refl
 labels_length (Labels.one h l) = ap suc (labels_length l)
 
-pub path-past : {a : List ℤ} → Path a → (q : List ℤ) → pastPath (a ++ q) ≡ q
+pub path-past : {a : List ℤ} → Path a → (q : List ℤ) → past_path (a ++ q) ≡ q
 path-past (Path.path {x = x} {n = n} {ls = ls} a b l) q =
-    let k : numberAt (pos x ∷ pos n ∷ (ls ++ q)) 1 ≡ n = sym (number-drop (pos x ∷ pos n ∷ (ls ++ q)) 1 0) ∙ number-first (pos n) (ls ++ q) in
+    let k : number_at (pos x ∷ pos n ∷ (ls ++ q)) 1 ≡ n = sym (number-drop (pos x ∷ pos n ∷ (ls ++ q)) 1 0) ∙ number-first (pos n) (ls ++ q) in
     let i : n + 2 ≡ suc (suc n) = omega arith in
     rw (k, i, ← labels_length l) (drop-append_seam ls q)
 
@@ -56,19 +56,19 @@ record AssignWords (ws : List ℤ) : Type 0 where
   is : ws ≡ pos 1 ∷ target ++ value
   path : Path target
 
-assign-words : {d : ℕ} {ws : List ℤ} (q : List ℤ) → Yields (statementOf d) ws → numberAt (ws ++ q) 0 ≡ 1 → AssignWords ws
+assign-words : {d : ℕ} {ws : List ℤ} (q : List ℤ) → Yields (statement_of d) ws → number_at (ws ++ q) 0 ≡ 1 → AssignWords ws
 assign-words q Yields.skip e = absurd (omega (arith, sym (number-first _ _) ∙ e))
 assign-words q (Yields.assign {a = a} {e = x} y z) e = record { target = a; value = x; is = refl; path = y }
 assign-words q (Yields.new h k f) e = absurd (omega (arith, sym (number-first _ _) ∙ e))
 assign-words q (Yields.always c) e = absurd (omega (arith, sym (number-first _ _) ∙ e))
 assign-words q (Yields.once c) e = absurd (omega (arith, sym (number-first _ _) ∙ e))
-assign-words q (Yields.alwaysSame x y) e = absurd (omega (arith, sym (number-first _ _) ∙ e))
-assign-words q (Yields.onceSame x y) e = absurd (omega (arith, sym (number-first _ _) ∙ e))
+assign-words q (Yields.always_same x y) e = absurd (omega (arith, sym (number-first _ _) ∙ e))
+assign-words q (Yields.once_same x y) e = absurd (omega (arith, sym (number-first _ _) ∙ e))
 assign-words q (Yields.branch x y z) e = absurd (omega (arith, sym (number-first _ _) ∙ e))
 assign-words q (Yields.loop x y) e = absurd (omega (arith, sym (number-first _ _) ∙ e))
 
 -- the part after the target path of an assignment
-pub past-path : (p : List ℤ) → StatementReads (pos 1 ∷ p) → pastPath p ≡ after (readPath p)
+pub past-path : (p : List ℤ) → StatementReads (pos 1 ∷ p) → past_path p ≡ after (read_path p)
 past-path p here =
     let t = statement-sound here.nest (pos 1 ∷ p) here.rest here.reads in
     let w = assign-words here.rest t.piece (rw (← t.split) (number-first (pos 1) p)) in

@@ -8,7 +8,7 @@ use Rattle.words.specs.Answer.{Answer, got, stop, ◌>>=◌, ◌>>◌, want}
 use Rattle.words.proofs.AnswerLaws.{stop-inj, stop≢got}
 use Rattle.program.specs.Reading.{Reading, number}
 use Rattle.program.proofs.NumberLaws.{IsNumber, number_read, number_is}
-use Rattle.rules.specs.State.{Fault, Res, refused, refuse, orRefuse, reads}
+use Rattle.rules.specs.State.{Fault, Res, refused, refuse, or_refuse, reads}
 use Rattle.rules.specs.Evaluation.{at}
 use Rattle.rules.proofs.WordSteps.{reads-got}
 
@@ -47,7 +47,7 @@ module _ {ℓ} {B : Type 0} {f : Fault} {X : Type ℓ} where
   failed h false r e x y = x refl (stop-inj e)
 
   -- what is missing
-  pub missed : {E : Type 0} (n : ℕ) (p : List ℤ) (m : Answer E B) → orRefuse n p m ≡ stop f → ((e : E) → m ≡ stop e → refused n p ≡ f → X) → X
+  pub missed : {E : Type 0} (n : ℕ) (p : List ℤ) (m : Answer E B) → or_refuse n p m ≡ stop f → ((e : E) → m ≡ stop e → refused n p ≡ f → X) → X
   missed n p (got a) e k = stop≢got (sym e)
   missed n p (stop u) e k = k u refl (stop-inj e)
 

@@ -14,9 +14,9 @@ use Rattle.tables.specs.declared.Value.{Value}
 use Rattle.tables.specs.declared.Value.TheVariants.{Nil, Bool as Truth, Int, Ref}
 use Rattle.tables.specs.declared.Slot.{Slot}
 use Rattle.tables.specs.declared.Slot.TheVariants.{Absent, Has}
-use Rattle.tables.specs.Values.{cell, cell_of, slotOf}
-use Rattle.tables.specs.Cells.{Cells, cell_at, putCell, Sized}
-use Rattle.tables.specs.Records.{fieldCount, labelAt, fieldWith}
+use Rattle.tables.specs.Values.{cell, cell_of, slot_of}
+use Rattle.tables.specs.Cells.{Cells, cell_at, put_cell, Sized}
+use Rattle.tables.specs.Records.{field_count, label_at, field_with}
 use Rattle.tables.proofs.SearchLaws.{cases, Seeking, seeking-starts, seeking-goes-on}
 use Rattle.tables.proofs.FindLaws.{field_in, find-hits, find-ends}
 use Rattle.tables.proofs.WordLaws.{word_number}
@@ -96,19 +96,19 @@ same-cell : (a b : Cell) → a.kind ≡ b.kind → a.payload ≡ b.payload → a
 same-cell a b e f = rw (e, f)
 
 -- alike cells hold alike values
-pub slots-alike : (a b : Cell) → AlikeCell a b → AlikeSlot (slotOf a) (slotOf b)
+pub slots-alike : (a b : Cell) → AlikeCell a b → AlikeSlot (slot_of a) (slot_of b)
 slots-alike a b s = go (ℕ_discrete (number_of a.kind) 2) (ℕ_discrete (number_of a.kind) 3)
   where
     -- a cell whose kind is the number k
     of-kind : (c : Cell) (k : ℕ) → k < 2147483648 → number_of c.kind ≡ k → c ≡ cell (pos k) c.payload
     of-kind c k l e = same-cell c (cell (pos k) c.payload) (word_number c.kind k e l) refl
 
-    go : Dec (number_of a.kind ≡ 2) → Dec (number_of a.kind ≡ 3) → AlikeSlot (slotOf a) (slotOf b)
+    go : Dec (number_of a.kind ≡ 2) → Dec (number_of a.kind ≡ 3) → AlikeSlot (slot_of a) (slot_of b)
     go (yes e) d =
         rw (of-kind a 2 (omega arith) e, of-kind b 2 (omega arith) (rw s.kind at e), slot-boolean a.payload, slot-boolean b.payload) (held truths)
     go (no m) (yes e) =
         rw (of-kind a 3 (omega arith) e, of-kind b 3 (omega arith) (rw s.kind at e), slot-integer a.payload, slot-integer b.payload) (held ints)
-    go (no m) (no n) = rw (same-cell a b s.kind (s.payload m n)) (slot-refl (slotOf b))
+    go (no m) (no n) = rw (same-cell a b s.kind (s.payload m n)) (slot-refl (slot_of b))
 
 -- alike values make alike cells
 pub cells-alike : {v w : Value} → Alike v w → AlikeCell (cell_of v) (cell_of w)
@@ -121,26 +121,26 @@ cells-alike (refs {r = r}) = alike_refl (cell_of (Ref r))
 
 module _ (S Z : Cells) (s : Same S Z) where
   -- looking for the label from field place i on, in both heaps at once
-  look : (r label left i : ℕ) → i + left ≡ fieldCount S.heap r
-      → Seeking (λ g. eqb (labelAt S.heap r g) label) (fieldCount S.heap r) i → Seeking (λ g. eqb (labelAt Z.heap r g) label) (fieldCount Z.heap r) i
-      → fieldWith S.heap r label ≡ fieldWith Z.heap r label
+  look : (r label left i : ℕ) → i + left ≡ field_count S.heap r
+      → Seeking (λ g. eqb (label_at S.heap r g) label) (field_count S.heap r) i → Seeking (λ g. eqb (label_at Z.heap r g) label) (field_count Z.heap r) i
+      → field_with S.heap r label ≡ field_with Z.heap r label
   look r label zero i e a b = sym (find-ends S.heap r label i a (omega arith)) ∙ find-ends Z.heap r label i b (omega (arith, s.fields r))
   look r label (suc left) i e a b =
-      let l : i < fieldCount S.heap r = omega arith in
-      let k : i < fieldCount Z.heap r = omega (arith, s.fields r) in
+      let l : i < field_count S.heap r = omega arith in
+      let k : i < field_count Z.heap r = omega (arith, s.fields r) in
       let h = field_in S.heap r i l in
-      let q : labelAt S.heap r i ≡ labelAt Z.heap r i = s.labels r i h.1 in
-      cases (eqb (labelAt S.heap r i) label)
-      (λ c. let d : labelAt S.heap r i ≡ label = eqb-true (labelAt S.heap r i) label c in
+      let q : label_at S.heap r i ≡ label_at Z.heap r i = s.labels r i h.1 in
+      cases (eqb (label_at S.heap r i) label)
+      (λ c. let d : label_at S.heap r i ≡ label = eqb-true (label_at S.heap r i) label c in
       sym (find-hits S.heap r label i a l d) ∙ find-hits Z.heap r label i b k (sym q ∙ d))
       (λ c. look r label left (i + 1) (omega arith) (seeking-goes-on a l c) (seeking-goes-on b k (rw q at c)))
 
-  pub field-same : (r label : ℕ) → fieldWith S.heap r label ≡ fieldWith Z.heap r label
-  field-same r label = look r label (fieldCount S.heap r) 0 (omega arith) seeking-starts seeking-starts
+  pub field-same : (r label : ℕ) → field_with S.heap r label ≡ field_with Z.heap r label
+  field-same r label = look r label (field_count S.heap r) 0 (omega arith) seeking-starts seeking-starts
 
 -- ---- another cell at a location
 
-pub put_same : (S Z : Cells) → Same S Z → Sized S → Sized Z → (l : ℕ) (c d : Cell) → AlikeCell c d → Same (putCell S l c) (putCell Z l d)
+pub put_same : (S Z : Cells) → Same S Z → Sized S → Sized Z → (l : ℕ) (c d : Cell) → AlikeCell c d → Same (put_cell S l c) (put_cell Z l d)
 put_same S Z s i j l c d a = record {
   kinds = λ k. (at k (ℕ_discrete k l) (dec_lt k 576)).kind;
   payloads = λ k. (at k (ℕ_discrete k l) (dec_lt k 576)).payload;
@@ -149,7 +149,7 @@ put_same S Z s i j l c d a = record {
   records = put-records S l c ∙ s.records ∙ sym (put-records Z l d);
 }
   where
-    at : (k : ℕ) → Dec (k ≡ l) → Dec (k < 576) → AlikeCell (cell_at (putCell S l c) k) (cell_at (putCell Z l d) k)
+    at : (k : ℕ) → Dec (k ≡ l) → Dec (k < 576) → AlikeCell (cell_at (put_cell S l c) k) (cell_at (put_cell Z l d) k)
     at k (yes e) (yes h) = rw (e, read_same S l c i (omega arith), read_same Z l d j (omega arith)) a
-    at k (yes e) (no h) = rw (no_cell (putCell S l c) k (omega arith), no_cell (putCell Z l d) k (omega arith)) (alike_refl _)
+    at k (yes e) (no h) = rw (no_cell (put_cell S l c) k (omega arith), no_cell (put_cell Z l d) k (omega arith)) (alike_refl _)
     at k (no n) h = rw (read-other S l k c n, read-other Z l k d n) (alike_at s k)

@@ -14,8 +14,8 @@ use Rattle.tables.specs.declared.Sort.TheVariants.{Identities}
 use Rattle.tables.specs.Cells.{Cells}
 use Rattle.rules.specs.State.{refused, positions}
 use Rattle.rules.specs.Paths.{value_at}
-use Rattle.rules.specs.Evaluation.{same as isSame}
-use Rattle.rules.specs.Identities.{isNode, sameNow, Tie, tieAt, tiesOf, ties}
+use Rattle.rules.specs.Evaluation.{same as is_same}
+use Rattle.rules.specs.Identities.{is_node, same_now, Tie, tie_at, ties_of, ties}
 use Rattle.rules.specs.Rules.Identities.{Node, nil, reference, Same, same, TiesAre, none, one}
 use Rattle.rules.proofs.NameLaws.{names-iff, holds-sound, holds-complete}
 use Rattle.rules.proofs.OperatorLaws.{same_true, cell_same}
@@ -23,67 +23,67 @@ use Rattle.rules.proofs.ReadyLaws.{tie-of, tie-from}
 
 -- ---- a reference or nil
 
-node-sound : (v : Value) → isNode v ≡ true → Node v
-unfolding isNode
+node-sound : (v : Value) → is_node v ≡ true → Node v
+unfolding is_node
 node-sound Nil e = nil
 node-sound (Truth b) e = absurd (true≢false (sym e))
 node-sound (Int n) e = absurd (true≢false (sym e))
 node-sound (Ref r) e = reference
 
-node-complete : {v : Value} → Node v → isNode v ≡ true
-unfolding isNode
+node-complete : {v : Value} → Node v → is_node v ≡ true
+unfolding is_node
 node-complete nil = refl
 node-complete reference = refl
 
-pub node-is : (v : Value) → (isNode v ≡ true) ↔ Node v
+pub node-is : (v : Value) → (is_node v ≡ true) ↔ Node v
 node-is v = (node-sound v, node-complete)
 
-pub node-not : (v : Value) → (isNode v ≡ false) ↔ (Node v → ⊥)
-node-not v = (λ e n. true≢false (sym (node-complete n) ∙ e), λ h. go (isNode v) refl h)
+pub node-not : (v : Value) → (is_node v ≡ false) ↔ (Node v → ⊥)
+node-not v = (λ e n. true≢false (sym (node-complete n) ∙ e), λ h. go (is_node v) refl h)
   where
-    go : (b : Bool) → isNode v ≡ b → (Node v → ⊥) → b ≡ false
+    go : (b : Bool) → is_node v ≡ b → (Node v → ⊥) → b ≡ false
     go true e h = absurd (h (node-sound v e))
     go false e h = refl
 
 -- ---- an identity holds
 
 module _ (S : Cells) (word p : List ℤ) where
-  same-sound : sameNow S word p ≡ got tt → Same S p
-  unfolding sameNow
+  same-sound : same_now S word p ≡ got tt → Same S p
+  unfolding same_now
   same-sound e =
       step (value_at S p) _ e λ v a k1.
       step (value_at S v.1) _ k1 λ w b k2.
-      tested (refused 8 p) (isNode v.0) _ k2 λ c k3.
-      tested (refused 8 v.1) (isNode w.0) _ k3 λ d k4.
-      same (holds-sound S p v a) (holds-sound S v.1 w b) (node-sound v.0 c) (node-sound w.0 d) (same_true v.0 w.0 (wanted (isSame v.0 w.0) k4))
+      tested (refused 8 p) (is_node v.0) _ k2 λ c k3.
+      tested (refused 8 v.1) (is_node w.0) _ k3 λ d k4.
+      same (holds-sound S p v a) (holds-sound S v.1 w b) (node-sound v.0 c) (node-sound w.0 d) (same_true v.0 w.0 (wanted (is_same v.0 w.0) k4))
     where
       wanted : (c : Bool) → want (refused 11 word) c ≡ got tt → c ≡ true
       wanted true q = refl
       wanted false q = stop≢got q
 
-  same-complete : Same S p → sameNow S word p ≡ got tt
-  unfolding sameNow
+  same-complete : Same S p → same_now S word p ≡ got tt
+  unfolding same_now
   same-complete (same {v = v} {w = w} a b c d e) = rw (holds-complete S a, holds-complete S b, node-complete c, node-complete d, cell_same v w e)
 
   -- the identity at p holds by the definition exactly where it does by the rules
-  pub same-iff : (sameNow S word p ≡ got tt) ↔ Same S p
+  pub same-iff : (same_now S word p ≡ got tt) ↔ Same S p
   same-iff = (same-sound, same-complete)
 
 -- ---- the ties
 
 module _ (program : List ℤ) (S : Cells) where
-  ties-sound : (ps : List ℕ) (ts : List Tie) → tiesOf program S ps ≡ got ts → TiesAre program S ps ts
-  unfolding tiesOf
+  ties-sound : (ps : List ℕ) (ts : List Tie) → ties_of program S ps ≡ got ts → TiesAre program S ps ts
+  unfolding ties_of
   ties-sound [] ts e = rw (← got-inj e) none
   ties-sound (position ∷ ps) ts e =
-      step (tieAt S (drop (position + 1) program)) _ e λ t e1 k1.
-      step (tiesOf program S ps) _ k1 λ us e2 k2.
+      step (tie_at S (drop (position + 1) program)) _ e λ t e1 k1.
+      step (ties_of program S ps) _ k1 λ us e2 k2.
       let o = tie-of S (drop (position + 1) program) t e1 in
       rw (← got-inj k2, o.is)
       (one ((names-iff S (drop (position + 1) program) o.left).0 o.left-way) ((names-iff S o.left.rest o.right).0 o.right-way) (ties-sound ps us e2))
 
-  ties-complete : {ps : List ℕ} {ts : List Tie} → TiesAre program S ps ts → tiesOf program S ps ≡ got ts
-  unfolding tiesOf
+  ties-complete : {ps : List ℕ} {ts : List Tie} → TiesAre program S ps ts → ties_of program S ps ≡ got ts
+  unfolding ties_of
   ties-complete none = refl
   ties-complete (one {position = position} {a = a} {b = b} x y more) =
       rw (

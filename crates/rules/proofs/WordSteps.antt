@@ -6,23 +6,23 @@ use Prim.Native.Nat.{ℕ, ◌-◌, ◌<◌, ◌≤◌}
 use native.Mathlib.Omega.{arith}
 use lib.IntN.{ℤ, pos}
 use lib.ListN.{length, drop, get_or}
-use Rattle.words.specs.Words.{numberAt}
+use Rattle.words.specs.Words.{number_at}
 use Rattle.words.specs.Answer.{Answer, got, stop, ◌>>=◌}
 use Rattle.words.proofs.AnswerLaws.{got-inj, stop≢got, step}
 use Rattle.words.proofs.Laws.{number-first}
 use Rattle.tables.specs.declared.Value.{Value}
 use Rattle.tables.specs.declared.Slot.{Slot}
 use Rattle.tables.specs.declared.Slot.TheVariants.{Absent, Has}
-use Rattle.program.specs.Forms.{Form, aNil, aFalse, aTrue, anInteger, aPath, anOperation, anIdentity, noForm, forms, form_of}
+use Rattle.program.specs.Forms.{Form, a_nil, a_false, a_true, an_integer, a_path, an_operation, an_identity, no_form, forms, form_of}
 use Rattle.program.specs.Grammar.{Path, Labels, Expression}
-use Rattle.program.specs.Reading.{Reading, number, anyWord, readExpression}
+use Rattle.program.specs.Reading.{Reading, number, any_word, read_expression}
 use Rattle.program.specs.Told.{told}
 use Rattle.program.specs.declared.Piece.{Piece}
 use Rattle.program.proofs.NumberLaws.{IsNumber, number_read, number_is, any-read}
-use Rattle.program.proofs.FormLaws.{numberOfForm, form-number, form-word}
+use Rattle.program.proofs.FormLaws.{number_of_form, form-number, form-word}
 use Rattle.program.proofs.GrammarLaws.{expression-complete}
 use Rattle.program.proofs.ReadLaws.{expression-none}
-use Rattle.rules.specs.State.{Res, orRefuse, reads, present}
+use Rattle.rules.specs.State.{Res, or_refuse, reads, present}
 use Rattle.rules.specs.Evaluation.{at}
 
 -- ---- what answered below answers here, and only that
@@ -31,7 +31,7 @@ pub reads-got : {A : Type 0} {a : A} (m : Reading A) → reads m ≡ got a → m
 reads-got (got x) e = ap got (got-inj e)
 reads-got (stop q) e = stop≢got e
 
-pub or-got : {E A : Type 0} {a : A} (n : ℕ) (p : List ℤ) (m : Answer E A) → orRefuse n p m ≡ got a → m ≡ got a
+pub or-got : {E A : Type 0} {a : A} (n : ℕ) (p : List ℤ) (m : Answer E A) → or_refuse n p m ≡ got a → m ≡ got a
 or-got n p (got x) e = ap got (got-inj e)
 or-got n p (stop q) e = stop≢got e
 
@@ -52,8 +52,8 @@ by_number low high p f h e k =
     k x.0 x.1 i.least i.most (number_is h i) k1
 
 -- any word was read
-pub by_word {ℓ} : {X : Type ℓ} (p q : List ℤ) → reads (anyWord p) ≡ got q → ((w : ℤ) → p ≡ w ∷ q → X) → X
-by_word {X = X} p q e k = go p (any-read p q (reads-got (anyWord p) e)) k
+pub by_word {ℓ} : {X : Type ℓ} (p q : List ℤ) → reads (any_word p) ≡ got q → ((w : ℤ) → p ≡ w ∷ q → X) → X
+by_word {X = X} p q e k = go p (any-read p q (reads-got (any_word p) e)) k
   where
     go : (r : List ℤ) → (0 < length r) × (q ≡ drop 1 r) → ((w : ℤ) → r ≡ w ∷ q → X) → X
     go [] h k = absurd (omega arith)
@@ -61,59 +61,59 @@ by_word {X = X} p q e k = go p (any-read p q (reads-got (anyWord p) e)) k
 
 -- ---- the forms by their numbers
 
-known : (f : Form) → (f ≡ noForm → ⊥) → numberOfForm f < 27
-known aNil h = omega arith
-known aFalse h = omega arith
-known aTrue h = omega arith
-known anInteger h = omega arith
-known aPath h = omega arith
-known anOperation h = omega arith
-known anIdentity h = omega arith
-known noForm h = absurd (h refl)
+known : (f : Form) → (f ≡ no_form → ⊥) → number_of_form f < 27
+known a_nil h = omega arith
+known a_false h = omega arith
+known a_true h = omega arith
+known an_integer h = omega arith
+known a_path h = omega arith
+known an_operation h = omega arith
+known an_identity h = omega arith
+known no_form h = absurd (h refl)
 
 -- the words of an expression whose first word stands for a form
-pub form-words : (p : List ℤ) → (form_of (numberAt p 0) ≡ noForm → ⊥) → p ≡ pos (numberOfForm (form_of (numberAt p 0))) ∷ drop 1 p
-form-words p h = form-word refl (known (form_of (numberAt p 0)) h)
+pub form-words : (p : List ℤ) → (form_of (number_at p 0) ≡ no_form → ⊥) → p ≡ pos (number_of_form (form_of (number_at p 0))) ∷ drop 1 p
+form-words p h = form-word refl (known (form_of (number_at p 0)) h)
 
 abbrev back : ℕ → Form
-back n = get_or forms (n - 20) noForm
+back n = get_or forms (n - 20) no_form
 
-back-form : (f : Form) → back (numberOfForm f) ≡ f
-back-form aNil = refl
-back-form aFalse = refl
-back-form aTrue = refl
-back-form anInteger = refl
-back-form aPath = refl
-back-form anOperation = refl
-back-form anIdentity = refl
-back-form noForm = refl
+back-form : (f : Form) → back (number_of_form f) ≡ f
+back-form a_nil = refl
+back-form a_false = refl
+back-form a_true = refl
+back-form an_integer = refl
+back-form a_path = refl
+back-form an_operation = refl
+back-form an_identity = refl
+back-form no_form = refl
 
 variable : Path (pos 0 ∷ pos 0 ∷ [])
 variable = Path.path {x = 0} {n = 0} (omega arith) (omega arith) Labels.none
 
 -- the number of a form that some expression begins with stands for that form
-form-begins : (f : Form) (ws : List ℤ) → Expression false 2 (pos (numberOfForm f) ∷ ws) → form_of (numberOfForm f) ≡ f
+form-begins : (f : Form) (ws : List ℤ) → Expression false 2 (pos (number_of_form f) ∷ ws) → form_of (number_of_form f) ≡ f
 form-begins f ws x =
-    sym (back-form (form_of (numberOfForm f))) ∙ ap back (sym (form-number (numberOfForm f) (known (form_of (numberOfForm f)) never))) ∙ back-form f
+    sym (back-form (form_of (number_of_form f))) ∙ ap back (sym (form-number (number_of_form f) (known (form_of (number_of_form f)) never))) ∙ back-form f
   where
-    never : form_of (numberOfForm f) ≡ noForm → ⊥
+    never : form_of (number_of_form f) ≡ no_form → ⊥
     never q =
-        let e : readExpression 2 false (pos (numberOfForm f) ∷ ws ++ []) ≡ got [] = expression-complete x [] in
-        let i : numberAt (pos (numberOfForm f) ∷ ws ++ []) 0 ≡ numberOfForm f = number-first (pos (numberOfForm f)) (ws ++ []) in
-        let t : false ≡ true = ap (λ (r : Piece). r.fits) (expression-none 2 false (pos (numberOfForm f) ∷ ws ++ []) (λ z. omega arith) (rw i q) ∙ ap told e) in
+        let e : read_expression 2 false (pos (number_of_form f) ∷ ws ++ []) ≡ got [] = expression-complete x [] in
+        let i : number_at (pos (number_of_form f) ∷ ws ++ []) 0 ≡ number_of_form f = number-first (pos (number_of_form f)) (ws ++ []) in
+        let t : false ≡ true = ap (λ (r : Piece). r.fits) (expression-none 2 false (pos (number_of_form f) ∷ ws ++ []) (λ z. omega arith) (rw i q) ∙ ap told e) in
         let z : ◌≡◌ {A = ℕ} 0 1 = cc in
         omega arith
 
-pub apart : {f : Form} → (numberOfForm f ≡ 27 → ⊥) → f ≡ noForm → ⊥
-apart h e = h (ap numberOfForm e)
+pub apart : {f : Form} → (number_of_form f ≡ 27 → ⊥) → f ≡ no_form → ⊥
+apart h e = h (ap number_of_form e)
 
 -- each number from 20 to 26 stands for its form
-pub form-is : (f : Form) → (f ≡ noForm → ⊥) → form_of (numberOfForm f) ≡ f
-form-is aNil h = form-begins aNil [] Expression.nil
-form-is aFalse h = form-begins aFalse [] Expression.no
-form-is aTrue h = form-begins aTrue [] Expression.yes
-form-is anInteger h = form-begins anInteger (pos 0 ∷ []) Expression.integer
-form-is aPath h = form-begins aPath _ (Expression.at variable)
-form-is anOperation h = form-begins anOperation _ (Expression.operation {o = 1} (omega arith) (omega arith) Expression.nil Expression.nil)
-form-is anIdentity h = form-begins anIdentity _ (Expression.identity refl variable variable)
-form-is noForm h = absurd (h refl)
+pub form-is : (f : Form) → (f ≡ no_form → ⊥) → form_of (number_of_form f) ≡ f
+form-is a_nil h = form-begins a_nil [] Expression.nil
+form-is a_false h = form-begins a_false [] Expression.no
+form-is a_true h = form-begins a_true [] Expression.yes
+form-is an_integer h = form-begins an_integer (pos 0 ∷ []) Expression.integer
+form-is a_path h = form-begins a_path _ (Expression.at variable)
+form-is an_operation h = form-begins an_operation _ (Expression.operation {o = 1} (omega arith) (omega arith) Expression.nil Expression.nil)
+form-is an_identity h = form-begins an_identity _ (Expression.identity refl variable variable)
+form-is no_form h = absurd (h refl)

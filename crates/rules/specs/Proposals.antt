@@ -1,15 +1,15 @@
 -- A proposal (01, "Proposal"): 6, 16, 17, 18, 19, in this order. Assumes nothing: these are definitions.
 use Rattle.std.specs.Prelude.{ℕ, zero, suc, Bool, true, false, not, cond, ◌&&◌, ◌||◌, List, [], ◌∷◌, eqb, ltb, leb, ℤ, pos, negsuc}
 use Rattle.std.proofs.Math.Option.{Option, none, some}
-use Rattle.words.specs.Words.{number_of, eqZ}
+use Rattle.words.specs.Words.{number_of, eq_z}
 use Rattle.words.specs.Answer.{Answer, got, stop, ◌>>=◌, ◌>>◌, want}
 use Rattle.tables.specs.declared.Cell.{Cell}
 use Rattle.tables.specs.Sizes.{locations}
 use Rattle.tables.specs.Values.{cell}
-use Rattle.tables.specs.Cells.{Cells, cell_at, putCell}
+use Rattle.tables.specs.Cells.{Cells, cell_at, put_cell}
 use Rattle.rules.specs.State.{Fault, Res, refused}
 use Rattle.rules.specs.Evaluation.{at}
-use Rattle.rules.specs.Constraints.{Part, counted, allHold, requiredHold}
+use Rattle.rules.specs.Constraints.{Part, counted, all_hold, required_hold}
 
 pub record Entry : Type 0 where
   pub location : ℕ
@@ -31,30 +31,30 @@ proposal [] = stop 6
 proposal (n ∷ ws) = want 16 (leb (number_of n) locations) >> entries (number_of n) 0 ws
 
 -- a payload that a cell may take by a proposal: "Each names an integer or boolean cell and gives a different payload of the same kind"
-unfoldable pub mayTake : Cell → ℤ → Bool
-mayTake c w =
-    cond (eqb (number_of c.kind) 2) (eqZ w (pos 0) || eqZ w (pos 1))
+unfoldable pub may_take : Cell → ℤ → Bool
+may_take c w =
+    cond (eqb (number_of c.kind) 2) (eq_z w (pos 0) || eq_z w (pos 1))
     (eqb (number_of c.kind) 3)
-    && not (eqZ w c.payload)
+    && not (eq_z w c.payload)
 
-abbrev pub isTarget : Option ℕ → ℕ → Bool
-isTarget none l = false
-isTarget (some t) l = eqb l t
+abbrev pub is_target : Option ℕ → ℕ → Bool
+is_target none l = false
+is_target (some t) l = eqb l t
 
 -- 17 "an entry names a cell or payload it may not"; "the target cell itself may not be changed by it"
-unfoldable pub entryFits : Cells → Option ℕ → Entry → Bool
-entryFits S target e = mayTake (cell_at S e.location) e.payload && not (isTarget target e.location)
+unfoldable pub entry_fits : Cells → Option ℕ → Entry → Bool
+entry_fits S target e = may_take (cell_at S e.location) e.payload && not (is_target target e.location)
 
-unfoldable pub entriesFit : Cells → Option ℕ → List Entry → Bool
-entriesFit S target [] = true
-entriesFit S target (e ∷ es) = entryFits S target e && entriesFit S target es
+unfoldable pub entries_fit : Cells → Option ℕ → List Entry → Bool
+entries_fit S target [] = true
+entries_fit S target (e ∷ es) = entry_fits S target e && entries_fit S target es
 
-unfoldable pub putEntry : Cells → Entry → Cells
-putEntry S e = putCell S e.location (cell (cell_at S e.location).kind e.payload)
+unfoldable pub put_entry : Cells → Entry → Cells
+put_entry S e = put_cell S e.location (cell (cell_at S e.location).kind e.payload)
 
 unfoldable pub applied : Cells → List Entry → Cells
 applied S [] = S
-applied S (e ∷ es) = applied (putEntry S e) es
+applied S (e ∷ es) = applied (put_entry S e) es
 
 abbrev pub none? : {A : Type 0} → List A → Bool
 none? [] = true
@@ -74,8 +74,8 @@ settle program kept asked word S ws = do
   before ← counted program kept asked.own S
   want (refused 14 word) asked.room
   (es, rest) ← at word (proposal ws)
-  want (refused 17 word) (entriesFit S asked.target es)
-  want (refused 18 word) (not (allHold before) || none? es)
+  want (refused 17 word) (entries_fit S asked.target es)
+  want (refused 18 word) (not (all_hold before) || none? es)
   after ← counted program kept asked.own (applied S es)
-  want (refused 19 word) (requiredHold after)
+  want (refused 19 word) (required_hold after)
   got (applied S es, rest)

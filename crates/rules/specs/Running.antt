@@ -1,14 +1,14 @@
 -- Blocks, while, the budget and the tally (01, "What comes back"). Assumes nothing: these are definitions.
 use Rattle.std.specs.Prelude.{ℕ, zero, suc, ◌+◌, ◌-◌, Bool, true, false, List, [], ◌∷◌, ltb, ℤ, length, drop}
-use Rattle.words.specs.Words.{numberAt}
+use Rattle.words.specs.Words.{number_at}
 use Rattle.words.specs.Answer.{Answer, got, stop, ◌>>=◌, ◌>>◌, want}
 use Rattle.tables.specs.Cells.{Cells}
-use Rattle.program.specs.Forms.{expressionDepth, mostStatements}
-use Rattle.program.specs.Forms.{Verb, skip, assign, new, always, once, alwaysSame, onceSame, branch, loop, noVerb, verbOf}
-use Rattle.program.specs.Reading.{number, readExpression, readBlock, readStatement, after}
+use Rattle.program.specs.Forms.{expression_depth, most_statements}
+use Rattle.program.specs.Forms.{Verb, skip, assign, new, always, once, always_same, once_same, branch, loop, no_verb, verb_of}
+use Rattle.program.specs.Reading.{number, read_expression, read_block, read_statement, after}
 use Rattle.rules.specs.State.{State, Fault, Res, refused, reads}
-use Rattle.rules.specs.Evaluation.{aBool, kind_of, boolOf, evaluate}
-use Rattle.rules.specs.Statements.{Left, position_of, place_of, doSimple}
+use Rattle.rules.specs.Evaluation.{a_bool, kind_of, bool_of, evaluate}
+use Rattle.rules.specs.Statements.{Left, position_of, place_of, do_simple}
 
 -- "One tally of steps, proposals and words read is carried through a run"; with the state, and how the tests of if and while came out, the last first
 pub record Tally : Type 0 where
@@ -23,16 +23,16 @@ pub data Out : Type 0 where
   on : Tally → Out
   end : ℕ → ℕ → Tally → Out
 
-abbrev pub thenOut : Out → (Tally → Out) → Out
-thenOut (on t) f = f t
-thenOut (end n place t) f = end n place t
+abbrev pub then_out : Out → (Tally → Out) → Out
+then_out (on t) f = f t
+then_out (end n place t) f = end n place t
 
 -- "A statement begun costs a step .. each later test of a while costs one": 5 "next step would pass the budget"
-abbrev pub oneMore : Tally → Tally
-oneMore t = record { state = t.state; unread = t.unread; steps = suc t.steps; accepted = t.accepted; tests = t.tests }
+abbrev pub one_more : Tally → Tally
+one_more t = record { state = t.state; unread = t.unread; steps = suc t.steps; accepted = t.accepted; tests = t.tests }
 
 unfoldable pub paid : ℕ → ℕ → Tally → Out
-paid budget place t = elim (ltb t.steps budget) [ true ↦ on (oneMore t) | false ↦ end 5 place t ]
+paid budget place t = elim (ltb t.steps budget) [ true ↦ on (one_more t) | false ↦ end 5 place t ]
 
 abbrev pub leaves : Left → Tally → Tally
 leaves l t = record { state = l.state; unread = l.unread; steps = t.steps; accepted = t.accepted + l.accepted; tests = t.tests }
@@ -48,9 +48,9 @@ noted b t = record { state = t.state; unread = t.unread; steps = t.steps; accept
 -- "If, while test a boolean"
 unfoldable pub test : Cells → List ℤ → Res Bool
 test S p = do
-  (v, q) ← evaluate expressionDepth S p
-  want (refused 8 p) (aBool (kind_of v))
-  got (boolOf v)
+  (v, q) ← evaluate expression_depth S p
+  want (refused 8 p) (a_bool (kind_of v))
+  got (bool_of v)
 
 unfoldable pub tested : List ℤ → Tally → Res Bool → (Tally → Out) → (Tally → Out) → Out
 tested program t (got true) f g = f (noted true t)
@@ -62,43 +62,43 @@ unfoldable pub turns : (Tally → Out) → List ℤ → ℕ → ℕ → List ℤ
 turns body program budget place p zero t = end 5 place t
 turns body program budget place p (suc fuel) t =
     tested program t (test t.state.cells p)
-    (λ u. thenOut (body u) λ w. thenOut (paid budget place w) λ z. turns body program budget place p fuel z)
+    (λ u. then_out (body u) λ w. then_out (paid budget place w) λ z. turns body program budget place p fuel z)
     (λ u. on u)
 
 -- the part after the test of the if or while at p
-abbrev pub pastTest : List ℤ → List ℤ
-pastTest p = after (readExpression expressionDepth false (drop 1 p))
+abbrev pub past_test : List ℤ → List ℤ
+past_test p = after (read_expression expression_depth false (drop 1 p))
 
 -- the statement at p, whose step is paid; `block` runs a block that it holds, and `past` is the part after one
-unfoldable pub doVerb : (List ℤ → Tally → Out) → (List ℤ → List ℤ) → List ℤ → ℕ → List ℤ → Verb → Tally → Out
-doVerb block past program budget p skip t = taken program t (doSimple program p t.state t.unread skip)
-doVerb block past program budget p assign t = taken program t (doSimple program p t.state t.unread assign)
-doVerb block past program budget p new t = taken program t (doSimple program p t.state t.unread new)
-doVerb block past program budget p always t = taken program t (doSimple program p t.state t.unread always)
-doVerb block past program budget p once t = taken program t (doSimple program p t.state t.unread once)
-doVerb block past program budget p alwaysSame t = taken program t (doSimple program p t.state t.unread alwaysSame)
-doVerb block past program budget p onceSame t = taken program t (doSimple program p t.state t.unread onceSame)
-doVerb block past program budget p branch t =
-    tested program t (test t.state.cells (drop 1 p)) (λ u. block (pastTest p) u) (λ u. block (past (pastTest p)) u)
-doVerb block past program budget p loop t =
-    turns (λ u. block (pastTest p) u) program budget (position_of program p) (drop 1 p) (suc budget) t
-doVerb block past program budget p noVerb t = end 2 (position_of program p) t
+unfoldable pub do_verb : (List ℤ → Tally → Out) → (List ℤ → List ℤ) → List ℤ → ℕ → List ℤ → Verb → Tally → Out
+do_verb block past program budget p skip t = taken program t (do_simple program p t.state t.unread skip)
+do_verb block past program budget p assign t = taken program t (do_simple program p t.state t.unread assign)
+do_verb block past program budget p new t = taken program t (do_simple program p t.state t.unread new)
+do_verb block past program budget p always t = taken program t (do_simple program p t.state t.unread always)
+do_verb block past program budget p once t = taken program t (do_simple program p t.state t.unread once)
+do_verb block past program budget p always_same t = taken program t (do_simple program p t.state t.unread always_same)
+do_verb block past program budget p once_same t = taken program t (do_simple program p t.state t.unread once_same)
+do_verb block past program budget p branch t =
+    tested program t (test t.state.cells (drop 1 p)) (λ u. block (past_test p) u) (λ u. block (past (past_test p)) u)
+do_verb block past program budget p loop t =
+    turns (λ u. block (past_test p) u) program budget (position_of program p) (drop 1 p) (suc budget) t
+do_verb block past program budget p no_verb t = end 2 (position_of program p) t
 
-unfoldable pub doStatement : (List ℤ → Tally → Out) → (List ℤ → List ℤ) → List ℤ → ℕ → List ℤ → Tally → Out
-doStatement block past program budget p t =
-    thenOut (paid budget (position_of program p) t) λ u. doVerb block past program budget p (verbOf (numberAt p 0)) u
+unfoldable pub do_statement : (List ℤ → Tally → Out) → (List ℤ → List ℤ) → List ℤ → ℕ → List ℤ → Tally → Out
+do_statement block past program budget p t =
+    then_out (paid budget (position_of program p) t) λ u. do_verb block past program budget p (verb_of (number_at p 0)) u
 
-unfoldable pub doStatements : (List ℤ → Tally → Out) → ℕ → List ℤ → ℕ → ℕ → List ℤ → Tally → Out
-doStatements block d program budget zero p t = on t
-doStatements block d program budget (suc n) p t =
-    thenOut (doStatement block (λ q. after (readBlock d q)) program budget p t) λ u.
-    doStatements block d program budget n (after (readStatement d p)) u
+unfoldable pub do_statements : (List ℤ → Tally → Out) → ℕ → List ℤ → ℕ → ℕ → List ℤ → Tally → Out
+do_statements block d program budget zero p t = on t
+do_statements block d program budget (suc n) p t =
+    then_out (do_statement block (λ q. after (read_block d q)) program budget p t) λ u.
+    do_statements block d program budget n (after (read_statement d p)) u
 
 -- the block at p, nested at most d deep; one that does not read ends with 2 at its word, which in a program that reads does not come up
-unfoldable pub doBlock : ℕ → List ℤ → ℕ → List ℤ → Tally → Out
-doBlock zero program budget p t = end 2 (position_of program p) t
-doBlock (suc d) program budget p t =
-    elim (number 0 mostStatements p) [
-      | got x ↦ doStatements (λ q u. doBlock d program budget q u) d program budget x.0 x.1 t
+unfoldable pub do_block : ℕ → List ℤ → ℕ → List ℤ → Tally → Out
+do_block zero program budget p t = end 2 (position_of program p) t
+do_block (suc d) program budget p t =
+    elim (number 0 most_statements p) [
+      | got x ↦ do_statements (λ q u. do_block d program budget q u) d program budget x.0 x.1 t
       | stop q ↦ end 2 (position_of program q) t
     ]

@@ -2,7 +2,7 @@
 -- Assumes nothing: these are definitions.
 use Rattle.std.specs.Prelude.{ℕ, zero, suc, ◌+◌, ◌-◌, List, [], ◌∷◌, ◌++◌, ℤ, pos, negsuc, replicate, length, take, Bool, true, false}
 use Rattle.tables.specs.Cells.{cells}
-use Rattle.rules.specs.State.{State, freshState}
+use Rattle.rules.specs.State.{State, fresh_state}
 use Rattle.rules.specs.Start.{Ended, run}
 use Rattle.rules.specs.Entries.{assigns}
 use Rattle.rules.specs.Solvers.{Given, ask}
@@ -231,7 +231,7 @@ sheets = K1 ∷ K2 ∷ K3 ∷ K4 ∷ K5 ∷ K6 ∷ K7 ∷ K7' ∷ K8 ∷ K9 ∷ 
 -- what the definitions give, and what 01 says
 unfoldable pub given : List Sheet → List Ended
 given [] = []
-given (s ∷ ss) = run s.program s.proposals s.budget freshState ∷ given ss
+given (s ∷ ss) = run s.program s.proposals s.budget fresh_state ∷ given ss
 
 unfoldable pub wanted : List Sheet → List Ended
 wanted [] = []
@@ -292,13 +292,13 @@ E5 = record {
 abbrev pub listings : List Listing
 listings = E1 ∷ E2 ∷ E3 ∷ E4 ∷ E5 ∷ []
 
-unfoldable pub givenLists : List Listing → List Ended
-givenLists [] = []
-givenLists (x ∷ xs) = assigns P x.entries x.proposals x.budget (two 64 16 (1 ∷ 0 ∷ 10 ∷ [])) ∷ givenLists xs
+unfoldable pub given_lists : List Listing → List Ended
+given_lists [] = []
+given_lists (x ∷ xs) = assigns P x.entries x.proposals x.budget (two 64 16 (1 ∷ 0 ∷ 10 ∷ [])) ∷ given_lists xs
 
-unfoldable pub wantedLists : List Listing → List Ended
-wantedLists [] = []
-wantedLists (x ∷ xs) = x.answer ∷ wantedLists xs
+unfoldable pub wanted_lists : List Listing → List Ended
+wanted_lists [] = []
+wanted_lists (x ∷ xs) = x.answer ∷ wanted_lists xs
 
 -- ---- one statement with two proposals (02, W6), over P and what its first two statements left
 
@@ -356,10 +356,10 @@ Q5 = record {
 abbrev pub askings : List Asking
 askings = Q1 ∷ Q2 ∷ Q3 ∷ Q4 ∷ Q5 ∷ []
 
-unfoldable pub givenAskings : List Asking → List Given
-givenAskings [] = []
-givenAskings (x ∷ xs) = ask P x.word x.first x.second (two 64 16 (1 ∷ 0 ∷ 10 ∷ [])) ∷ givenAskings xs
+unfoldable pub given_askings : List Asking → List Given
+given_askings [] = []
+given_askings (x ∷ xs) = ask P x.word x.first x.second (two 64 16 (1 ∷ 0 ∷ 10 ∷ [])) ∷ given_askings xs
 
-unfoldable pub wantedAskings : List Asking → List Given
-wantedAskings [] = []
-wantedAskings (x ∷ xs) = x.answer ∷ wantedAskings xs
+unfoldable pub wanted_askings : List Asking → List Given
+wanted_askings [] = []
+wanted_askings (x ∷ xs) = x.answer ∷ wanted_askings xs

@@ -1,17 +1,17 @@
--- One statement with two proposals (02, W6), by the statement's own rule (Statements.doSimple). Assumes nothing: these are definitions.
+-- One statement with two proposals (02, W6), by the statement's own rule (Statements.do_simple). Assumes nothing: these are definitions.
 use Rattle.std.specs.Prelude.{ℕ, zero, suc, ◌+◌, ◌*◌, Bool, true, false, not, cond, ◌&&◌, ◌||◌, List, [], ◌∷◌, eqb, ltb, leb, ℤ, pos, negsuc, length, drop}
-use Rattle.words.specs.Words.{number_of, numberAt}
+use Rattle.words.specs.Words.{number_of, number_at}
 use Rattle.words.specs.Answer.{Answer, got, stop, want}
 use Rattle.fit.specs.Fit.{sized}
-use Rattle.program.specs.Forms.{verbOf}
-use Rattle.program.specs.Reading.{readProgram}
-use Rattle.program.specs.Where.{statementAt}
+use Rattle.program.specs.Forms.{verb_of}
+use Rattle.program.specs.Reading.{read_program}
+use Rattle.program.specs.Where.{statement_at}
 use Rattle.program.specs.declared.Spot.{Spot}
 use Rattle.program.specs.declared.Spot.TheVariants.{At, Nowhere}
 use Rattle.rules.specs.State.{State, Fault, Res}
 use Rattle.rules.specs.Proposals.{none?}
-use Rattle.rules.specs.Statements.{Left, place_of, doSimple}
-use Rattle.rules.specs.Start.{Early, early, tablesAtStart}
+use Rattle.rules.specs.Statements.{Left, place_of, do_simple}
+use Rattle.rules.specs.Start.{Early, early, tables_at_start}
 
 -- outcome and place, the solver whose proposal was accepted, 0 for none, the accepted words, and the tables
 pub record Given : Type 0 where
@@ -29,44 +29,44 @@ accepting word solver ws Z = record { outcome = 0; place = word; solver = solver
 abbrev pub refusing : State → ℕ → ℤ → Given
 refusing S n place = record { outcome = n; place = place; solver = 0; words = []; state = S }
 
-abbrev pub refusedBy : List ℤ → State → Fault → Given
-refusedBy program S f = refusing S f.number (pos (place_of program f))
+abbrev pub refused_by : List ℤ → State → Fault → Given
+refused_by program S f = refusing S f.number (pos (place_of program f))
 
 -- "one of statements 1 to 4"
-abbrev pub oneToFour : Spot → Bool
-oneToFour (At verb nest) = leb 1 verb && leb verb 4
-oneToFour Nowhere = false
+abbrev pub one_to_four : Spot → Bool
+one_to_four (At verb nest) = leb 1 verb && leb verb 4
+one_to_four Nowhere = false
 
-unfoldable pub isNamed : List ℤ → ℤ → Bool
-isNamed program word = oneToFour (statementAt program (number_of word))
+unfoldable pub is_named : List ℤ → ℤ → Bool
+is_named program word = one_to_four (statement_at program (number_of word))
 
 -- "each one whole proposal": more words than n pairs take
-unfoldable pub hasMore : List ℤ → Bool
-hasMore ws = ltb (2 * numberAt ws 0 + 1) (length ws)
+unfoldable pub has_more : List ℤ → Bool
+has_more ws = ltb (2 * number_at ws 0 + 1) (length ws)
 
 -- "Words left after a proposal make it 16 here": such a slice is judged as one whose n is out of range
 unfoldable pub whole : List ℤ → List ℤ
-whole ws = cond (hasMore ws) (negsuc 0 ∷ []) ws
+whole ws = cond (has_more ws) (negsuc 0 ∷ []) ws
 
 -- the statement whose word is at this place, with one slice alone
 unfoldable pub alone : List ℤ → ℕ → State → List ℤ → Res Left
-alone program at S ws = doSimple program (drop at program) S (whole ws) (verbOf (numberAt (drop at program) 0))
+alone program at S ws = do_simple program (drop at program) S (whole ws) (verb_of (number_at (drop at program) 0))
 
 -- "refused by 6 or by 16 to 19"
-unfoldable pub turnsDown : ℕ → Bool
-turnsDown n = eqb n 6 || leb 16 n && leb n 19
+unfoldable pub turns_down : ℕ → Bool
+turns_down n = eqb n 6 || leb 16 n && leb n 19
 
 -- what the second slice comes to
-unfoldable pub thenSecond : List ℤ → ℤ → List ℤ → State → Res Left → Given
-thenSecond program word second S (got l) = accepting word 2 second l.state
-thenSecond program word second S (stop g) = refusedBy program S g
+unfoldable pub then_second : List ℤ → ℤ → List ℤ → State → Res Left → Given
+then_second program word second S (got l) = accepting word 2 second l.state
+then_second program word second S (stop g) = refused_by program S g
 
 -- "The first is tried; if it is refused by 6 or by 16 to 19 (later 31 too), the second."; an empty second is not tried:
 -- "If both were tried in vain, the number is the second's, or the first's where the second slice is empty."
 unfoldable pub tries : List ℤ → ℤ → List ℤ → List ℤ → State → Res Left → Given
 tries program word first second S (got l) = accepting word 1 first l.state
 tries program word first second S (stop f) =
-    cond (turnsDown f.number && not (none? second)) (thenSecond program word second S (alone program (number_of word) S second)) (refusedBy program S f)
+    cond (turns_down f.number && not (none? second)) (then_second program word second S (alone program (number_of word) S second)) (refused_by program S f)
 
 -- what is tried before the statement refuses it, or the call goes on
 abbrev pub passing : Answer Early (Unit {0}) → State → Given → Given
@@ -77,7 +77,7 @@ passing (stop e) S next = refusing S e.number (pos e.place)
 unfoldable pub ask : List ℤ → ℤ → List ℤ → List ℤ → State → Given
 ask program word first second S =
     passing (early 1 (want 0 (sized S.cells.environment S.cells.heap S.kept))) S
-    (passing (early 2 (readProgram program)) S
-    (cond (isNamed program word)
-    (passing (tablesAtStart program S) S (tries program word first second S (alone program (number_of word) S first)))
+    (passing (early 2 (read_program program)) S
+    (cond (is_named program word)
+    (passing (tables_at_start program S) S (tries program word first second S (alone program (number_of word) S first)))
     (refusing S 2 word)))

@@ -5,10 +5,10 @@ use Rattle.tables.specs.declared.Value.{Value}
 use Rattle.tables.specs.declared.Slot.{Slot}
 use Rattle.tables.specs.declared.Slot.TheVariants.{Absent, Has}
 use Rattle.tables.specs.declared.Sort.{Sort}
-use Rattle.tables.specs.Values.{slotOf}
-use Rattle.tables.specs.Sizes.{environmentWords, heapWords, constraintsWords}
+use Rattle.tables.specs.Values.{slot_of}
+use Rattle.tables.specs.Sizes.{environment_words, heap_words, constraints_words}
 use Rattle.tables.specs.Cells.{Cells, cells, cell_at, fresh}
-use Rattle.tables.specs.Kept.{keptCount, positionAt}
+use Rattle.tables.specs.Kept.{kept_count, position_at}
 use Rattle.program.specs.Reading.{Reading}
 
 -- the three lent tables: the environment and the heap with their cells, and the constraints
@@ -16,8 +16,8 @@ pub record State : Type 0 where
   pub cells : Cells
   pub kept : List ℤ
 
-unfoldable pub freshState : State
-freshState = record { cells = cells (fresh environmentWords) (fresh heapWords); kept = fresh constraintsWords }
+unfoldable pub fresh_state : State
+fresh_state = record { cells = cells (fresh environment_words) (fresh heap_words); kept = fresh constraints_words }
 
 -- a refusal: its number (01's table), and the word at fault, told by how many words of the program are left from it on
 pub record Fault : Type 0 where
@@ -34,9 +34,9 @@ abbrev pub refuse : {A : Type 0} → ℕ → List ℤ → Res A
 refuse n p = stop (refused n p)
 
 -- what is missing is a refusal at p
-abbrev pub orRefuse : {E A : Type 0} → ℕ → List ℤ → Answer E A → Res A
-orRefuse n p (got a) = got a
-orRefuse n p (stop e) = refuse n p
+abbrev pub or_refuse : {E A : Type 0} → ℕ → List ℤ → Answer E A → Res A
+or_refuse n p (got a) = got a
+or_refuse n p (stop e) = refuse n p
 
 -- a piece that does not read is refused with 2; in a program that reads there is none
 abbrev pub reads : {A : Type 0} → Reading A → Res A
@@ -45,7 +45,7 @@ reads (stop q) = refuse 2 q
 
 -- what the cell at a location holds
 unfoldable pub slot_at : Cells → ℕ → Slot
-slot_at S l = slotOf (cell_at S l)
+slot_at S l = slot_of (cell_at S l)
 
 abbrev pub present : Slot → Answer (Unit {0}) Value
 present (Has v) = got v
@@ -58,4 +58,4 @@ listed f i (suc n) = f i ∷ listed f (suc i) n
 
 -- the kept positions of a sort, in kept order
 unfoldable pub positions : List ℤ → Sort → List ℕ
-positions c s = listed (positionAt c s) 0 (keptCount c s)
+positions c s = listed (position_at c s) 0 (kept_count c s)

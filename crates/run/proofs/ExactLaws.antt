@@ -9,13 +9,13 @@ use lib.IntN.{ℤ}
 use lib.ListN.{length}
 use Rattle.tables.specs.declared.Sort.{Sort}
 use Rattle.tables.specs.declared.Sort.TheVariants.{Values, Identities}
-use Rattle.program.specs.Where.{isAlways, constraintsStand}
+use Rattle.program.specs.Where.{is_always, constraints_stand}
 use Rattle.program.proofs.StandLaws.{always-is, stand-iff}
 use Rattle.program.proofs.WhereLaws.{statement-past}
 use Rattle.rules.specs.State.{State, positions}
 use Rattle.rules.specs.Start.{Ended, run}
 use Rattle.rules.specs.Rules.Proposals.{Each, none, more}
-use Rattle.rules.specs.Rules.Kept.{inOrder}
+use Rattle.rules.specs.Rules.Kept.{in_order}
 use Rattle.rules.specs.Rules.Answers.{TableFits, Unstarted, wrong, unreadable, unfit, broken, Passes, Answered, unstarted, finished, stopped}
 use Rattle.rules.specs.Claims.Answers.{Answer}
 use Rattle.rules.proofs.KeepLaws.{positions-iff}
@@ -32,7 +32,7 @@ pub record Exact (e : Ended) : Type 0 where
 
 -- ---- places of outcomes 1 to 4
 
-inside_of : (program : List ℤ) (s : Sort) (k : ℕ) → isAlways program s k ≡ true → k < length program
+inside_of : (program : List ℤ) (s : Sort) (k : ℕ) → is_always program s k ≡ true → k < length program
 inside_of program s k e = go (dec_lt k (length program))
   where
     go : Dec (k < length program) → k < length program
@@ -40,13 +40,13 @@ inside_of program s k e = go (dec_lt k (length program))
     go (no h) = absurd (let z : false ≡ true = rw (always-is program s k, ← statement-past program k (omega arith)) at e in let y : ◌≡◌ {A = ℕ} 0 1 = cc in omega arith)
 
 -- kept positions that stand are inside the program
-positions-inside : (program : List ℤ) (S : State) (s : Sort) → constraintsStand program S.kept ≡ true → Each (λ k. k < length program) (positions S.kept s)
+positions-inside : (program : List ℤ) (S : State) (s : Sort) → constraints_stand program S.kept ≡ true → Each (λ k. k < length program) (positions S.kept s)
 positions-inside program S s e = (positions-iff (λ k. k < length program) S.kept s).1 (λ i h. inside_of program s _ (((stand-iff program S.kept).0 e).1 s i h))
 
-order-inside : (program : List ℤ) (S : State) → constraintsStand program S.kept ≡ true → Each (λ (x : Sort × ℕ). x.1 < length program) (inOrder S.kept)
+order-inside : (program : List ℤ) (S : State) → constraints_stand program S.kept ≡ true → Each (λ (x : Sort × ℕ). x.1 < length program) (in_order S.kept)
 order-inside program S e = each-join (each_over _ (λ k h. h) (positions-inside program S Values e)) (each_over _ (λ k h. h) (positions-inside program S Identities e))
 
-third : {program : List ℤ} {S : State} → Each (TableFits program S) (0 ∷ 1 ∷ 2 ∷ []) → constraintsStand program S.kept ≡ true
+third : {program : List ℤ} {S : State} → Each (TableFits program S) (0 ∷ 1 ∷ 2 ∷ []) → constraints_stand program S.kept ≡ true
 third (more a (more b (more c none))) = c
 
 few : Each (λ k. k ≤ 2) (0 ∷ 1 ∷ 2 ∷ [])
@@ -67,7 +67,7 @@ module _ {program ws : List ℤ} {budget : ℤ} {S : State} {e : Ended} (a : Ans
       go : Dec (OneOf e.outcome (7 ∷ 8 ∷ 9 ∷ 15 ∷ [])) → Dec (e.place < length program) → e.place < 2147483648
       go o (yes l) = omega arith
       go (yes o) (no l) = absurd (l (inside-short (a.inside o).1.1))
-      go (no o) (no l) = absurd (a.at-statement h o (sym (statement-past program e.place (omega arith))))
+      go (no o) (no l) = absurd (a.at_statement h o (sym (statement-past program e.place (omega arith))))
   placed b (no h) (yes z) = omega (arith, a.finished z)
   placed b (no h) (no z) = early-small (a.early (omega arith) (omega arith)).0
 

@@ -12,16 +12,16 @@ use Rattle.rules.specs.State.{State}
 use Rattle.rules.specs.Running.{Out, on, end}
 use Rattle.rules.specs.Running.{Tally as Carries}
 use Rattle.rules.specs.Start.{Ended, starts, run}
-use Rattle.rules.specs.Rules.Answers.{firstTally, given as gives}
+use Rattle.rules.specs.Rules.Answers.{first_tally, given as gives}
 use Rattle.rules.proofs.RunLaws.{whole, run-early, run_on, run_end}
 use Rattle.proposals.proofs.FormLaws.{unlike}
 use Rattle.lent.specs.declared.Tally.{Tally}
-use Rattle.lent.specs.Tallied.{carries, untold, untoldOut, Runs}
+use Rattle.lent.specs.Tallied.{carries, untold, untold_out, Runs}
 use Rattle.lent.proofs.TallyLaws.{ends_by}
 use Rattle.run.specs.declared.Started.{Started}
 use Rattle.run.specs.declared.Started.TheVariants.{Begins}
 use Rattle.run.specs.declared.Started.TheVariants.{Early as Refused}
-use Rattle.run.specs.Told.{startedOf, answer_of, Meets}
+use Rattle.run.specs.Told.{started_of, answer_of, Meets}
 use Rattle.run.proofs.ExactLaws.{Exact, exact}
 
 -- the four words of an answer tell its numbers
@@ -31,10 +31,10 @@ words_are e x = rw (word-is e.outcome x.outcome, word-is e.place x.place, word-i
 -- the answer e, by what is given for it
 pub meets : {e : Ended} → Exact e → (given : Ended) → e ≡ given → {Z : State} {answer unread : List ℤ}
     → answer ≡ word_of given.outcome ∷ word_of given.place ∷ word_of given.steps ∷ word_of given.accepted ∷ [] → Z ≡ given.state → unread ≡ given.unread → Meets Z answer unread e
-meets x given r a z u = rw r (record { answers = a ∙ words_are given (rw r at x); leaves = z; hands-back = u })
+meets x given r a z u = rw r (record { answers = a ∙ words_are given (rw r at x); leaves = z; hands_back = u })
 
 -- what the start said
-module _ (program : List ℤ) (budget : ℤ) (S : State) {h : Started} (e : h ≡ startedOf (starts program budget S)) where
+module _ (program : List ℤ) (budget : ℤ) (S : State) {h : Started} (e : h ≡ started_of (starts program budget S)) where
   pub begins : h ≡ Begins → starts program budget S ≡ got tt
   begins h = either {X = starts program budget S ≡ got tt} (starts program budget S) (λ u x. x) (λ f x. unlike (let y = sym (rw x at e) ∙ h in cc))
 
@@ -50,10 +50,10 @@ module _ (program : List ℤ) (budget : ℤ) (S : State) {h : Started} (e : h �
 
 module _ (program ws : List ℤ) (budget : ℤ) (S : State) where
   -- a run that did not begin
-  pub meets-early : {h : Started} {outcome place : ℕ} {answer : List ℤ} → h ≡ startedOf (starts program budget S) → h ≡ Refused outcome place
+  pub meets-early : {h : Started} {outcome place : ℕ} {answer : List ℤ} → h ≡ started_of (starts program budget S) → h ≡ Refused outcome place
       → answer ≡ word_of outcome ∷ word_of place ∷ word_of 0 ∷ word_of 0 ∷ [] → Meets S answer ws (run program ws budget S)
   meets-early {outcome = n} {place = k} e h a =
-      meets (exact program ws budget S) (gives n k (firstTally S ws)) (run-early program ws budget S (refuses program budget S e h)) a refl refl
+      meets (exact program ws budget S) (gives n k (first_tally S ws)) (run-early program ws budget S (refuses program budget S e h)) a refl refl
 
   -- a run that began
   module _ (x : starts program budget S ≡ got tt) {Z : State} {t : Tally} (ran : Runs ws Z t (whole program ws budget S)) where
@@ -61,7 +61,7 @@ module _ (program ws : List ℤ) (budget : ℤ) (S : State) where
         → Meets Z answer (last_of t.unread ws) (run program ws budget S)
     meets_on {answer = answer} h a = by (whole program ws budget S) refl (rw h at ran.is)
       where
-        by : (o : Out) → whole program ws budget S ≡ o → on (carries ws Z t) ≡ untoldOut o → Meets Z answer (last_of t.unread ws) (run program ws budget S)
+        by : (o : Out) → whole program ws budget S ≡ o → on (carries ws Z t) ≡ untold_out o → Meets Z answer (last_of t.unread ws) (run program ws budget S)
         by (on u) w e =
             let k : carries ws Z t ≡ untold u = cc in
             let y1 : Z ≡ u.state = ap (λ (c : Carries). c.state) k in
@@ -75,7 +75,7 @@ module _ (program ws : List ℤ) (budget : ℤ) (S : State) where
         → Meets Z answer (last_of t.unread ws) (run program ws budget S)
     meets-end {answer = answer} h a = by (whole program ws budget S) refl (sym (ends_by t.outcome t.place (carries ws Z t) h) ∙ ran.is)
       where
-        by : (o : Out) → whole program ws budget S ≡ o → end t.outcome t.place (carries ws Z t) ≡ untoldOut o → Meets Z answer (last_of t.unread ws) (run program ws budget S)
+        by : (o : Out) → whole program ws budget S ≡ o → end t.outcome t.place (carries ws Z t) ≡ untold_out o → Meets Z answer (last_of t.unread ws) (run program ws budget S)
         by (on u) w e = unlike (cc)
         by (end m place u) w e =
             let w6 : carries ws Z t ≡ untold u = cc in

@@ -1,9 +1,9 @@
 -- What a host may rely on: the claims of the rules, said of what run leaves and hands back. Assumes nothing: these are statements.
 use Rattle.std.specs.Prelude.{◌≡◌, ℕ, ◌≤◌, ℤ, length}
 use mathlib.Core.List.{List, [], ◌∷◌, Memᴰ as OneOf}
-use Rattle.words.specs.Words.{number_of, numberAt, last_of}
+use Rattle.words.specs.Words.{number_of, number_at, last_of}
 use Rattle.program.specs.declared.Spot.TheVariants.{Nowhere}
-use Rattle.program.specs.Where.{statementAt}
+use Rattle.program.specs.Where.{statement_at}
 use Rattle.rules.specs.State.{State}
 use Rattle.rules.specs.Start.{Ended, run}
 use Rattle.rules.specs.Claims.Answers.{Inside, Reached}
@@ -19,14 +19,14 @@ OneAnswer = (e : Ended) (Z Y : State) (a b u w : List ℤ) → Meets Z a u e →
 -- demand 1: the four words are outcome, place, steps and accepted proposals
 pub record Keeps (program ws : List ℤ) (budget : ℤ) (S Z : State) (answer unread : List ℤ) : Type 0 where
   pub four : length answer ≡ 4
-  pub known : numberAt answer 0 ≤ 19
-  pub untouched : 1 ≤ numberAt answer 0 → numberAt answer 0 ≤ 4 → (Z ≡ S) × ((unread ≡ ws) × ((numberAt answer 2 ≡ 0) × (numberAt answer 3 ≡ 0)))
-  pub at-statement : 5 ≤ numberAt answer 0 → (OneOf (numberAt answer 0) (7 ∷ 8 ∷ 9 ∷ 15 ∷ []) → ⊥) → statementAt program (numberAt answer 1) ≡ Nowhere → ⊥
-  pub inside : OneOf (numberAt answer 0) (7 ∷ 8 ∷ 9 ∷ 15 ∷ []) → (p : List ℤ) × (AtStatement program p × Inside program Z p (numberAt answer 1) (numberAt answer 0))
-  pub steps : numberAt answer 2 ≤ number_of budget
-  pub accepted : numberAt answer 3 ≤ numberAt answer 2
+  pub known : number_at answer 0 ≤ 19
+  pub untouched : 1 ≤ number_at answer 0 → number_at answer 0 ≤ 4 → (Z ≡ S) × ((unread ≡ ws) × ((number_at answer 2 ≡ 0) × (number_at answer 3 ≡ 0)))
+  pub at_statement : 5 ≤ number_at answer 0 → (OneOf (number_at answer 0) (7 ∷ 8 ∷ 9 ∷ 15 ∷ []) → ⊥) → statement_at program (number_at answer 1) ≡ Nowhere → ⊥
+  pub inside : OneOf (number_at answer 0) (7 ∷ 8 ∷ 9 ∷ 15 ∷ []) → (p : List ℤ) × (AtStatement program p × Inside program Z p (number_at answer 1) (number_at answer 0))
+  pub steps : number_at answer 2 ≤ number_of budget
+  pub accepted : number_at answer 3 ≤ number_at answer 2
   pub part : unread ≡ last_of (length unread) ws
-  pub reached : Reached program ws S Z unread (numberAt answer 3)
+  pub reached : Reached program ws S Z unread (number_at answer 3)
 
 abbrev pub EveryAnswer : Type 0
 EveryAnswer = (program ws : List ℤ) (budget : ℤ) (S Z : State) (a u : List ℤ) → Meets Z a u (run program ws budget S) → Keeps program ws budget S Z a u
@@ -38,10 +38,10 @@ AnswersExactly = (program ws : List ℤ) (budget : ℤ) (S Z : State) (a u : Lis
 
 -- demand 3: wherever a run stops whose outcome is 0 or from 5 on, the tables are fit and what is kept holds, whatever the proposals said
 abbrev pub StandsAfter : Type 0
-StandsAfter = (program ws : List ℤ) (budget : ℤ) (S Z : State) (a u : List ℤ) → Meets Z a u (run program ws budget S) → (1 ≤ numberAt a 0 → 5 ≤ numberAt a 0) → Stands program Z
+StandsAfter = (program ws : List ℤ) (budget : ℤ) (S Z : State) (a u : List ℤ) → Meets Z a u (run program ws budget S) → (1 ≤ number_at a 0 → 5 ≤ number_at a 0) → Stands program Z
 
 -- two runs that finish, with tests that came out alike, leave one structure
 abbrev pub OneStructure : Type 0
 OneStructure = (program ws us : List ℤ) (budget budget' : ℤ) (S Z Y : State) (a b u w : List ℤ)
     → Meets Z a u (run program ws budget S) → Meets Y b w (run program us budget' S)
-    → numberAt a 0 ≡ 0 → numberAt b 0 ≡ 0 → (run program ws budget S).tests ≡ (run program us budget' S).tests → SameState Z Y
+    → number_at a 0 ≡ 0 → number_at b 0 ≡ 0 → (run program ws budget S).tests ≡ (run program us budget' S).tests → SameState Z Y

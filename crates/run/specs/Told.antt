@@ -15,9 +15,9 @@ held_of (got u) = All
 held_of (stop position) = Not position
 
 -- a run may begin; or the refusal's number and place
-abbrev pub startedOf : Answer Early (Unit {0}) → Started
-startedOf (got u) = Begins
-startedOf (stop e) = Refused e.number e.place
+abbrev pub started_of : Answer Early (Unit {0}) → Started
+started_of (got u) = Begins
+started_of (stop e) = Refused e.number e.place
 
 -- "It gives outcome, place, steps, proposals accepted"
 abbrev pub answer_of : Ended → List ℤ
@@ -27,4 +27,4 @@ answer_of e = pos e.outcome ∷ pos e.place ∷ pos e.steps ∷ pos e.accepted �
 pub record Meets (Z : State) (answer unread : List ℤ) (e : Ended) : Type 0 where
   pub answers : answer ≡ answer_of e
   pub leaves : Z ≡ e.state
-  pub hands-back : unread ≡ e.unread
+  pub hands_back : unread ≡ e.unread

@@ -3,10 +3,10 @@ ghost use Rattle.std.specs.Prelude.{◌≡◌};
 ghost use Rattle.tables.specs.declared.Sort.TheVariants.{Values, Identities};
 ghost use Rattle.tables.specs.Cells.{cells};
 ghost use Rattle.rules.specs.State.{positions};
-ghost use Rattle.rules.specs.Start.{budgetFits, valuesHold, identitiesHold, keptAtStart, tablesAtStart};
-ghost use Rattle.rules.specs.Start.{starts as startsBy};
+ghost use Rattle.rules.specs.Start.{budget_fits, values_hold, identities_hold, kept_at_start, tables_at_start};
+ghost use Rattle.rules.specs.Start.{starts as starts_by};
 ghost use Rattle.phases.specs.Told.{tables};
-ghost use Rattle.run.specs.Told.{held_of, startedOf};
+ghost use Rattle.run.specs.Told.{held_of, started_of};
 
 use crate::{Held, Started};
 use expressions::Weighed;
@@ -16,7 +16,7 @@ use tables::Sort;
 
 // Every kept value constraint reads and its required parts hold; or the position of the first that does not.
 fn values_hold(program: &[i32], environment: &[i32], heap: &[i32], constraints: &[i32]) -> Held
-    ensures { result ≡ held_of (valuesHold program.now (cells environment.now heap.now) (positions constraints.now Values)) }
+    ensures { result ≡ held_of (values_hold program.now (cells environment.now heap.now) (positions constraints.now Values)) }
 {
     let n = tables::kept::kept_count(constraints, Sort::Values);
     let mut i: usize = 0;
@@ -44,7 +44,7 @@ fn values_hold(program: &[i32], environment: &[i32], heap: &[i32], constraints: 
 
 // Every kept identity holds; or the position of the first that does not.
 fn identities_hold(program: &[i32], environment: &[i32], heap: &[i32], constraints: &[i32]) -> Held
-    ensures { result ≡ held_of (identitiesHold program.now (cells environment.now heap.now) (positions constraints.now Identities)) }
+    ensures { result ≡ held_of (identities_hold program.now (cells environment.now heap.now) (positions constraints.now Identities)) }
 {
     let n = tables::kept::kept_count(constraints, Sort::Identities);
     let mut i: usize = 0;
@@ -64,7 +64,7 @@ fn identities_hold(program: &[i32], environment: &[i32], heap: &[i32], constrain
 
 // "a budget of 0 to 1,000,000"
 pub fn budget_fits(budget: i32) -> bool
-    ensures { result ≡ budgetFits budget }
+    ensures { result ≡ budget_fits budget }
 {
     words::number(budget) <= 1000000
 }
@@ -76,7 +76,7 @@ fn holds_at_start(
     heap: &[i32],
     constraints: &[i32],
 ) -> Started
-    ensures { result ≡ startedOf (keptAtStart program.now (tables environment.now heap.now constraints.now)) }
+    ensures { result ≡ started_of (kept_at_start program.now (tables environment.now heap.now constraints.now)) }
 {
     match values_hold(program, environment, heap, constraints) {
         Held::Not(position) => Started::Early(4, position),
@@ -94,7 +94,7 @@ pub fn fits_at_start(
     heap: &[i32],
     constraints: &[i32],
 ) -> Started
-    ensures { result ≡ startedOf (tablesAtStart program.now (tables environment.now heap.now constraints.now)) }
+    ensures { result ≡ started_of (tables_at_start program.now (tables environment.now heap.now constraints.now)) }
 {
     if !fit::environment_fits(environment, heap) {
         return Started::Early(3, 0);
@@ -116,7 +116,7 @@ pub fn starts(
     constraints: &[i32],
     budget: i32,
 ) -> Started
-    ensures { result ≡ startedOf (startsBy program.now budget (tables environment.now heap.now constraints.now)) }
+    ensures { result ≡ started_of (starts_by program.now budget (tables environment.now heap.now constraints.now)) }
 {
     if !fit::are_sized(environment, heap, constraints) {
         return Started::Early(1, 0);

@@ -2,7 +2,7 @@
 ghost use Rattle.std.specs.Prelude.{◌≡◌, [], ◌∷◌, length};
 ghost use Rattle.words.specs.Words.{word_of, last_of};
 ghost use Rattle.words.specs.Answer.{got};
-ghost use Rattle.rules.specs.Start.{starts as startsBy};
+ghost use Rattle.rules.specs.Start.{starts as starts_by};
 ghost use Rattle.rules.specs.Start.{run as run_by};
 ghost use Rattle.phases.specs.Told.{tables};
 ghost use Rattle.run.specs.Told.{Meets};
@@ -20,7 +20,7 @@ fn run_begun(
     budget: i32,
     answer: &mut [i32; 4],
 ) -> usize
-    requires { startsBy program.now budget (tables environment.old heap.old constraints.old) ≡ got tt }
+    requires { starts_by program.now budget (tables environment.old heap.old constraints.old) ≡ got tt }
     ensures { Meets (tables environment.new heap.new constraints.new) answer.new (last_of result proposals.now) (run_by program.now proposals.now budget (tables environment.old heap.old constraints.old)) }
 {
     let most = words::number(budget);

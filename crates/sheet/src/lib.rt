@@ -1,13 +1,13 @@
 // A whole sheet: the text of its three lines comes in, the text of its answer goes out. Nothing here asks anything of its caller.
 ghost use Rattle.rules.specs.Start.{run as run_by};
 ghost use Rattle.lister.specs.Listing.{Listed};
-ghost use Rattle.sheet.specs.Answering.{freshTables, endedText, answerTo};
+ghost use Rattle.sheet.specs.Answering.{fresh_tables, ended_text, answer_to};
 
 use lister::Input;
 
 // The run of a program from fresh tables, and the listing of what it leaves.
 fn run_fresh(program: &[i32], proposals: &[i32], budget: i32, out: &mut [u8]) -> usize
-    ensures { Listed (endedText (run_by program.now proposals.now budget freshTables)) out.old out.new result }
+    ensures { Listed (ended_text (run_by program.now proposals.now budget fresh_tables)) out.old out.new result }
 {
     let mut environment = [0i32; tables::ENVIRONMENT_WORDS];
     let mut heap = [0i32; tables::HEAP_WORDS];
@@ -36,7 +36,7 @@ fn run_fresh(program: &[i32], proposals: &[i32], budget: i32, out: &mut [u8]) ->
 
 // The whole output for a text: how many bytes were written. lister::LISTING_BYTES are enough for every output.
 pub fn answer_text(text: &[u8], out: &mut [u8]) -> usize
-    ensures { Listed (answerTo text.now) out.old out.new result }
+    ensures { Listed (answer_to text.now) out.old out.new result }
 {
     let mut program = [0i32; lister::MOST_NUMBERS];
     let mut proposals = [0i32; lister::MOST_NUMBERS];
@@ -54,7 +54,7 @@ pub fn answer_text(text: &[u8], out: &mut [u8]) -> usize
 // The same, for a program in C or Rust.
 #[unsafe(no_mangle)]
 pub extern "C" fn sheet_answer(text: &[u8], out: &mut [u8]) -> usize
-    ensures { Listed (answerTo text.now) out.old out.new result }
+    ensures { Listed (answer_to text.now) out.old out.new result }
 {
     answer_text(text, out)
 }

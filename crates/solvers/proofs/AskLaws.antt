@@ -7,19 +7,19 @@ use native.Mathlib.Omega.{arith}
 use lib.IntN.{ℤ, pos}
 use lib.ListN.{length, take, drop}
 use lib.Seq.{take_all}
-use Rattle.words.specs.Words.{number_of, numberAt, word_of}
+use Rattle.words.specs.Words.{number_of, number_at, word_of}
 use Rattle.words.specs.Answer.{Answer, got, stop}
 use Rattle.words.proofs.Laws.{word-is, number-first, number-drop}
 use Rattle.words.proofs.AnswerLaws.{either}
 use Rattle.tables.proofs.SearchLaws.{cases}
-use Rattle.program.specs.Forms.{verbOf}
-use Rattle.program.specs.Reading.{readProgram}
+use Rattle.program.specs.Forms.{verb_of}
+use Rattle.program.specs.Reading.{read_program}
 use Rattle.program.proofs.GrammarLaws.{program-sound}
 use Rattle.rules.specs.State.{State, Fault, Res}
 use Rattle.rules.specs.Proposals.{none?}
 use Rattle.rules.specs.Statements.{Left}
-use Rattle.rules.specs.Start.{Early, early, tablesAtStart}
-use Rattle.rules.specs.Solvers.{Given, accepting, refusing, refusedBy, isNamed, whole, alone, turnsDown, thenSecond, tries, passing, ask}
+use Rattle.rules.specs.Start.{Early, early, tables_at_start}
+use Rattle.rules.specs.Solvers.{Given, accepting, refusing, refused_by, is_named, whole, alone, turns_down, then_second, tries, passing, ask}
 use Rattle.rules.specs.Claims.Solvers.{slice_of}
 use Rattle.rules.proofs.EndLaws.{Ends, ends-got, ends-stop, ends_on}
 use Rattle.rules.proofs.RefusalLaws.{Refusal, told, unread, simple-refuses}
@@ -35,7 +35,7 @@ use Rattle.solvers.specs.declared.Tried.TheVariants.{First, Second, Neither}
 use Rattle.solvers.specs.declared.Opened.{Opened}
 use Rattle.solvers.specs.declared.Opened.TheVariants.{Begins}
 use Rattle.solvers.specs.declared.Opened.TheVariants.{Early as Refused}
-use Rattle.solvers.specs.Told.{givenBy, openedBy, opening, Hands}
+use Rattle.solvers.specs.Told.{given_by, opened_by, opening, Hands}
 
 -- ---- a slice that is accepted, and the tables that it leaves; one that is empty
 
@@ -67,7 +67,7 @@ early-starts : {G : Type 0} (n : ℕ) (m : Answer ℕ (Unit {0})) → n ≤ 4 �
 early-starts n (got u) l k = rw (early-got n u) (ends-got (k refl))
 early-starts n (stop place) l k = rw (early-stop n place) (ends-stop l)
 
-tables_start : {G : Type 0} (program : List ℤ) (S : State) → G → Starts G (tablesAtStart program S)
+tables_start : {G : Type 0} (program : List ℤ) (S : State) → G → Starts G (tables_at_start program S)
 tables_start program S x =
     ends_on _ _ (early-starts 3 _ (omega arith) λ e. x)
     (ends_on _ _ (early-starts 3 _ (omega arith) λ e. x)
@@ -84,7 +84,7 @@ module _ (program : List ℤ) (word : ℤ) (first second : List ℤ) (S : State)
   -- ---- the statement with the first slice, and then with the second
 
   module _ {Y : State} {r : Done} (d : Does S Y r (alone program (number_of word) S first)) where
-    pub tries-first : {unread k : ℕ} → r ≡ Accepted unread k → givenBy program word first second Y First ≡ both
+    pub tries-first : {unread k : ℕ} → r ≡ Accepted unread k → given_by program word first second Y First ≡ both
     tries-first h =
         let t = taken d h in
         ap (accepting word 1 first) t.leaves ∙ sym (first-takes program word second S first t.left) ∙ ap (tries program word first second S) (sym t.is)
@@ -99,38 +99,38 @@ module _ (program : List ℤ) (word : ℤ) (first second : List ℤ) (S : State)
       stopped : tries program word first second S (stop fault) ≡ both
       stopped = ap (tries program word first second S) (sym (not_done d h).is)
 
-      firsts : tries program word first second S (stop fault) ≡ refusedBy program S fault → givenBy program word first second Y (Neither n w) ≡ both
-      firsts x = ap (λ (X : State). refusedBy program X fault) stays ∙ sym x ∙ stopped
+      firsts : tries program word first second S (stop fault) ≡ refused_by program S fault → given_by program word first second Y (Neither n w) ≡ both
+      firsts x = ap (λ (X : State). refused_by program X fault) stays ∙ sym x ∙ stopped
 
-      pub tries-neither : turnsDown n ≡ false → givenBy program word first second Y (Neither n w) ≡ both
+      pub tries-neither : turns_down n ≡ false → given_by program word first second Y (Neither n w) ≡ both
       tries-neither e = firsts (first_stops program word second S first fault e)
 
-      pub tries-empty : length second ≡ 0 → givenBy program word first second Y (Neither n w) ≡ both
+      pub tries-empty : length second ≡ 0 → given_by program word first second Y (Neither n w) ≡ both
       tries-empty z = firsts (no_second program word second S first fault (empty second z))
 
       -- the first is turned down, and the second has words: it is tried from the same tables
-      module _ (e : turnsDown n ≡ true) (z : length second ≡ 0 → ⊥) {Z : State} {q : Done} (g : Does Y Z q (alone program (number_of word) Y second)) where
+      module _ (e : turns_down n ≡ true) (z : length second ≡ 0 → ⊥) {Z : State} {q : Done} (g : Does Y Z q (alone program (number_of word) Y second)) where
         tried : Does S Z q (alone program (number_of word) S second)
         tried = rw stays at g
 
-        turned : {m : Res Left} → alone program (number_of word) S second ≡ m → thenSecond program word second S m ≡ both
-        turned x = ap (thenSecond program word second S) (sym x) ∙ sym (first-turned program word second S first fault e (not-empty second z)) ∙ stopped
+        turned : {m : Res Left} → alone program (number_of word) S second ≡ m → then_second program word second S m ≡ both
+        turned x = ap (then_second program word second S) (sym x) ∙ sym (first-turned program word second S first fault e (not-empty second z)) ∙ stopped
 
-        pub tries-second : {unread k : ℕ} → q ≡ Accepted unread k → givenBy program word first second Z Second ≡ both
+        pub tries-second : {unread k : ℕ} → q ≡ Accepted unread k → given_by program word first second Z Second ≡ both
         tries-second i =
             let t = taken tried i in
             ap (accepting word 2 second) t.leaves ∙ sym (second-takes program word second S t.left) ∙ turned t.is
 
-        pub tries-both : {m v : ℕ} → q ≡ Turned m v → givenBy program word first second Z (Neither m v) ≡ both
+        pub tries-both : {m v : ℕ} → q ≡ Turned m v → given_by program word first second Z (Neither m v) ≡ both
         tries-both {m} {v} i =
             let t = not_done tried i in
             let other : Fault = record { number = m; word = v } in
-            ap (λ (X : State). refusedBy program X other) t.stays ∙ sym (second-stops program word second S other) ∙ turned t.is
+            ap (λ (X : State). refused_by program X other) t.stays ∙ sym (second-stops program word second S other) ∙ turned t.is
 
   -- ---- the numbers of a refusal
 
   alone-small : (ws : List ℤ) {f : Fault} → alone program (number_of word) S ws ≡ stop f → f.number ≤ 19
-  alone-small ws {f} e = small ((simple-refuses program (drop (number_of word) program) S (whole ws) (verbOf (numberAt (drop (number_of word) program) 0))).bad f (sym (alone-is program (number_of word) S ws) ∙ e))
+  alone-small ws {f} e = small ((simple-refuses program (drop (number_of word) program) S (whole ws) (verb_of (number_at (drop (number_of word) program) 0))).bad f (sym (alone-is program (number_of word) S ws) ∙ e))
     where
       small : {n : ℕ} → Refusal n → n ≤ 19
       small (told a b) = b
@@ -140,7 +140,7 @@ module _ (program : List ℤ) (word : ℤ) (first second : List ℤ) (S : State)
   both_small =
       either (alone program (number_of word) S first)
       (λ l e. rw (e, first-takes program word second S first l) (omega arith))
-      (λ f e. cases (turnsDown f.number)
+      (λ f e. cases (turns_down f.number)
       (λ c. cases (none? second)
       (λ z. rw (e, no_second program word second S first f z) (alone-small first e))
       (λ z. either (alone program (number_of word) S second)
@@ -165,7 +165,7 @@ module _ (program : List ℤ) (word : ℤ) (first second : List ℤ) (S : State)
   }
 
   -- a test before it
-  alike-on : {h : Opened} {g : Given} (m : Answer Early (Unit {0})) → Starts (Alike h g) m → Alike (openedBy m h) (passing m S g)
+  alike-on : {h : Opened} {g : Given} (m : Answer Early (Unit {0})) → Starts (Alike h g) m → Alike (opened_by m h) (passing m S g)
   alike-on (got u) c = c.good u refl
   alike-on (stop e) c = refused e.number (pos e.place) (c.bad e refl)
 
@@ -177,15 +177,15 @@ module _ (program : List ℤ) (word : ℤ) (first second : List ℤ) (S : State)
   alike =
       rw (ask-is program word first second S)
       (alike-on _ (early-starts 1 _ (omega arith) λ a.
-      alike-on _ (early-starts 2 (readProgram program) (omega arith) λ b.
-      alike-cond (isNamed program word) (alike-on _ (tables_start program S (begun (program-sound program b).short))) (refused 2 word (omega arith)))))
+      alike-on _ (early-starts 2 (read_program program) (omega arith) λ b.
+      alike-cond (is_named program word) (alike-on _ (tables_start program S (begun (program-sound program b).short))) (refused 2 word (omega arith)))))
 
   -- ---- what the call hands back
 
   hands_none : {e : Given} {Z : State} {n : ℕ} {place : ℤ} {answer words : List ℤ} → e ≡ refusing Z n place → n ≤ 19 → answer ≡ word_of n ∷ place ∷ word_of 0 ∷ [] → words ≡ take 0 first
       → Hands first second Z answer words e
   hands_none {n = n} x l a w =
-      rw (x, w) (record { answers = a ∙ rw (word-is n (omega arith), word-is 0 (omega arith)); leaves = refl; hands-back = refl; start = refl })
+      rw (x, w) (record { answers = a ∙ rw (word-is n (omega arith), word-is 0 (omega arith)); leaves = refl; hands_back = refl; start = refl })
 
   hands-all : {e : Given} {Z : State} (solver : ℕ) {answer : List ℤ} → e ≡ accepting word solver (slice_of solver first second) Z → solver ≤ 2
       → answer ≡ word_of 0 ∷ word ∷ word_of solver ∷ [] → Hands first second Z answer (slice_of solver first second) e
@@ -194,7 +194,7 @@ module _ (program : List ℤ) (word : ℤ) (first second : List ℤ) (S : State)
       (record {
         answers = a ∙ rw (word-is 0 (omega arith), word-is solver (omega arith));
         leaves = refl;
-        hands-back = refl;
+        hands_back = refl;
         start = sym (take_all (length (slice_of solver first second)) (slice_of solver first second) (omega arith));
       })
 
@@ -207,7 +207,7 @@ module _ (program : List ℤ) (word : ℤ) (first second : List ℤ) (S : State)
       begins : (ask program word first second S ≡ both) × (length program ≤ 4096)
       begins = alike.begins (sym o ∙ b)
 
-      module _ {Z : State} {t : Tried} (e : givenBy program word first second Z t ≡ both) where
+      module _ {Z : State} {t : Tried} (e : given_by program word first second Z t ≡ both) where
         pub hands-first : {answer : List ℤ} → t ≡ First → answer ≡ word_of 0 ∷ word ∷ word_of 1 ∷ [] → Hands first second Z answer first (ask program word first second S)
         hands-first x a = hands-all 1 (begins.0 ∙ sym (rw x at e)) (omega arith) a
 
@@ -222,5 +222,5 @@ module _ (program : List ℤ) (word : ℤ) (first second : List ℤ) (S : State)
             hands_none (begins.0 ∙ sym y) l (rw (word-is (length program - left) (omega (arith, begins.1))) at a) w
 
 -- what is the solver's that the answer tells
-pub of-solver : {A : Type 0} (k : ℕ) → k ≤ 2 → {a b : ℤ} {answer : List ℤ} → answer ≡ a ∷ b ∷ word_of k ∷ [] → (one two : A) → slice_of (numberAt answer 2) one two ≡ slice_of k one two
+pub of-solver : {A : Type 0} (k : ℕ) → k ≤ 2 → {a b : ℤ} {answer : List ℤ} → answer ≡ a ∷ b ∷ word_of k ∷ [] → (one two : A) → slice_of (number_at answer 2) one two ≡ slice_of k one two
 of-solver k l {a} {b} x one two = rw (x, word-is k (omega arith), sym (number-drop (a ∷ b ∷ pos k ∷ []) 2 0) ∙ number-first (pos k) [])

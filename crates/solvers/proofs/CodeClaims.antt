@@ -4,7 +4,7 @@ use mathlib.Core.Logic.{◌⊎◌, inl, inr}
 use native.Mathlib.Omega.{arith}
 use Prim.Native.Nat.{ℕ, zero, suc, ◌≤◌}
 use lib.IntN.{pos}
-use Rattle.words.specs.Words.{wordAt, number_of, numberAt}
+use Rattle.words.specs.Words.{word_at, number_of, number_at}
 use Rattle.words.proofs.Laws.{number-first, number-drop}
 use Rattle.rules.specs.Solvers.{Given, ask}
 use Rattle.rules.specs.Claims.Answers.{Inside}
@@ -16,26 +16,26 @@ use Rattle.solvers.specs.Claims.{OneAnswer, EveryAnswer, AnswersExactly, EitherA
 
 -- the words of an answer are its numbers, and its place
 module _ (e : Given) where
-  outcome-is : numberAt (answer_of e) 0 ≡ e.outcome
+  outcome-is : number_at (answer_of e) 0 ≡ e.outcome
   outcome-is = number-first (pos e.outcome) _
 
-  place_is : wordAt (answer_of e) 1 ≡ e.place
+  place_is : word_at (answer_of e) 1 ≡ e.place
   place_is = refl
 
-  number_is : {k : ℕ} → e.place ≡ pos k → numberAt (answer_of e) 1 ≡ k
+  number_is : {k : ℕ} → e.place ≡ pos k → number_at (answer_of e) 1 ≡ k
   number_is z = sym (number-drop (answer_of e) 1 0) ∙ number-first e.place _ ∙ ap number_of z
 
-  solver-is : numberAt (answer_of e) 2 ≡ e.solver
+  solver-is : number_at (answer_of e) 2 ≡ e.solver
   solver-is = sym (number-drop (answer_of e) 2 0) ∙ number-first (pos e.solver) _
 
 pub one_answer : OneAnswer
-one_answer first second e Z Y a b u w m n = (m.leaves ∙ sym n.leaves, (m.answers ∙ sym n.answers, m.hands-back ∙ sym n.hands-back))
+one_answer first second e Z Y a b u w m n = (m.leaves ∙ sym n.leaves, (m.answers ∙ sym n.answers, m.hands_back ∙ sym n.hands_back))
 
 pub every-answer : EveryAnswer
 every-answer program word first second S Z a u m =
     let e = ask program word first second S in
     let f = solvers-answers program word first second S e ((solvers-rules program word first second S e).0 refl) in
-    rw (m.answers, m.leaves, m.hands-back)
+    rw (m.answers, m.leaves, m.hands_back)
     (record {
       three = refl;
       known = rw (outcome-is e) f.known;
@@ -43,11 +43,11 @@ every-answer program word first second S Z a u m =
       untouched = λ l.
           let q = f.refuses (rw (outcome-is e) at l) in
           rw (solver-is e) (ap (λ x. x.state) q, (ap (λ x. x.words) q, ap (λ x. x.solver) q));
-      at-statement = λ h apart. f.at-statement (rw (outcome-is e) at h) (rw (outcome-is e) at apart);
+      at_statement = λ h apart. f.at_statement (rw (outcome-is e) at h) (rw (outcome-is e) at apart);
       inside = λ o.
           let q = f.inside (rw (outcome-is e) at o) in
           let i = q.1.1 in
-          (q.0, (q.1.0, subst (λ k. Inside program S q.0 k (numberAt (answer_of e) 0)) (sym (number_is e i.1.0)) (subst (Inside program S q.0 i.0) (sym (outcome-is e)) i.1.1)));
+          (q.0, (q.1.0, subst (λ k. Inside program S q.0 k (number_at (answer_of e) 0)) (sym (number_is e i.1.0)) (subst (Inside program S q.0 i.0) (sym (outcome-is e)) i.1.1)));
     })
 
 pub answers-exactly : AnswersExactly
@@ -72,8 +72,8 @@ either-alone program word first second S Z a u p m passes there =
     rw (m.answers, m.leaves)
     (record {
       by_first = λ l x. let q = o.by_first l x in rw (outcome-is e, solver-is e) (ap (λ x. x.outcome) q, (ap (λ x. x.solver) q, ap (λ x. x.state) q));
-      by-second = λ l n x. let q = o.by-second l n x in rw (outcome-is e, solver-is e) (ap (λ x. x.outcome) q, (ap (λ x. x.solver) q, ap (λ x. x.state) q));
-      by-neither = λ n k. rw (outcome-is e) (neither e.outcome o.either.0 n k);
+      by_second = λ l n x. let q = o.by_second l n x in rw (outcome-is e, solver-is e) (ap (λ x. x.outcome) q, (ap (λ x. x.solver) q, ap (λ x. x.state) q));
+      by_neither = λ n k. rw (outcome-is e) (neither e.outcome o.either.0 n k);
     })
 
 pub stands_after : StandsAfter

@@ -10,14 +10,14 @@ use Rattle.words.specs.Answer.{got}
 use Rattle.words.proofs.Laws.{word-is}
 use Rattle.words.proofs.AnswerLaws.{either}
 use Rattle.fit.specs.Fit.{sized}
-use Rattle.program.specs.Reading.{readProgram}
+use Rattle.program.specs.Reading.{read_program}
 use Rattle.program.specs.declared.Verdict.{Verdict}
 use Rattle.program.specs.declared.Verdict.TheVariants.{Reads, Unfit}
-use Rattle.program.specs.Told.{verdictOf}
+use Rattle.program.specs.Told.{verdict_of}
 use Rattle.program.proofs.GrammarLaws.{program-sound}
 use Rattle.rules.specs.State.{State}
-use Rattle.rules.specs.Start.{tablesAtStart}
-use Rattle.rules.specs.Solvers.{isNamed}
+use Rattle.rules.specs.Start.{tables_at_start}
+use Rattle.rules.specs.Solvers.{is_named}
 use Rattle.rules.proofs.StartClauses.{early-got, early-stop}
 use Rattle.rules.proofs.StartRules.{unstarted-iff}
 use Rattle.rules.proofs.RunFacts.{unread-places}
@@ -25,45 +25,45 @@ use Rattle.rules.proofs.SolverRules.{sized-iff, starts-tables}
 use Rattle.proposals.proofs.FormLaws.{unlike}
 use Rattle.run.specs.declared.Started.{Started}
 use Rattle.run.specs.declared.Started.TheVariants.{Begins, Early as Stops}
-use Rattle.run.specs.Told.{startedOf}
+use Rattle.run.specs.Told.{started_of}
 use Rattle.run.proofs.ExactLaws.{early-small}
 use Rattle.solvers.specs.declared.Opened.TheVariants.{Begins as Opens, Early as Refused}
-use Rattle.solvers.specs.Told.{openedBy, opening}
+use Rattle.solvers.specs.Told.{opened_by, opening}
 
 module _ (program : List ℤ) (word : ℤ) (S : State) where
   pub opens-wrong : sized S.cells.environment S.cells.heap S.kept ≡ false → Refused 1 (pos 0) ≡ opening program word S
   opens-wrong s = rw (s, early-stop 1 0)
 
   module _ (s : sized S.cells.environment S.cells.heap S.kept ≡ true) where
-    pub opens-unread : {v : Verdict} {place : ℕ} {w : ℤ} → v ≡ verdictOf (readProgram program) → v ≡ Unfit place → w ≡ word_of place → Refused 2 w ≡ opening program word S
+    pub opens-unread : {v : Verdict} {place : ℕ} {w : ℤ} → v ≡ verdict_of (read_program program) → v ≡ Unfit place → w ≡ word_of place → Refused 2 w ≡ opening program word S
     opens-unread {place = place} e h w =
-        either (readProgram program)
+        either (read_program program)
         (λ u x. unlike (let y = sym (rw x at e) ∙ h in cc))
         (λ k x.
         let y = sym (rw x at e) ∙ h in
         let z : k ≡ place = cc in
         rw (s, early-got 1 tt, x, early-stop 2 k, w, ← z, word-is k (omega (arith, (unread-places program k x).0))))
 
-    module _ {v : Verdict} (e : v ≡ verdictOf (readProgram program)) (h : v ≡ Reads) where
-      reads : readProgram program ≡ got tt
-      reads = either {X = readProgram program ≡ got tt} (readProgram program) (λ u x. x) (λ k x. unlike (let y = sym (rw x at e) ∙ h in cc))
+    module _ {v : Verdict} (e : v ≡ verdict_of (read_program program)) (h : v ≡ Reads) where
+      reads : read_program program ≡ got tt
+      reads = either {X = read_program program ≡ got tt} (read_program program) (λ u x. x) (λ k x. unlike (let y = sym (rw x at e) ∙ h in cc))
 
-      pub opens-unnamed : isNamed program word ≡ false → Refused 2 word ≡ opening program word S
+      pub opens-unnamed : is_named program word ≡ false → Refused 2 word ≡ opening program word S
       opens-unnamed n = rw (s, early-got 1 tt, reads, early-got 2 tt, n)
 
-      module _ (n : isNamed program word ≡ true) {t : Started} (o : t ≡ startedOf (tablesAtStart program S)) where
-        here : opening program word S ≡ openedBy (tablesAtStart program S) Opens
+      module _ (n : is_named program word ≡ true) {t : Started} (o : t ≡ started_of (tables_at_start program S)) where
+        here : opening program word S ≡ opened_by (tables_at_start program S) Opens
         here = rw (s, early-got 1 tt, reads, early-got 2 tt, n)
 
         pub opens-begins : t ≡ Begins → Opens ≡ opening program word S
         opens-begins b =
-            either (tablesAtStart program S)
+            either (tables_at_start program S)
             (λ u x. rw (here, x))
             (λ f x. unlike (let y = sym (rw x at o) ∙ b in cc))
 
         pub opens-early : {number place : ℕ} {w : ℤ} → t ≡ Stops number place → w ≡ word_of place → Refused number w ≡ opening program word S
         opens-early {number = number} {place = place} b w =
-            either (tablesAtStart program S)
+            either (tables_at_start program S)
             (λ u x. unlike (let y = sym (rw x at o) ∙ b in cc))
             (λ f x.
             let y = sym (rw x at o) ∙ b in

@@ -2,10 +2,10 @@
 use Rattle.std.specs.Prelude.{◌≡◌, ℕ, ◌-◌, cond, List, [], ◌∷◌, ℤ, pos, length, take}
 use Rattle.words.specs.Answer.{Answer, got, stop, want}
 use Rattle.fit.specs.Fit.{sized}
-use Rattle.program.specs.Reading.{readProgram}
+use Rattle.program.specs.Reading.{read_program}
 use Rattle.rules.specs.State.{State}
-use Rattle.rules.specs.Start.{Early, early, tablesAtStart}
-use Rattle.rules.specs.Solvers.{Given, accepting, refusing, isNamed}
+use Rattle.rules.specs.Start.{Early, early, tables_at_start}
+use Rattle.rules.specs.Solvers.{Given, accepting, refusing, is_named}
 use Rattle.rules.specs.Claims.Solvers.{slice_of}
 use Rattle.solvers.specs.declared.Tried.{Tried}
 use Rattle.solvers.specs.declared.Tried.TheVariants.{First, Second, Neither}
@@ -14,22 +14,22 @@ use Rattle.solvers.specs.declared.Opened.TheVariants.{Begins}
 use Rattle.solvers.specs.declared.Opened.TheVariants.{Early as Refused}
 
 -- what is given for whom the code accepts, with the tables Z
-abbrev pub givenBy : List ℤ → ℤ → List ℤ → List ℤ → State → Tried → Given
-givenBy program word first second Z First = accepting word 1 first Z
-givenBy program word first second Z Second = accepting word 2 second Z
-givenBy program word first second Z (Neither n left) = refusing Z n (pos (length program - left))
+abbrev pub given_by : List ℤ → ℤ → List ℤ → List ℤ → State → Tried → Given
+given_by program word first second Z First = accepting word 1 first Z
+given_by program word first second Z Second = accepting word 2 second Z
+given_by program word first second Z (Neither n left) = refusing Z n (pos (length program - left))
 
 -- the statement may begin; or the refusal's number and place
-abbrev pub openedBy : Answer Early (Unit {0}) → Opened → Opened
-openedBy (got u) next = next
-openedBy (stop e) next = Refused e.number (pos e.place)
+abbrev pub opened_by : Answer Early (Unit {0}) → Opened → Opened
+opened_by (got u) next = next
+opened_by (stop e) next = Refused e.number (pos e.place)
 
 -- what is tried before the statement
 abbrev pub opening : List ℤ → ℤ → State → Opened
 opening program word S =
-    openedBy (early 1 (want 0 (sized S.cells.environment S.cells.heap S.kept)))
-    (openedBy (early 2 (readProgram program))
-    (cond (isNamed program word) (openedBy (tablesAtStart program S) Begins) (Refused 2 word)))
+    opened_by (early 1 (want 0 (sized S.cells.environment S.cells.heap S.kept)))
+    (opened_by (early 2 (read_program program))
+    (cond (is_named program word) (opened_by (tables_at_start program S) Begins) (Refused 2 word)))
 
 -- "It gives outcome, place" and the solver
 abbrev pub answer_of : Given → List ℤ
@@ -40,5 +40,5 @@ answer_of e = pos e.outcome ∷ e.place ∷ pos e.solver ∷ []
 pub record Hands (first second : List ℤ) (Z : State) (answer words : List ℤ) (e : Given) : Type 0 where
   pub answers : answer ≡ answer_of e
   pub leaves : Z ≡ e.state
-  pub hands-back : words ≡ e.words
+  pub hands_back : words ≡ e.words
   pub start : words ≡ take (length words) (slice_of e.solver first second)

@@ -1,7 +1,7 @@
 // The statement with one slice, which is one whole proposal.
 ghost use Rattle.std.specs.Prelude.{◌≡◌};
-ghost use Rattle.rules.specs.Solvers.{isNamed, hasMore, turnsDown};
-ghost use Rattle.rules.specs.Solvers.{alone as aloneBy};
+ghost use Rattle.rules.specs.Solvers.{is_named, has_more, turns_down};
+ghost use Rattle.rules.specs.Solvers.{alone as alone_by};
 ghost use Rattle.phases.specs.Told.{tables, Does};
 
 use phases::Done;
@@ -9,7 +9,7 @@ use program::Spot;
 
 // The word is that of one of the statements 1 to 4.
 pub(crate) fn is_named(program: &[i32], word: i32) -> bool
-    ensures { result ≡ isNamed program.now word }
+    ensures { result ≡ is_named program.now word }
 {
     match program::places::statement_at(program, words::number(word)) {
         Spot::Nowhere => false,
@@ -24,7 +24,7 @@ pub(crate) fn is_named(program: &[i32], word: i32) -> bool
 
 // More words than n pairs take. Where n is doubled it is below the length, so that 2 n + 1 fits.
 fn has_more(slice: &[i32]) -> bool
-    ensures { result ≡ hasMore slice.now }
+    ensures { result ≡ has_more slice.now }
 {
     let n = words::number_at(slice, 0);
     if slice.len() <= n {
@@ -42,7 +42,7 @@ pub(crate) fn alone(
     slice: &[i32],
     at: usize,
 ) -> Done
-    ensures { Does (tables environment.old heap.old constraints.old) (tables environment.new heap.new constraints.new) result (aloneBy program.now at (tables environment.old heap.old constraints.old) slice.now) }
+    ensures { Does (tables environment.old heap.old constraints.old) (tables environment.new heap.new constraints.new) result (alone_by program.now at (tables environment.old heap.old constraints.old) slice.now) }
 {
     if has_more(slice) {
         let unfit: [i32; 1] = [-1; 1];
@@ -53,7 +53,7 @@ pub(crate) fn alone(
 
 // The number is one that turns a proposal down, after which the next is tried.
 pub(crate) fn turns_down(number: usize) -> bool
-    ensures { result ≡ turnsDown number }
+    ensures { result ≡ turns_down number }
 {
     if number == 6 {
         return true;

@@ -1,11 +1,11 @@
 // The call: the start, the statement with the first slice, and then with the second.
 ghost use Rattle.std.specs.Prelude.{◌≡◌, [], ◌∷◌};
-ghost use Rattle.words.specs.Words.{number_of, numberAt, word_of};
-ghost use Rattle.rules.specs.Solvers.{tries, ask as askBy};
-ghost use Rattle.rules.specs.Solvers.{alone as aloneBy};
+ghost use Rattle.words.specs.Words.{number_of, number_at, word_of};
+ghost use Rattle.rules.specs.Solvers.{tries, ask as ask_by};
+ghost use Rattle.rules.specs.Solvers.{alone as alone_by};
 ghost use Rattle.rules.specs.Claims.Solvers.{slice_of};
 ghost use Rattle.phases.specs.Told.{tables};
-ghost use Rattle.solvers.specs.Told.{givenBy, opening, Hands};
+ghost use Rattle.solvers.specs.Told.{given_by, opening, Hands};
 
 use super::slices::{alone, is_named, turns_down};
 use crate::{Opened, Tried};
@@ -23,7 +23,7 @@ fn attempt(
     first: &[i32],
     second: &[i32],
 ) -> Tried
-    ensures { givenBy program.now word first.now second.now (tables environment.new heap.new constraints.new) result ≡ tries program.now word first.now second.now (tables environment.old heap.old constraints.old) (aloneBy program.now (number_of word) (tables environment.old heap.old constraints.old) first.now) }
+    ensures { given_by program.now word first.now second.now (tables environment.new heap.new constraints.new) result ≡ tries program.now word first.now second.now (tables environment.old heap.old constraints.old) (alone_by program.now (number_of word) (tables environment.old heap.old constraints.old) first.now) }
 {
     let at = words::number(word);
     match alone(program, environment, heap, constraints, first, at) {
@@ -91,8 +91,8 @@ pub fn ask<'a>(
     second: &'a [i32],
     answer: &mut [i32; 3],
 ) -> &'a [i32]
-    ensures hands { Hands first.now second.now (tables environment.new heap.new constraints.new) answer.new result.now (askBy program.now word first.now second.now (tables environment.old heap.old constraints.old)) }
-    ensures place { result.ref_ptr ≡ slice_of (numberAt answer.new 2) first.entry.ref_ptr second.entry.ref_ptr }
+    ensures hands { Hands first.now second.now (tables environment.new heap.new constraints.new) answer.new result.now (ask_by program.now word first.now second.now (tables environment.old heap.old constraints.old)) }
+    ensures place { result.ref_ptr ≡ slice_of (number_at answer.new 2) first.entry.ref_ptr second.entry.ref_ptr }
 {
     match opens(program, environment, heap, constraints, word) {
         Opened::Early(number, place) => {

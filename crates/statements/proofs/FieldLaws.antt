@@ -7,66 +7,66 @@ use native.Mathlib.Decide.{dec_lt}
 use lib.IntN.{ℤ, pos}
 use lib.ListN.{length, set, drop, length-set, length-append, get_or-append}
 use lib.Seq.{get_or-set_same, get_or-set_other, get_or-append-add}
-use Rattle.words.specs.Words.{wordAt, numberAt, last_of, word_of}
+use Rattle.words.specs.Words.{word_at, number_at, last_of, word_of}
 use Rattle.words.specs.Answer.{got, stop, ◌>>=◌}
 use Rattle.words.proofs.Laws.{word-is}
 use Rattle.words.proofs.AnswerLaws.{stop≢got, got-inj}
 use Rattle.tables.specs.declared.Value.{Value}
 use Rattle.tables.specs.declared.Cell.{Cell}
 use Rattle.tables.specs.Values.{cell_of}
-use Rattle.tables.specs.Sizes.{mostFields, labels}
+use Rattle.tables.specs.Sizes.{most_fields, labels}
 use Rattle.tables.specs.Cells.{Cells}
 use Rattle.program.specs.Reading.{number}
-use Rattle.program.proofs.NumberLaws.{number_fits, number-high}
+use Rattle.program.proofs.NumberLaws.{number_fits_lem, number-high}
 use Rattle.program.proofs.LengthLaws.{Part, part-drop, part-trans}
 use Rattle.program.proofs.RowLaws.{last-part, last-all}
 use Rattle.rules.specs.State.{Res, reads}
 use Rattle.rules.specs.Evaluation.{evaluate}
-use Rattle.rules.specs.Statements.{fieldWords}
+use Rattle.rules.specs.Statements.{field_words}
 use Rattle.rules.proofs.EvaluateClauses.{evaluate-part}
 use Rattle.rules.proofs.StatementClauses.{fields-none, fields-more}
 use Rattle.expressions.specs.declared.Evaluated.{Evaluated}
 use Rattle.expressions.specs.declared.Evaluated.TheVariants.{Got, Fails as Fault-at}
-use Rattle.expressions.specs.Told.{evaluatedOf}
+use Rattle.expressions.specs.Told.{evaluated_of}
 use Rattle.expressions.proofs.LeafLaws.{got-on}
 use Rattle.proposals.proofs.FormLaws.{unlike}
 use Rattle.statements.specs.declared.Fields.TheVariants.{All, Fails}
-use Rattle.statements.specs.Filling.{fieldsWords, Fills}
+use Rattle.statements.specs.Filling.{fields_words, Fills}
 
 -- ---- three words more
 
-abbrev threeAt : List ℤ → ℕ → ℤ → ℤ → ℤ → List ℤ
-threeAt s i a b c = set (set (set s (3 * i) a) (3 * i + 1) b) (3 * i + 2) c
+abbrev three_at : List ℤ → ℕ → ℤ → ℤ → ℤ → List ℤ
+three_at s i a b c = set (set (set s (3 * i) a) (3 * i + 1) b) (3 * i + 2) c
 
 module _ (s done : List ℤ) (i : ℕ) (a b c : ℤ) where
-  three-before : (k : ℕ) → k < 3 * i → wordAt (threeAt s i a b c) k ≡ wordAt s k
+  three-before : (k : ℕ) → k < 3 * i → word_at (three_at s i a b c) k ≡ word_at s k
   three-before k h =
       get_or-set_other (set (set s (3 * i) a) (3 * i + 1) b) (3 * i + 2) k c (pos 0) (λ e. omega arith)
       ∙ get_or-set_other (set s (3 * i) a) (3 * i + 1) k b (pos 0) (λ e. omega arith) ∙ get_or-set_other s (3 * i) k a (pos 0) (λ e. omega arith)
 
   module _ (long : 3 * i + 2 < length s) where
-    three-first : wordAt (threeAt s i a b c) (3 * i) ≡ a
+    three-first : word_at (three_at s i a b c) (3 * i) ≡ a
     three-first =
         get_or-set_other (set (set s (3 * i) a) (3 * i + 1) b) (3 * i + 2) (3 * i) c (pos 0) (λ e. omega arith)
         ∙ get_or-set_other (set s (3 * i) a) (3 * i + 1) (3 * i) b (pos 0) (λ e. omega arith) ∙ get_or-set_same s (3 * i) a (pos 0) (omega arith)
 
-    three-second : wordAt (threeAt s i a b c) (3 * i + 1) ≡ b
+    three-second : word_at (three_at s i a b c) (3 * i + 1) ≡ b
     three-second =
         get_or-set_other (set (set s (3 * i) a) (3 * i + 1) b) (3 * i + 2) (3 * i + 1) c (pos 0) (λ e. omega arith)
         ∙ get_or-set_same (set s (3 * i) a) (3 * i + 1) b (pos 0) (simp length-set (omega arith))
 
-    three_third : wordAt (threeAt s i a b c) (3 * i + 2) ≡ c
+    three_third : word_at (three_at s i a b c) (3 * i + 2) ≡ c
     three_third = get_or-set_same (set (set s (3 * i) a) (3 * i + 1) b) (3 * i + 2) c (pos 0) (simp length-set (omega arith))
 
     -- the words stored are those of a list that grows by the same three
-    three-more : length done ≡ 3 * i → ((k : ℕ) → k < 3 * i → wordAt s k ≡ wordAt done k)
-        → (k : ℕ) → k < 3 * (i + 1) → wordAt (threeAt s i a b c) k ≡ wordAt (done ++ a ∷ b ∷ c ∷ []) k
+    three-more : length done ≡ 3 * i → ((k : ℕ) → k < 3 * i → word_at s k ≡ word_at done k)
+        → (k : ℕ) → k < 3 * (i + 1) → word_at (three_at s i a b c) k ≡ word_at (done ++ a ∷ b ∷ c ∷ []) k
     three-more l f k h = go (dec_lt k (3 * i)) (dec_lt k (3 * i + 1)) (dec_lt k (3 * i + 2))
       where
-        after : (j : ℕ) → wordAt (done ++ a ∷ b ∷ c ∷ []) (3 * i + j) ≡ wordAt (a ∷ b ∷ c ∷ []) j
+        after : (j : ℕ) → word_at (done ++ a ∷ b ∷ c ∷ []) (3 * i + j) ≡ word_at (a ∷ b ∷ c ∷ []) j
         after j = rw l at (get_or-append-add done (a ∷ b ∷ c ∷ []) j (pos 0))
 
-        go : Dec (k < 3 * i) → Dec (k < 3 * i + 1) → Dec (k < 3 * i + 2) → wordAt (threeAt s i a b c) k ≡ wordAt (done ++ a ∷ b ∷ c ∷ []) k
+        go : Dec (k < 3 * i) → Dec (k < 3 * i + 1) → Dec (k < 3 * i + 2) → word_at (three_at s i a b c) k ≡ word_at (done ++ a ∷ b ∷ c ∷ []) k
         go (yes y) d e = three-before k y ∙ f k y ∙ sym (get_or-append done (a ∷ b ∷ c ∷ []) (pos 0) k (omega arith))
         go (no n) (yes y) e =
             let q : k ≡ 3 * i = omega arith in
@@ -82,13 +82,13 @@ pub record FieldsLeft (S : Cells) (n : ℕ) (p before fields : List ℤ) (i left
   pub long : length fields ≡ length before
   pub done : List ℤ
   pub count : length done ≡ 3 * i
-  pub same : (k : ℕ) → k < 3 * i → wordAt fields k ≡ wordAt done k
-  pub rest : (fieldWords (n - i) S (last_of left p) >>= λ more. got (done ++ more)) ≡ fieldWords n S p
+  pub same : (k : ℕ) → k < 3 * i → word_at fields k ≡ word_at done k
+  pub rest : (field_words (n - i) S (last_of left p) >>= λ more. got (done ++ more)) ≡ field_words n S p
 
 pub fields-start : {S : Cells} {n : ℕ} {p fields : List ℤ} → FieldsLeft S n p fields fields 0 (length p)
 fields-start {S = S} {n = n} {p = p} =
     let z : n - 0 ≡ n = omega arith in
-    record { inside = omega arith; long = refl; done = []; count = refl; same = λ k h. absurd (omega arith); rest = rw (z, last-all p) (by (fieldWords n S p)) }
+    record { inside = omega arith; long = refl; done = []; count = refl; same = λ k h. absurd (omega arith); rest = rw (z, last-all p) (by (field_words n S p)) }
   where
     by : (m : Res (List ℤ)) → (m >>= λ more. got more) ≡ m
     by (got x) = refl
@@ -99,34 +99,34 @@ not-filled e = record { is = rw (← e); same = λ fs h. stop≢got (e ∙ h) }
 
 module _ {S : Cells} {n : ℕ} {p before fields : List ℤ} {i left : ℕ} (inv : FieldsLeft S n p before fields i left) where
   module _ (more : i < n) {q : List ℤ} (part : q ≡ last_of left p) where
-    fields-turn : ((reads (number 0 31 q) >>= λ x. evaluate 16 S x.1 >>= λ y. fieldWords (n - (i + 1)) S y.1 >>= λ more. got (pos x.0 ∷ (cell_of y.0).kind ∷ (cell_of y.0).payload ∷ more)) >>= λ more. got (inv.done ++ more)) ≡ fieldWords n S p
+    fields-turn : ((reads (number 0 31 q) >>= λ x. evaluate 16 S x.1 >>= λ y. field_words (n - (i + 1)) S y.1 >>= λ more. got (pos x.0 ∷ (cell_of y.0).kind ∷ (cell_of y.0).payload ∷ more)) >>= λ more. got (inv.done ++ more)) ≡ field_words n S p
     fields-turn = let z : n - i ≡ suc (n - (i + 1)) = omega arith in rw (z, ← part, fields-more S q (n - (i + 1))) at inv.rest
 
-    pub fields-label : labels ≤ numberAt q 0 → Fills fields n (Fails 2 (length q)) (fieldWords n S p)
+    pub fields-label : labels ≤ number_at q 0 → Fills fields n (Fails 2 (length q)) (field_words n S p)
     fields-label h = not-filled (rw (number-high 0 31 q (omega arith) (omega arith)) at fields-turn)
 
-    module _ {label : ℕ} (is : label ≡ numberAt q 0) (small : label < labels) {t : List ℤ} (after : t ≡ drop 1 q) {r : Evaluated} (e : r ≡ evaluatedOf (evaluate 16 S t)) where
-      fields_value : ((evaluate 16 S t >>= λ y. fieldWords (n - (i + 1)) S y.1 >>= λ more. got (pos label ∷ (cell_of y.0).kind ∷ (cell_of y.0).payload ∷ more)) >>= λ more. got (inv.done ++ more)) ≡ fieldWords n S p
-      fields_value = rw (number_fits 0 31 q (omega arith) (omega arith), ← is, ← after) at fields-turn
+    module _ {label : ℕ} (is : label ≡ number_at q 0) (small : label < labels) {t : List ℤ} (after : t ≡ drop 1 q) {r : Evaluated} (e : r ≡ evaluated_of (evaluate 16 S t)) where
+      fields_value : ((evaluate 16 S t >>= λ y. field_words (n - (i + 1)) S y.1 >>= λ more. got (pos label ∷ (cell_of y.0).kind ∷ (cell_of y.0).payload ∷ more)) >>= λ more. got (inv.done ++ more)) ≡ field_words n S p
+      fields_value = rw (number_fits_lem 0 31 q (omega arith) (omega arith), ← is, ← after) at fields-turn
 
-      pub fields-stop : {a w : ℕ} → r ≡ Fault-at a w → Fills fields n (Fails a w) (fieldWords n S p)
+      pub fields-stop : {a w : ℕ} → r ≡ Fault-at a w → Fills fields n (Fails a w) (field_words n S p)
       fields-stop h = not-filled (by (evaluate 16 S t) _ _ (sym e ∙ h) ∙ fields_value)
         where
-          by : {a w : ℕ} (m : Res (Value × List ℤ)) (f : Value × List ℤ → Res (List ℤ)) (g : List ℤ → Res (List ℤ)) → evaluatedOf m ≡ Fault-at a w → stop (record { number = a; word = w }) ≡ (m >>= f >>= g)
+          by : {a w : ℕ} (m : Res (Value × List ℤ)) (f : Value × List ℤ → Res (List ℤ)) (g : List ℤ → Res (List ℤ)) → evaluated_of m ≡ Fault-at a w → stop (record { number = a; word = w }) ≡ (m >>= f >>= g)
           by (got x) f g h = unlike cc
           by {a = a} {w = w} (stop x) f g h =
               let y : x.number ≡ a = cc in
               let z : x.word ≡ w = cc in
               rw (← y, ← z)
 
-      pub fields-go-on : {v : Value} {rest : ℕ} {c : Cell} {one two three : List ℤ} {word kind payload : ℤ} → r ≡ Got v rest → n ≤ mostFields → fieldsWords ≤ length before → c ≡ cell_of v
+      pub fields-go-on : {v : Value} {rest : ℕ} {c : Cell} {one two three : List ℤ} {word kind payload : ℤ} → r ≡ Got v rest → n ≤ most_fields → fields_words ≤ length before → c ≡ cell_of v
           → word ≡ word_of label → kind ≡ c.kind → payload ≡ c.payload → one ≡ set fields (3 * i) word → two ≡ set one (3 * i + 1) kind → three ≡ set two (3 * i + 2) payload
           → FieldsLeft S n p before three (i + 1) rest
       fields-go-on {v = v} {rest = rest} {three = three} h few room k w kd py x y z =
           let a : evaluate 16 S t ≡ got (v, last_of rest t) = got-on (evaluate 16 S t) (λ x j. evaluate-part S 16 t x j) e h refl in
           let kind = (cell_of v).kind in
           let payload = (cell_of v).payload in
-          let s : three ≡ threeAt fields i (pos label) kind payload = z ∙ rw (y, x, w, kd, py, k, word-is label (omega arith)) in
+          let s : three ≡ three_at fields i (pos label) kind payload = z ∙ rw (y, x, w, kd, py, k, word-is label (omega arith)) in
           let l : length three ≡ length fields = rw s (simp length-set) in
           let u : last_of rest p ≡ last_of rest t = here a in
           record {
@@ -135,7 +135,7 @@ module _ {S : Cells} {n : ℕ} {p before fields : List ℤ} {i left : ℕ} (inv 
             done = inv.done ++ pos label ∷ kind ∷ payload ∷ [];
             count = length-append inv.done (pos label ∷ kind ∷ payload ∷ []) ∙ omega (arith, inv.count);
             same = rw s (three-more fields inv.done i (pos label) kind payload (omega (arith, inv.long)) inv.count inv.same);
-            rest = rw u (by (fieldWords (n - (i + 1)) S (last_of rest t)) ∙ (rw a at fields_value));
+            rest = rw u (by (field_words (n - (i + 1)) S (last_of rest t)) ∙ (rw a at fields_value));
           }
         where
           here : evaluate 16 S t ≡ got (v, last_of rest t) → last_of rest p ≡ last_of rest t
@@ -151,11 +151,11 @@ module _ {S : Cells} {n : ℕ} {p before fields : List ℤ} {i left : ℕ} (inv 
           by (got x) = ap got (append_assoc inv.done (pos label ∷ (cell_of v).kind ∷ (cell_of v).payload ∷ []) x)
           by (stop f) = refl
 
-  pub fields-end : n ≤ i → Fills fields n All (fieldWords n S p)
+  pub fields-end : n ≤ i → Fills fields n All (field_words n S p)
   fields-end h =
       let z : n - i ≡ 0 = omega arith in
       let j : i ≡ n = omega (arith, inv.inside) in
-      let d : got inv.done ≡ fieldWords n S p = rw (z, fields-none S (last_of left p), append-nil inv.done) at inv.rest in
+      let d : got inv.done ≡ field_words n S p = rw (z, fields-none S (last_of left p), append-nil inv.done) at inv.rest in
       record {
         is = rw (← d);
         same = λ fs e k l. let f : inv.done ≡ fs = got-inj (d ∙ e) in rw (← f) (inv.same k (omega arith));

@@ -4,6 +4,6 @@ use Rattle.rules.specs.State.{Res}
 use Rattle.statements.specs.declared.Sameness.{Sameness}
 use Rattle.statements.specs.declared.Sameness.TheVariants.{Holds, Fails}
 
-abbrev pub samenessOf : Res (Unit {0}) → Sameness
-samenessOf (got u) = Holds
-samenessOf (stop f) = Fails f.number f.word
+abbrev pub sameness_of : Res (Unit {0}) → Sameness
+sameness_of (got u) = Holds
+sameness_of (stop f) = Fails f.number f.word

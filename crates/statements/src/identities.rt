@@ -1,8 +1,8 @@
 // L == L, tested now.
 ghost use Rattle.std.specs.Prelude.{◌≡◌, drop};
 ghost use Rattle.tables.specs.Cells.{cells};
-ghost use Rattle.rules.specs.Identities.{sameNow};
-ghost use Rattle.statements.specs.Told.{samenessOf};
+ghost use Rattle.rules.specs.Identities.{same_now};
+ghost use Rattle.statements.specs.Told.{sameness_of};
 
 use crate::Sameness;
 use expressions::Evaluated;
@@ -10,7 +10,7 @@ use phases::classes::is_node;
 
 // Both sides of the identity at s hold references or nil, and the same one: 7, 8, 11. s begins at the statement's word.
 pub fn same_now(environment: &[i32], heap: &[i32], s: &[i32]) -> Sameness
-    ensures { result ≡ samenessOf (sameNow (cells environment.now heap.now) s.now (drop 1 s.now)) }
+    ensures { result ≡ sameness_of (same_now (cells environment.now heap.now) s.now (drop 1 s.now)) }
 {
     let p = words::part_from(s, 1);
     match expressions::paths::value_at(environment, heap, p) {

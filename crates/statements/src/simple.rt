@@ -1,12 +1,12 @@
 // Each statement that holds no block, by itself.
 ghost use Rattle.std.specs.Prelude.{◌≡◌, ◌≤◌, length, drop};
-ghost use Rattle.words.specs.Words.{numberAt};
-ghost use Rattle.tables.specs.Sizes.{mostFields};
+ghost use Rattle.words.specs.Words.{number_at};
+ghost use Rattle.tables.specs.Sizes.{most_fields};
 ghost use Rattle.tables.specs.Cells.{cells};
-ghost use Rattle.program.specs.Forms.{verbOf};
-ghost use Rattle.rules.specs.Statements.{hasRoom, keep, doAssign, fieldWords, doNew, doConstraint, doIdentity, doSimple};
+ghost use Rattle.program.specs.Forms.{verb_of};
+ghost use Rattle.rules.specs.Statements.{has_room, keep, do_assign, field_words, do_new, do_constraint, do_identity, do_simple};
 ghost use Rattle.phases.specs.Told.{tables, Does};
-ghost use Rattle.statements.specs.Filling.{fieldsWords, Fills};
+ghost use Rattle.statements.specs.Filling.{fields_words, Fills};
 
 use super::identities::same_now;
 use crate::{FIELDS_WORDS, Fields, Sameness};
@@ -26,7 +26,7 @@ fn assign(
     proposals: &[i32],
     p: &[i32],
 ) -> Done
-    ensures { Does (tables environment.old heap.old constraints.now) (tables environment.new heap.new constraints.now) result (doAssign program.now p.now (tables environment.old heap.old constraints.now) proposals.now) }
+    ensures { Does (tables environment.old heap.old constraints.now) (tables environment.new heap.new constraints.now) result (do_assign program.now p.now (tables environment.old heap.old constraints.now) proposals.now) }
 {
     let q = words::part_from(p, 1);
     let path = program::reading::read_path(q);
@@ -39,9 +39,9 @@ fn assign(
 
 // n times label and e, at p: the label, kind and payload of each field.
 fn field_words(environment: &[i32], heap: &[i32], p: &[i32], n: usize, fields: &mut [i32]) -> Fields
-    requires n_le_most_fields { n ≤ mostFields }
-    requires fields_words_in_bounds { fieldsWords ≤ length fields.old }
-    ensures { Fills fields.new n result (fieldWords n (cells environment.now heap.now) p.now) }
+    requires n_le_most_fields { n ≤ most_fields }
+    requires fields_words_in_bounds { fields_words ≤ length fields.old }
+    ensures { Fills fields.new n result (field_words n (cells environment.now heap.now) p.now) }
 {
     let mut left = p.len();
     let mut i: usize = 0;
@@ -77,7 +77,7 @@ fn make_new(
     proposals: &[i32],
     p: &[i32],
 ) -> Done
-    ensures { Does (tables environment.old heap.old constraints.now) (tables environment.new heap.new constraints.now) result (doNew program.now p.now (tables environment.old heap.old constraints.now) proposals.now) }
+    ensures { Does (tables environment.old heap.old constraints.now) (tables environment.new heap.new constraints.now) result (do_new program.now p.now (tables environment.old heap.old constraints.now) proposals.now) }
 {
     let q = words::part_from(p, 1);
     let x = words::number_at(q, 0);
@@ -108,7 +108,7 @@ fn make_new(
 
 // There is room for a position not yet kept.
 fn has_room(constraints: &[i32], s: Sort, position: usize) -> bool
-    ensures { result ≡ hasRoom constraints.now s position }
+    ensures { result ≡ has_room constraints.now s position }
 {
     if tables::kept::is_kept(constraints, s, position) {
         return true;
@@ -136,7 +136,7 @@ fn constrain(
     p: &[i32],
     keeps: bool,
 ) -> Done
-    ensures { Does (tables environment.old heap.old constraints.old) (tables environment.new heap.new constraints.new) result (doConstraint keeps program.now p.now (tables environment.old heap.old constraints.old) proposals.now) }
+    ensures { Does (tables environment.old heap.old constraints.old) (tables environment.new heap.new constraints.new) result (do_constraint keeps program.now p.now (tables environment.old heap.old constraints.old) proposals.now) }
 {
     let position = words::less(program.len(), p.len());
     let asked = Asked {
@@ -166,7 +166,7 @@ fn identify(
     p: &[i32],
     keeps: bool,
 ) -> Done
-    ensures { Does (tables environment.now heap.now constraints.old) (tables environment.now heap.now constraints.new) result (doIdentity keeps program.now p.now (tables environment.now heap.now constraints.old) proposals.now) }
+    ensures { Does (tables environment.now heap.now constraints.old) (tables environment.now heap.now constraints.new) result (do_identity keeps program.now p.now (tables environment.now heap.now constraints.old) proposals.now) }
 {
     let position = words::less(program.len(), p.len());
     match same_now(environment, heap, p) {
@@ -194,7 +194,7 @@ pub fn simple_at(
     p: &[i32],
     verb: usize,
 ) -> Done
-    ensures { Does (tables environment.old heap.old constraints.old) (tables environment.new heap.new constraints.new) result (doSimple program.now p.now (tables environment.old heap.old constraints.old) proposals.now (verbOf verb)) }
+    ensures { Does (tables environment.old heap.old constraints.old) (tables environment.new heap.new constraints.new) result (do_simple program.now p.now (tables environment.old heap.old constraints.old) proposals.now (verb_of verb)) }
 {
     match verb {
         0 => Done::Accepted(proposals.len(), 0),
@@ -217,7 +217,7 @@ pub fn alone(
     proposals: &[i32],
     position: usize,
 ) -> Done
-    ensures { Does (tables environment.old heap.old constraints.old) (tables environment.new heap.new constraints.new) result (doSimple program.now (drop position program.now) (tables environment.old heap.old constraints.old) proposals.now (verbOf (numberAt (drop position program.now) 0))) }
+    ensures { Does (tables environment.old heap.old constraints.old) (tables environment.new heap.new constraints.new) result (do_simple program.now (drop position program.now) (tables environment.old heap.old constraints.old) proposals.now (verb_of (number_at (drop position program.now) 0))) }
 {
     let p = words::part_from(program, position);
     simple_at(

@@ -7,10 +7,10 @@ use native.Mathlib.Omega.{arith}
 use borrow.Author.Tests.{lt-ltb, le-ltb, le-leb, ltb-true, leb-true, eq-eqb}
 use lib.Dec.{ltb, leb, eqb}
 use lib.IntN.{ℤ}
-use Rattle.tables.specs.Sizes.{fieldLocation}
+use Rattle.tables.specs.Sizes.{field_location}
 use Rattle.tables.specs.Search.{first}
-use Rattle.tables.specs.Records.{countAt, fieldCount, labelAt, placeWith, fieldWith}
-use Rattle.tables.specs.Kept.{mostKept, keptNumber, keptCount, positionAt, isKept}
+use Rattle.tables.specs.Records.{count_at, field_count, label_at, place_with, field_with}
+use Rattle.tables.specs.Kept.{most_kept, kept_number, kept_count, position_at, is_kept}
 use Rattle.tables.specs.declared.Sort.{Sort}
 use Rattle.tables.specs.declared.Found.TheVariants.{At, Nothing}
 use Rattle.tables.proofs.SearchLaws.{Seeking, seeking-hits, seeking-ends, cases}
@@ -18,76 +18,76 @@ use Rattle.tables.proofs.CellLaws.{location-low}
 
 -- ---- field counts
 
-pub count-in : (h : List ℤ) (r : ℕ) → countAt h r ≤ 8 → r < 64
-unfolding countAt
+pub count-in : (h : List ℤ) (r : ℕ) → count_at h r ≤ 8 → r < 64
+unfolding count_at
 count-in h r l = cases (ltb r 64) (λ e. ltb-true r 64 e) (λ e. let k : 2147483648 ≤ 8 = rw e at l in let z : ⊥ = omega arith in absurd z)
 
-pub fields-are : (h : List ℤ) (r : ℕ) → countAt h r ≤ 8 → fieldCount h r ≡ countAt h r
-unfolding fieldCount
-fields-are h r b = rw (le-leb (countAt h r) 8 b)
+pub fields-are : (h : List ℤ) (r : ℕ) → count_at h r ≤ 8 → field_count h r ≡ count_at h r
+unfolding field_count
+fields-are h r b = rw (le-leb (count_at h r) 8 b)
 
 -- the count as it is written decides
-pub fields-same : (h k : List ℤ) (r : ℕ) → countAt h r ≡ countAt k r → fieldCount h r ≡ fieldCount k r
-unfolding fieldCount
+pub fields-same : (h k : List ℤ) (r : ℕ) → count_at h r ≡ count_at k r → field_count h r ≡ field_count k r
+unfolding field_count
 fields-same h k r e = rw e
 
-pub no_fields : (h : List ℤ) (r : ℕ) → 64 ≤ r → fieldCount h r ≡ 0
-unfolding fieldCount countAt
+pub no_fields : (h : List ℤ) (r : ℕ) → 64 ≤ r → field_count h r ≡ 0
+unfolding field_count count_at
 no_fields h r a = rw (le-ltb r 64 a)
 
-pub fields-small : (h : List ℤ) (r : ℕ) → fieldCount h r ≤ 8
-unfolding fieldCount
-fields-small h r = cases (leb (countAt h r) 8) (λ e. rw e (leb-true (countAt h r) 8 e)) (λ e. rw e (omega arith))
+pub fields-small : (h : List ℤ) (r : ℕ) → field_count h r ≤ 8
+unfolding field_count
+fields-small h r = cases (leb (count_at h r) 8) (λ e. rw e (leb-true (count_at h r) 8 e)) (λ e. rw e (omega arith))
 
 -- a field place below the count is one of eight, in one of 64 records
-pub field_in : (h : List ℤ) (r f : ℕ) → f < fieldCount h r → (r < 64) × (f < 8)
-unfolding fieldCount
-field_in h r f l = cases (leb (countAt h r) 8)
-    (λ e. let b : countAt h r ≤ 8 = leb-true (countAt h r) 8 e in
-    let k : f < countAt h r = rw e at l in
+pub field_in : (h : List ℤ) (r f : ℕ) → f < field_count h r → (r < 64) × (f < 8)
+unfolding field_count
+field_in h r f l = cases (leb (count_at h r) 8)
+    (λ e. let b : count_at h r ≤ 8 = leb-true (count_at h r) 8 e in
+    let k : f < count_at h r = rw e at l in
     (count-in h r b, omega arith))
     (λ e. let k : f < 0 = rw e at l in let z : ⊥ = omega arith in absurd z)
 
 module _ (h : List ℤ) (r label : ℕ) where
-  pub find-hits : (f : ℕ) → Seeking (λ g. eqb (labelAt h r g) label) (fieldCount h r) f → f < fieldCount h r → labelAt h r f ≡ label → At (fieldLocation r f) ≡ fieldWith h r label
-  unfolding fieldWith placeWith
+  pub find-hits : (f : ℕ) → Seeking (λ g. eqb (label_at h r g) label) (field_count h r) f → f < field_count h r → label_at h r f ≡ label → At (field_location r f) ≡ field_with h r label
+  unfolding field_with place_with
   find-hits f inv l e =
-      let q : first (λ g. eqb (labelAt h r g) label) 0 (fieldCount h r) ≡ f = seeking-hits inv l (eq-eqb (labelAt h r f) label e) in
-      rw (q, lt-ltb f (fieldCount h r) l)
+      let q : first (λ g. eqb (label_at h r g) label) 0 (field_count h r) ≡ f = seeking-hits inv l (eq-eqb (label_at h r f) label e) in
+      rw (q, lt-ltb f (field_count h r) l)
 
-  pub find-ends : (f : ℕ) → Seeking (λ g. eqb (labelAt h r g) label) (fieldCount h r) f → fieldCount h r ≤ f → Nothing ≡ fieldWith h r label
-  unfolding fieldWith placeWith
+  pub find-ends : (f : ℕ) → Seeking (λ g. eqb (label_at h r g) label) (field_count h r) f → field_count h r ≤ f → Nothing ≡ field_with h r label
+  unfolding field_with place_with
   find-ends f inv l =
-      let q : first (λ g. eqb (labelAt h r g) label) 0 (fieldCount h r) ≡ fieldCount h r = seeking-ends inv l in
-      rw (q, le-ltb (fieldCount h r) (fieldCount h r) (omega arith))
+      let q : first (λ g. eqb (label_at h r g) label) 0 (field_count h r) ≡ field_count h r = seeking-ends inv l in
+      rw (q, le-ltb (field_count h r) (field_count h r) (omega arith))
 
 -- the location of a field that is found
-pub find-below : (h : List ℤ) (r label l : ℕ) → fieldWith h r label ≡ At l → l < 576
-unfolding fieldWith
-find-below h r label l e = cases (ltb (placeWith h r label) (fieldCount h r))
+pub find-below : (h : List ℤ) (r label l : ℕ) → field_with h r label ≡ At l → l < 576
+unfolding field_with
+find-below h r label l e = cases (ltb (place_with h r label) (field_count h r))
     (λ t.
-    let i = field_in h r (placeWith h r label) (ltb-true (placeWith h r label) (fieldCount h r) t) in
-    let q : At (fieldLocation r (placeWith h r label)) ≡ At l = rw t at e in
-    let k : l ≡ fieldLocation r (placeWith h r label) = cc in
-    rw k (location-low r (placeWith h r label) i.0 i.1))
+    let i = field_in h r (place_with h r label) (ltb-true (place_with h r label) (field_count h r) t) in
+    let q : At (field_location r (place_with h r label)) ≡ At l = rw t at e in
+    let k : l ≡ field_location r (place_with h r label) = cc in
+    rw k (location-low r (place_with h r label) i.0 i.1))
     (λ t. let q : Nothing ≡ At l = rw t at e in let z : ◌≡◌ {A = ℕ} 0 1 = cc in let y : ⊥ = omega arith in absurd y)
 
 -- kept positions: no more than there is room for
-pub kept_in : (c : List ℤ) (s : Sort) → keptCount c s ≤ mostKept s
-unfolding keptCount
-kept_in c s = cases (leb (keptNumber c s) (mostKept s))
-    (λ e. rw e (leb-true (keptNumber c s) (mostKept s) e))
+pub kept_in : (c : List ℤ) (s : Sort) → kept_count c s ≤ most_kept s
+unfolding kept_count
+kept_in c s = cases (leb (kept_number c s) (most_kept s))
+    (λ e. rw e (leb-true (kept_number c s) (most_kept s) e))
     (λ e. rw e (omega arith))
 
 module _ (c : List ℤ) (s : Sort) (p : ℕ) where
-  pub kept-hits : (i : ℕ) → Seeking (λ j. eqb (positionAt c s j) p) (keptCount c s) i → i < keptCount c s → positionAt c s i ≡ p → true ≡ isKept c s p
-  unfolding isKept
+  pub kept-hits : (i : ℕ) → Seeking (λ j. eqb (position_at c s j) p) (kept_count c s) i → i < kept_count c s → position_at c s i ≡ p → true ≡ is_kept c s p
+  unfolding is_kept
   kept-hits i inv l e =
-      let q : first (λ j. eqb (positionAt c s j) p) 0 (keptCount c s) ≡ i = seeking-hits inv l (eq-eqb (positionAt c s i) p e) in
-      rw (q, lt-ltb i (keptCount c s) l)
+      let q : first (λ j. eqb (position_at c s j) p) 0 (kept_count c s) ≡ i = seeking-hits inv l (eq-eqb (position_at c s i) p e) in
+      rw (q, lt-ltb i (kept_count c s) l)
 
-  pub kept-ends : (i : ℕ) → Seeking (λ j. eqb (positionAt c s j) p) (keptCount c s) i → keptCount c s ≤ i → false ≡ isKept c s p
-  unfolding isKept
+  pub kept-ends : (i : ℕ) → Seeking (λ j. eqb (position_at c s j) p) (kept_count c s) i → kept_count c s ≤ i → false ≡ is_kept c s p
+  unfolding is_kept
   kept-ends i inv l =
-      let q : first (λ j. eqb (positionAt c s j) p) 0 (keptCount c s) ≡ keptCount c s = seeking-ends inv l in
-      rw (q, le-ltb (keptCount c s) (keptCount c s) (omega arith))
+      let q : first (λ j. eqb (position_at c s j) p) 0 (kept_count c s) ≡ kept_count c s = seeking-ends inv l in
+      rw (q, le-ltb (kept_count c s) (kept_count c s) (omega arith))

@@ -5,24 +5,24 @@ use Prim.Native.Nat.{ℕ}
 use native.Mathlib.Omega.{arith}
 use lib.Dec.{eqb}
 use lib.IntN.{ℤ, pos}
-use Rattle.words.specs.Words.{number_of, word_of, eqZ}
+use Rattle.words.specs.Words.{number_of, word_of, eq_z}
 use Rattle.words.proofs.Laws.{number_word}
-use Rattle.tables.specs.Values.{cell, absent, cell_of, slotOf, Sound}
+use Rattle.tables.specs.Values.{cell, absent, cell_of, slot_of, Sound}
 use Rattle.tables.specs.declared.Cell.{Cell}
 use Rattle.tables.specs.declared.Value.{Value}
 use Rattle.tables.specs.declared.Value.TheVariants.{Nil, Bool as Truth, Int, Ref}
 use Rattle.tables.specs.declared.Slot.TheVariants.{Absent, Has}
 
-pub slot-of-cell : (v : Value) → Sound v → slotOf (cell_of v) ≡ Has v
-unfolding slotOf cell_of
+pub slot-of-cell : (v : Value) → Sound v → slot_of (cell_of v) ≡ Has v
+unfolding slot_of cell_of
 slot-of-cell Nil h = refl
 slot-of-cell (Truth true) h = refl
 slot-of-cell (Truth false) h = refl
 slot-of-cell (Int n) h = refl
 slot-of-cell (Ref r) h = rw (number_word r h)
 
-pub slot-absent : slotOf absent ≡ Absent
-unfolding slotOf
+pub slot-absent : slot_of absent ≡ Absent
+unfolding slot_of
 slot-absent = refl
 
 pub cell-used : (v : Value) → number_of (cell_of v).kind ≡ 0 → ⊥
@@ -33,27 +33,27 @@ cell-used (Int n) e = omega arith
 cell-used (Ref r) e = omega arith
 
 -- what a cell of kind 2 or 3 holds
-pub slot-boolean : (p : ℤ) → slotOf (cell (pos 2) p) ≡ Has (Truth (eqZ p (pos 1)))
-unfolding slotOf
+pub slot-boolean : (p : ℤ) → slot_of (cell (pos 2) p) ≡ Has (Truth (eq_z p (pos 1)))
+unfolding slot_of
 slot-boolean p = refl
 
-pub slot-integer : (p : ℤ) → slotOf (cell (pos 3) p) ≡ Has (Int p)
-unfolding slotOf
+pub slot-integer : (p : ℤ) → slot_of (cell (pos 3) p) ≡ Has (Int p)
+unfolding slot_of
 slot-integer p = refl
 
 -- a reference, by its kind; and what any other kind tells
-pub slot-reference : (c : Cell) → number_of c.kind ≡ 4 → slotOf c ≡ Has (Ref (number_of c.payload))
-unfolding slotOf
+pub slot-reference : (c : Cell) → number_of c.kind ≡ 4 → slot_of c ≡ Has (Ref (number_of c.payload))
+unfolding slot_of
 slot-reference c h = rw h
 
 pub slot-other : (c : Cell) → eqb (number_of c.kind) 4 ≡ false
-    → slotOf c
-    ≡ cond (eqb (number_of c.kind) 1) (Has Nil) (cond (eqb (number_of c.kind) 2) (Has (Truth (eqZ c.payload (pos 1)))) (cond (eqb (number_of c.kind) 3) (Has (Int c.payload)) Absent))
-unfolding slotOf
+    → slot_of c
+    ≡ cond (eqb (number_of c.kind) 1) (Has Nil) (cond (eqb (number_of c.kind) 2) (Has (Truth (eq_z c.payload (pos 1)))) (cond (eqb (number_of c.kind) 3) (Has (Int c.payload)) Absent))
+unfolding slot_of
 slot-other c h = rw h
 
-pub slot-nil : slotOf (cell (pos 1) (pos 0)) ≡ Has Nil
-unfolding slotOf
+pub slot-nil : slot_of (cell (pos 1) (pos 0)) ≡ Has Nil
+unfolding slot_of
 slot-nil = refl
 
 -- the cell of each value

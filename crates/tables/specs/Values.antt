@@ -1,7 +1,7 @@
 -- Cells and values (01, "Lent tables"). Assumes nothing: these are definitions.
 use Rattle.std.specs.Prelude.{ℕ, ◌<◌, Bool, true, false, cond, eqb, ℤ, pos}
-use Rattle.words.specs.Words.{number_of, word_of, eqZ}
-use Rattle.tables.specs.Sizes.{noNumber}
+use Rattle.words.specs.Words.{number_of, word_of, eq_z}
+use Rattle.tables.specs.Sizes.{no_number}
 use Rattle.tables.specs.declared.Cell.{Cell}
 use Rattle.tables.specs.declared.Value.{Value}
 use Rattle.tables.specs.declared.Value.TheVariants.{Nil, Bool as Truth, Int, Ref}
@@ -22,10 +22,10 @@ abbrev pub absent : Cell
 absent = cell (pos 0) (pos 0)
 
 -- what a cell holds; a kind that no cell may have is read as absent
-unfoldable pub slotOf : Cell → Slot
-slotOf c =
+unfoldable pub slot_of : Cell → Slot
+slot_of c =
     cond (eqb (number_of c.kind) 1) (Has Nil)
-    (cond (eqb (number_of c.kind) 2) (Has (Truth (eqZ c.payload (pos 1))))
+    (cond (eqb (number_of c.kind) 2) (Has (Truth (eq_z c.payload (pos 1))))
     (cond (eqb (number_of c.kind) 3) (Has (Int c.payload))
     (cond (eqb (number_of c.kind) 4) (Has (Ref (number_of c.payload)))
     Absent)))
@@ -35,4 +35,4 @@ abbrev pub Sound : Value → Type 0
 Sound Nil = Unit {0}
 Sound (Truth b) = Unit {0}
 Sound (Int n) = Unit {0}
-Sound (Ref r) = r < noNumber
+Sound (Ref r) = r < no_number

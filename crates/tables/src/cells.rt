@@ -1,13 +1,13 @@
 // Values, and the cell at a location.
 ghost use Rattle.std.specs.Prelude.{◌≡◌, ◌<◌, length};
-ghost use Rattle.tables.specs.Values.{slotOf, cell_of};
-ghost use Rattle.tables.specs.Cells.{cells, cell_at, putCell, pair_at, put_pair, locationWord, fresh, zeros};
+ghost use Rattle.tables.specs.Values.{slot_of, cell_of};
+ghost use Rattle.tables.specs.Cells.{cells, cell_at, put_cell, pair_at, put_pair, location_word, fresh, zeros};
 
 use crate::{Cell, LOCATIONS, Slot, VARIABLES, Value};
 
 // What a cell holds. A kind that no cell may have is read as absent.
 pub fn slot_of(c: Cell) -> Slot
-    ensures { result ≡ slotOf c }
+    ensures { result ≡ slot_of c }
 {
     let kind = words::number(c.kind);
     match kind {
@@ -54,7 +54,7 @@ pub fn cell_of(v: Value) -> Cell
 // The heap's word where the cell of a location from 64 on begins.
 fn location_word(l: usize) -> usize
     requires { l < 576 }
-    ensures { result ≡ locationWord l }
+    ensures { result ≡ location_word l }
 {
     let k = words::less(l, VARIABLES);
     25 * (k / 8) + 3 * (k % 8) + 3
@@ -102,7 +102,7 @@ pub fn read_cell(environment: &[i32], heap: &[i32], l: usize) -> Cell
 
 // Another cell at a location; nothing is written where there is no such location.
 pub fn write_cell(environment: &mut [i32], heap: &mut [i32], l: usize, c: Cell)
-    ensures { cells environment.new heap.new ≡ putCell (cells environment.old heap.old) l c }
+    ensures { cells environment.new heap.new ≡ put_cell (cells environment.old heap.old) l c }
 {
     if l < VARIABLES {
         put_pair(environment, 2 * l, c);

@@ -1,13 +1,13 @@
 // The kept positions of both sorts.
 ghost use Rattle.std.specs.Prelude.{◌≡◌};
-ghost use Rattle.tables.specs.Kept.{keptWord, mostKept, firstKept, keptNumber, keptCount, positionAt, blankPositions, isKept, withPosition, withoutPosition};
+ghost use Rattle.tables.specs.Kept.{kept_word, most_kept, first_kept, kept_number, kept_count, position_at, blank_positions, is_kept, with_position, without_position};
 
 use super::cells::is_clear;
 use crate::{IDENTITY_POSITIONS, Sort, VALUE_POSITIONS};
 
 // The word that counts the kept positions of a sort.
 fn kept_word(s: Sort) -> usize
-    ensures { result ≡ keptWord s }
+    ensures { result ≡ kept_word s }
 {
     match s {
         Sort::Values => 0,
@@ -17,7 +17,7 @@ fn kept_word(s: Sort) -> usize
 
 // The word of the first kept position of a sort.
 fn first_kept(s: Sort) -> usize
-    ensures { result ≡ firstKept s }
+    ensures { result ≡ first_kept s }
 {
     match s {
         Sort::Values => 2,
@@ -27,7 +27,7 @@ fn first_kept(s: Sort) -> usize
 
 // How many positions of a sort there is room for.
 pub fn most_kept(s: Sort) -> usize
-    ensures { result ≡ mostKept s }
+    ensures { result ≡ most_kept s }
 {
     match s {
         Sort::Values => VALUE_POSITIONS,
@@ -37,14 +37,14 @@ pub fn most_kept(s: Sort) -> usize
 
 // The count of a sort as it is written.
 pub fn count_at(constraints: &[i32], s: Sort) -> usize
-    ensures { result ≡ keptNumber constraints.now s }
+    ensures { result ≡ kept_number constraints.now s }
 {
     words::number_at(constraints, kept_word(s))
 }
 
 // How many positions of a sort are kept; none where the count is out of range.
 pub fn kept_count(constraints: &[i32], s: Sort) -> usize
-    ensures { result ≡ keptCount constraints.now s }
+    ensures { result ≡ kept_count constraints.now s }
 {
     let n = count_at(constraints, s);
     if most_kept(s) < n {
@@ -55,7 +55,7 @@ pub fn kept_count(constraints: &[i32], s: Sort) -> usize
 
 // The kept position number i of a sort.
 pub fn position_at(constraints: &[i32], s: Sort, i: usize) -> usize
-    ensures { result ≡ positionAt constraints.now s i }
+    ensures { result ≡ position_at constraints.now s i }
 {
     if most_kept(s) <= i {
         return 2147483648;
@@ -65,7 +65,7 @@ pub fn position_at(constraints: &[i32], s: Sort, i: usize) -> usize
 
 // Whether the words for every position of a sort from number n on are zero.
 pub fn are_blank_from(constraints: &[i32], s: Sort, n: usize) -> bool
-    ensures { result ≡ blankPositions constraints.now s n }
+    ensures { result ≡ blank_positions constraints.now s n }
 {
     let most = most_kept(s);
     if most <= n {
@@ -75,7 +75,7 @@ pub fn are_blank_from(constraints: &[i32], s: Sort, n: usize) -> bool
 }
 
 pub fn is_kept(constraints: &[i32], s: Sort, position: usize) -> bool
-    ensures { result ≡ isKept constraints.now s position }
+    ensures { result ≡ is_kept constraints.now s position }
 {
     let n = kept_count(constraints, s);
     let mut i: usize = 0;
@@ -90,7 +90,7 @@ pub fn is_kept(constraints: &[i32], s: Sort, position: usize) -> bool
 
 // A position more, after those of its sort. Nothing is written where there is no room.
 pub fn keep(constraints: &mut [i32], s: Sort, position: usize)
-    ensures { constraints.new ≡ withPosition constraints.old s position }
+    ensures { constraints.new ≡ with_position constraints.old s position }
 {
     let n = kept_count(constraints, s);
     if most_kept(s) <= n {
@@ -102,7 +102,7 @@ pub fn keep(constraints: &mut [i32], s: Sort, position: usize)
 
 // The last position of a sort is taken away, and its word is zero again.
 pub fn unkeep(constraints: &mut [i32], s: Sort)
-    ensures { constraints.new ≡ withoutPosition constraints.old s }
+    ensures { constraints.new ≡ without_position constraints.old s }
 {
     let n = kept_count(constraints, s);
     if n == 0 {

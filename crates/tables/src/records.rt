@@ -1,20 +1,20 @@
 // The heap's records: counts, labels, cells, a record more and a record less.
 ghost use Rattle.std.specs.Prelude.{◌≡◌};
-ghost use Rattle.tables.specs.Records.{recordCount, countAt, fieldCount, labelAt, field_at, blankPlace, blankFrom, fieldWith, withRecord, withoutRecord, laidBy, broughtBack};
+ghost use Rattle.tables.specs.Records.{record_count, count_at, field_count, label_at, field_at, blank_place, blank_from, field_with, with_record, without_record, laid_by, brought_back};
 
 use super::cells::{are_zeros, is_clear, pair_at};
 use crate::{Cell, FIELDS, Found, RECORD_WORDS, RECORDS, VARIABLES};
 
 // The count word as a number.
 pub fn record_count(heap: &[i32]) -> usize
-    ensures { result ≡ recordCount heap.now }
+    ensures { result ≡ record_count heap.now }
 {
     words::number_at(heap, 0)
 }
 
 // The field count of record r as it is written.
 pub fn count_at(heap: &[i32], r: usize) -> usize
-    ensures { result ≡ countAt heap.now r }
+    ensures { result ≡ count_at heap.now r }
 {
     if RECORDS <= r {
         return 2147483648;
@@ -24,7 +24,7 @@ pub fn count_at(heap: &[i32], r: usize) -> usize
 
 // How many fields record r has; none where its count is out of range.
 pub fn field_count(heap: &[i32], r: usize) -> usize
-    ensures { result ≡ fieldCount heap.now r }
+    ensures { result ≡ field_count heap.now r }
 {
     let n = count_at(heap, r);
     if FIELDS < n {
@@ -35,7 +35,7 @@ pub fn field_count(heap: &[i32], r: usize) -> usize
 
 // The label of field place f of record r.
 pub fn label_at(heap: &[i32], r: usize, f: usize) -> usize
-    ensures { result ≡ labelAt heap.now r f }
+    ensures { result ≡ label_at heap.now r f }
 {
     if RECORDS <= r {
         return 2147483648;
@@ -67,7 +67,7 @@ pub fn field_at(heap: &[i32], r: usize, f: usize) -> Cell
 
 // Whether the label and the cell of field place f of record r are all zero.
 pub fn is_blank(heap: &[i32], r: usize, f: usize) -> bool
-    ensures { result ≡ blankPlace heap.now r f }
+    ensures { result ≡ blank_place heap.now r f }
 {
     if RECORDS <= r {
         return true;
@@ -80,7 +80,7 @@ pub fn is_blank(heap: &[i32], r: usize, f: usize) -> bool
 
 // Whether every record from number n on is all zero.
 pub fn are_blank_from(heap: &[i32], n: usize) -> bool
-    ensures { result ≡ blankFrom heap.now n }
+    ensures { result ≡ blank_from heap.now n }
 {
     if RECORDS <= n {
         return true;
@@ -90,7 +90,7 @@ pub fn are_blank_from(heap: &[i32], n: usize) -> bool
 
 // The location of the field of record r that has the label.
 pub fn find_field(heap: &[i32], r: usize, label: usize) -> Found
-    ensures { result ≡ fieldWith heap.now r label }
+    ensures { result ≡ field_with heap.now r label }
 {
     let n = field_count(heap, r);
     let mut f: usize = 0;
@@ -105,7 +105,7 @@ pub fn find_field(heap: &[i32], r: usize, label: usize) -> Found
 
 // A record more: n fields, each its label, kind and payload. Nothing is written where the heap is full.
 pub fn add_record(heap: &mut [i32], fields: &[i32], n: usize)
-    ensures { heap.new ≡ withRecord heap.old fields.now n }
+    ensures { heap.new ≡ with_record heap.old fields.now n }
 {
     let r = record_count(heap);
     if RECORDS <= r {
@@ -122,7 +122,7 @@ pub fn add_record(heap: &mut [i32], fields: &[i32], n: usize)
 
 // The last record is taken away, and its words are zero again.
 pub fn drop_record(heap: &mut [i32])
-    ensures { heap.new ≡ withoutRecord heap.old }
+    ensures { heap.new ≡ without_record heap.old }
 {
     let n = record_count(heap);
     if n == 0 {
@@ -137,7 +137,7 @@ pub fn drop_record(heap: &mut [i32])
 
 // The words that a record more may change are laid by: the count word, and those of the first record that is not used.
 pub fn lay_by(heap: &[i32], saved: &mut [i32])
-    ensures { saved.new ≡ laidBy heap.now saved.old }
+    ensures { saved.new ≡ laid_by heap.now saved.old }
 {
     words::store(saved, 0, words::word_at(heap, 0));
     let r = record_count(heap);
@@ -149,7 +149,7 @@ pub fn lay_by(heap: &[i32], saved: &mut [i32])
 
 // The words that were laid by are put back.
 pub fn bring_back(heap: &mut [i32], saved: &[i32])
-    ensures { heap.new ≡ broughtBack saved.now heap.old }
+    ensures { heap.new ≡ brought_back saved.now heap.old }
 {
     words::store(heap, 0, words::word_at(saved, 0));
     let r = words::number_at(saved, 0);

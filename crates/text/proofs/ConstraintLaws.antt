@@ -11,13 +11,13 @@ use lib.ListN.{length, length-append}
 use Rattle.words.specs.Answer.{Answer, got}
 use Rattle.words.proofs.AnswerLaws.{got-inj, step}
 use Rattle.tables.proofs.SearchLaws.{cases, and_left, and_right}
-use Rattle.program.specs.Forms.{expressionDepth, mostParts, required}
+use Rattle.program.specs.Forms.{expression_depth, most_parts, required}
 use Rattle.program.specs.Grammar as Limits
 use Rattle.tokens.specs.declared.Token.{Token}
-use Rattle.tokens.specs.Codes.{nameCode, colonCode, dotCode, weakCode, besideCode, identicalCode}
+use Rattle.tokens.specs.Codes.{name_code, colon_code, dot_code, weak_code, beside_code, identical_code}
 use Rattle.text.specs.Grammar.{Meaning, Path, Expression, Part, Parts, Constraint}
-use Rattle.text.specs.Reading.{Fault, Named, Reader, Form, form, wordThen, owing, passing, peek, take, is}
-use Rattle.text.specs.Reading.{path, expression, expressionOn, priority, part_at, partsOn, constraintOn, statedOn, stated}
+use Rattle.text.specs.Reading.{Fault, Named, Reader, Form, form, word_then, owing, passing, peek, take, is}
+use Rattle.text.specs.Reading.{path, expression, expression_on, priority, part_at, parts_on, constraint_on, stated_on, stated}
 use Rattle.text.specs.Claims.{meaning}
 use Rattle.text.proofs.TookLaws.{spot, total, Fine, Took, took-none, took-on, Later, before, ordinary}
 use Rattle.text.proofs.TakenLaws.{TokenLaws, One, take-one}
@@ -25,7 +25,7 @@ use Rattle.text.proofs.PieceLaws.{either_way, never, Piece, PathIs, Operand, pat
 use Rattle.text.proofs.ExpressionLaws.{ExpressionIs, expression-sound, expression-on-sound}
 
 pub data PartWithin : List ℤ → Type 0 where
-  part : {k : ℕ} {e : List ℤ} → 1 ≤ k → k ≤ required → Limits.Expression true expressionDepth e → PartWithin (pos k ∷ e)
+  part : {k : ℕ} {e : List ℤ} → 1 ≤ k → k ≤ required → Limits.Expression true expression_depth e → PartWithin (pos k ∷ e)
 
 part-on : {m : ℕ} {a ps : List ℤ} → PartWithin a → Limits.Parts m ps → Limits.Parts (suc m) (a ++ ps)
 part-on (PartWithin.part h k e) p = Limits.Parts.one h k e p
@@ -34,7 +34,7 @@ part-on (PartWithin.part h k e) p = Limits.Parts.one h k e p
 pub data Stated (M : Meaning) (verb c : ℕ) : List Token → List ℤ → List ℕ → Type 0 where
   value : (t : Token) {ts : List Token} {ws : List ℤ} {os : List ℕ} → t.code ≡ c → Constraint M ts ws os → Stated M verb c (t ∷ ts) (pos verb ∷ ws) (t.place ∷ os)
   same : (t e : Token) {a b : List Token} {va vb : List ℤ} {oa ob : List ℕ}
-      → t.code ≡ c → Path M a va oa → e.code ≡ identicalCode → Path M b vb ob → Stated M verb c (t ∷ a ++ e ∷ b) (pos (verb + 2) ∷ va ++ vb) (t.place ∷ oa ++ ob)
+      → t.code ≡ c → Path M a va oa → e.code ≡ identical_code → Path M b vb ob → Stated M verb c (t ∷ a ++ e ∷ b) (pos (verb + 2) ∷ va ++ vb) (t.place ∷ oa ++ ob)
 
 pub data StatedWithin (verb : ℕ) : List ℤ → Type 0 where
   value : {c : List ℤ} → Limits.Constraint c → StatedWithin verb (pos verb ∷ c)
@@ -44,21 +44,21 @@ pub data StatedWithin (verb : ℕ) : List ℤ → Type 0 where
 record Said (text : List ℕ) (t : Token) : Type 0 where
   least : 1 ≤ priority text t
   most : priority text t ≤ required
-  code : t.code + 1 ≡ weakCode + priority text t
+  code : t.code + 1 ≡ weak_code + priority text t
   plain : ordinary t.code ≡ true
 
 said : (text : List ℕ) (t : Token) → 0 < priority text t → Said text t
 unfolding priority
 said text t h =
-    cases (leb weakCode t.code && leb t.code (weakCode + 2))
-    (λ y. let a : weakCode ≤ t.code = leb-true weakCode t.code (and_left (leb weakCode t.code) _ y) in
-    let b : t.code ≤ weakCode + 2 = leb-true t.code (weakCode + 2) (and_right (leb weakCode t.code) _ y) in
-    let k : priority text t ≡ suc (t.code - weakCode) = rw y in
+    cases (leb weak_code t.code && leb t.code (weak_code + 2))
+    (λ y. let a : weak_code ≤ t.code = leb-true weak_code t.code (and_left (leb weak_code t.code) _ y) in
+    let b : t.code ≤ weak_code + 2 = leb-true t.code (weak_code + 2) (and_right (leb weak_code t.code) _ y) in
+    let k : priority text t ≡ suc (t.code - weak_code) = rw y in
     record {
       least = omega arith;
       most = omega arith;
       code = omega arith;
-      plain = rw (le-leb 10 t.code (omega arith), ne_eqb t.code colonCode (λ e. omega arith), ne_eqb t.code dotCode (λ e. omega arith));
+      plain = rw (le-leb 10 t.code (omega arith), ne_eqb t.code colon_code (λ e. omega arith), ne_eqb t.code dot_code (λ e. omega arith));
     })
     (λ y. absurd (let z : 0 < 0 = rw y at h in omega arith))
 
@@ -124,25 +124,25 @@ module _ {text : List ℕ} (L : TokenLaws text) where
         sum = omega arith;
       })
 
-  parts-sound : (n : ℕ) (r : Reader) (x : ℕ × (Form × Reader)) → Fine text (spot r) → partsOn text n r ≡ got x → PartsOn n r x
-  unfolding partsOn
+  parts-sound : (n : ℕ) (r : Reader) (x : ℕ × (Form × Reader)) → Fine text (spot r) → parts_on text n r ≡ got x → PartsOn n r x
+  unfolding parts_on
   parts-sound zero r x f e =
-      either_way (is text r besideCode) _ _ e
+      either_way (is text r beside_code) _ _ e
       (λ t e1.
       step (take text 0 r) _ e1 λ s e2 e3.
       step (part_at text (passing true s)) _ e3 λ g e4 e5.
-      let i : (peek text r).code ≡ besideCode = eqb-true (peek text r).code besideCode t in
-      let o : One text 0 r s = take-one L 0 r s besideCode f i refl e2 in
+      let i : (peek text r).code ≡ beside_code = eqb-true (peek text r).code beside_code t in
+      let o : One text 0 r s = take-one L 0 r s beside_code f i refl e2 in
       never s.passed (part_sound (passing true s) g o.took.fine e4).unpassed)
       (λ t e1. no-parts zero r x f e1)
   parts-sound (suc n) r x f e =
-      either_way (is text r besideCode) _ _ e
+      either_way (is text r beside_code) _ _ e
       (λ t e1.
       step (take text 0 r) _ e1 λ s e2 e3.
       step (part_at text s) _ e3 λ g e4 e5.
-      step (partsOn text n g.1) _ e5 λ h e6 e7.
-      let i : (peek text r).code ≡ besideCode = eqb-true (peek text r).code besideCode t in
-      let o : One text 0 r s = take-one L 0 r s besideCode f i refl e2 in
+      step (parts_on text n g.1) _ e5 λ h e6 e7.
+      let i : (peek text r).code ≡ beside_code = eqb-true (peek text r).code beside_code t in
+      let o : One text 0 r s = take-one L 0 r s beside_code f i refl e2 in
       let p : PartIs text s g.1 0 g.0 = part_sound s g o.took.fine e4 in
       let z : PartsOn n g.1 h = parts-sound n g.1 h p.took.fine e6 in
       rw (← got-inj e7) (record {
@@ -157,11 +157,11 @@ module _ {text : List ℕ} (L : TokenLaws text) where
       (λ t e1. no-parts (suc n) r x f e1)
 
   -- its first part has been read, from r to s, and one word more is counted for m
-  pub constraint-sound : (k : ℕ) (first : Form) (r s : Reader) (x : Form × Reader) → PartIs text r s (suc k) first → constraintOn text (peek text r).place first s ≡ got x
+  pub constraint-sound : (k : ℕ) (first : Form) (r s : Reader) (x : Form × Reader) → PartIs text r s (suc k) first → constraint_on text (peek text r).place first s ≡ got x
       → ConstraintIs text r x.1 k x.0
-  unfolding constraintOn
+  unfolding constraint_on
   constraint-sound k first r s x p e =
-      step (partsOn text (mostParts - 1) s) _ e λ g e1 e2.
+      step (parts_on text (most_parts - 1) s) _ e λ g e1 e2.
       let z : PartsOn 15 s g = parts-sound 15 s g p.took.fine e1 in
       rw (← got-inj e2) (record {
         rest = p.rest ++ z.tokens;
@@ -175,18 +175,18 @@ module _ {text : List ℕ} (L : TokenLaws text) where
   -- `always` or `once`, which has been taken from r to s, with what follows
   pub stated-sound : (verb c : ℕ) (r s : Reader) (x : Form × Reader) → (peek text r).code ≡ c → One text 1 r s → stated text verb (peek text r).place s ≡ got x
       → StatedIs text verb c r x.1 x.0
-  unfolding stated statedOn peek
+  unfolding stated stated_on peek
   stated-sound verb c r s x i o e =
-      either_way (is text s nameCode) _ _ e
+      either_way (is text s name_code) _ _ e
       (λ t e1.
       step (path text 2 s) _ e1 λ f e2 e3.
       let p : PathIs text s f.1 0 f.0 = path-sound L 2 0 s f refl o.took.fine e2 in
-      either_way (is text f.1 identicalCode) _ _ e3
+      either_way (is text f.1 identical_code) _ _ e3
       (λ u e4.
       step (take text 0 f.1) _ e4 λ v e5 e6.
       step (path text 2 v) _ e6 λ g e7 e8.
-      let j : (peek text f.1).code ≡ identicalCode = eqb-true (peek text f.1).code identicalCode u in
-      let w : One text 0 f.1 v = take-one L 0 f.1 v identicalCode p.took.fine j refl e5 in
+      let j : (peek text f.1).code ≡ identical_code = eqb-true (peek text f.1).code identical_code u in
+      let w : One text 0 f.1 v = take-one L 0 f.1 v identical_code p.took.fine j refl e5 in
       let q : PathIs text v g.1 0 g.0 = path-sound L 2 0 v g refl w.took.fine e7 in
       rw (← got-inj e8) (record {
         rest = (peek text s ∷ p.rest) ++ peek text f.1 ∷ peek text v ∷ q.rest;
@@ -197,9 +197,9 @@ module _ {text : List ℕ} (L : TokenLaws text) where
         unpassed = o.unpassed;
       }))
       (λ u e4.
-      step (expressionOn text true (wordThen (pos 24) (peek text s).place f.0) (owing 3 f.1)) _ e4 λ g e5 e6.
-      step (constraintOn text (peek text s).place (wordThen (pos required) (peek text s).place g.0) g.1) _ e6 λ h e7 e8.
-      let first : Operand text true s (owing 3 f.1) 2 (wordThen (pos 24) (peek text s).place f.0) = record {
+      step (expression_on text true (word_then (pos 24) (peek text s).place f.0) (owing 3 f.1)) _ e4 λ g e5 e6.
+      step (constraint_on text (peek text s).place (word_then (pos required) (peek text s).place g.0) g.1) _ e6 λ h e7 e8.
+      let first : Operand text true s (owing 3 f.1) 2 (word_then (pos 24) (peek text s).place f.0) = record {
         rest = p.rest;
         took = p.took;
         yields = λ vs ls l. Expression.at (peek text s) (p.yields vs ls l);
@@ -208,7 +208,7 @@ module _ {text : List ℕ} (L : TokenLaws text) where
         unpassed = p.unpassed;
       } in
       let z : ExpressionIs text true s g.1 2 g.0 = expression-on-sound L true _ s (owing 3 f.1) 2 g first e5 in
-      let k : PartIs text s g.1 1 (wordThen (pos required) (peek text s).place g.0) = record {
+      let k : PartIs text s g.1 1 (word_then (pos required) (peek text s).place g.0) = record {
         rest = z.rest;
         took = z.took;
         yields = λ vs ls l. Part.unsaid (peek text s) (z.yields vs ls l);
@@ -219,12 +219,12 @@ module _ {text : List ℕ} (L : TokenLaws text) where
       value s h.1 h.0 x o (constraint-sound 0 _ s g.1 h k e7) (got-inj e8)))
       (λ t e1.
       step (part_at text (owing 1 s)) _ e1 λ f e2 e3.
-      step (constraintOn text (peek text s).place f.0 f.1) _ e3 λ h e4 e5.
+      step (constraint_on text (peek text s).place f.0 f.1) _ e3 λ h e4 e5.
       let p : PartIs text (owing 1 s) f.1 0 f.0 = part_sound (owing 1 s) f o.took.fine e2 in
       let k : PartIs text s f.1 1 f.0 = record { rest = p.rest; took = p.took; yields = p.yields; limits = p.limits; sum = omega (arith, p.sum); unpassed = p.unpassed } in
       value s h.1 h.0 x o (constraint-sound 0 f.0 s f.1 h k e4) (got-inj e5))
     where
-      value : (s u : Reader) (f : Form) (x : Form × Reader) → One text 1 r s → ConstraintIs text s u 0 f → (wordThen (pos verb) (peek text r).place f, u) ≡ x
+      value : (s u : Reader) (f : Form) (x : Form × Reader) → One text 1 r s → ConstraintIs text s u 0 f → (word_then (pos verb) (peek text r).place f, u) ≡ x
           → StatedIs text verb c r x.1 x.0
       value s u f x o z e = rw (← e) (record {
         rest = peek text s ∷ z.rest;

@@ -6,7 +6,7 @@ use Prim.Native.Nat.{ℕ, suc, ◌+◌, ◌≤◌}
 use native.Mathlib.Omega.{arith}
 use lib.IntN.{ℤ, pos}
 use lib.ListN.{length}
-use Rattle.program.specs.Forms.{mostSteps}
+use Rattle.program.specs.Forms.{most_steps}
 use Rattle.program.specs.Grammar.{Labels as LabelsOf, Path as PathOf, Expression as Of}
 use Rattle.tokens.specs.declared.Token.{Token}
 use Rattle.text.specs.Grammar.{Meaning, Labels, Path, Expression}
@@ -24,7 +24,7 @@ labels-of-length LabelsOf.none = refl
 labels-of-length (LabelsOf.one h l) = ap suc (labels-of-length l)
 
 -- "n (0 to 7)"
-pub path-of-length : {p : List ℤ} → PathOf p → length p ≤ mostSteps + 2
+pub path-of-length : {p : List ℤ} → PathOf p → length p ≤ most_steps + 2
 path-of-length (PathOf.path h k l) = omega (arith, labels-of-length l)
 
 labels-cut : {M : Meaning} {n m : ℕ} {ts : List Token} {ws p x y : List ℤ} {os : List ℕ} → Labels M n ts ws os → LabelsOf m p → n ≡ m → ws ++ x ≡ p ++ y → (ws ≡ p) × (x ≡ y)

@@ -8,11 +8,11 @@ use native.Mathlib.Omega.{arith}
 use Rattle.words.specs.Answer.{Answer, got, stop}
 use Rattle.words.proofs.AnswerLaws.{got-inj, stop-inj, stop≢got, either}
 use Rattle.tables.proofs.SearchLaws.{cases}
-use Rattle.program.specs.Forms.{blockDepth, mostStatements}
-use Rattle.tokens.specs.Codes.{endCode}
+use Rattle.program.specs.Forms.{block_depth, most_statements}
+use Rattle.tokens.specs.Codes.{end_code}
 use Rattle.tokens.specs.Claims.{MakesUp}
-use Rattle.text.specs.Reading.{Fault, fault, Reader, Form, peek, is, need, row_at, block_at, firstReader, textAt}
-use Rattle.text.specs.Judge.{Sort, Awaited, May, only, room, after, stands, may, there, Judged, judge, awaitedFirst, JudgedText, RefusedExactly, StandsExactly}
+use Rattle.text.specs.Reading.{Fault, fault, Reader, Form, peek, is, need, row_at, block_at, first_reader, text_at}
+use Rattle.text.specs.Judge.{Sort, Awaited, May, only, room, after, stands, may, there, Judged, judge, awaited_first, JudgedText, RefusedExactly, StandsExactly}
 use Rattle.text.proofs.Leads.{Leads, leads-here, leads-then, leads-as, need-leads}
 use Rattle.text.proofs.JudgeStatements.{row-leads, block-leads}
 
@@ -63,41 +63,41 @@ module _ (text : List ℕ) where
   -- ---- whole texts
 
   module _ (makes-up : MakesUp) where
-    empty-whole : is text (firstReader text) endCode ≡ true → JudgedText text (got tt)
+    empty-whole : is text (first_reader text) end_code ≡ true → JudgedText text (got tt)
     unfolding may stands room peek
     empty-whole e =
-        Judged.next {a = awaitedFirst} {b = Awaited.nothing} {r = firstReader text} {s = after text Sort.other 1 (firstReader text) (there text (firstReader text))} (rw e) Judged.whole
+        Judged.next {a = awaited_first} {b = Awaited.nothing} {r = first_reader text} {s = after text Sort.other 1 (first_reader text) (there text (first_reader text))} (rw e) Judged.whole
 
-    text-leads : Leads text awaitedFirst (firstReader text) (λ x. (Awaited.nothing, x.1)) (textAt text)
-    unfolding textAt may peek
+    text-leads : Leads text awaited_first (first_reader text) (λ x. (Awaited.nothing, x.1)) (text_at text)
+    unfolding text_at may peek
     text-leads =
-        cases (is text (firstReader text) endCode)
+        cases (is text (first_reader text) end_code)
         (λ e. rw e (leads-here text refl (λ o z. rw (nothing-whole refl z) (empty-whole e))))
         (λ e. rw e
-        (leads-as text {b = Awaited.statement (blockDepth - 1) (Awaited.row (blockDepth - 1) (mostStatements - 1) (only endCode Awaited.nothing))} {s = firstReader text} refl refl (rw e)
-        (leads-then text (row_at text (λ v. block_at text (blockDepth - 1) v) (mostStatements - 1) (firstReader text)) _
-        (row-leads text makes-up (blockDepth - 1) (λ v. block_at text (blockDepth - 1) v) (λ b v. block-leads text makes-up (blockDepth - 1) b v) (mostStatements - 1)
-        (only endCode Awaited.nothing) (firstReader text) (omega arith)) λ g j.
-        leads-then text (need text endCode 0 g.1.1) _ (need-leads text makes-up endCode 0 Awaited.nothing g.1.1 refl) λ u k.
+        (leads-as text {b = Awaited.statement (block_depth - 1) (Awaited.row (block_depth - 1) (most_statements - 1) (only end_code Awaited.nothing))} {s = first_reader text} refl refl (rw e)
+        (leads-then text (row_at text (λ v. block_at text (block_depth - 1) v) (most_statements - 1) (first_reader text)) _
+        (row-leads text makes-up (block_depth - 1) (λ v. block_at text (block_depth - 1) v) (λ b v. block-leads text makes-up (block_depth - 1) b v) (most_statements - 1)
+        (only end_code Awaited.nothing) (first_reader text) (omega arith)) λ g j.
+        leads-then text (need text end_code 0 g.1.1) _ (need-leads text makes-up end_code 0 Awaited.nothing g.1.1 refl) λ u k.
         leads-here text refl (λ o z. z))))
 
-    accepted-whole : (x : Form × Reader) → textAt text ≡ got x → JudgedText text (got tt)
+    accepted-whole : (x : Form × Reader) → text_at text ≡ got x → JudgedText text (got tt)
     accepted-whole x e = text-leads.good x e (got tt) Judged.whole
 
     -- each token before the place may stand where it stands, the one there may not, by this number first
-    pub judged : (n place : ℕ) → (textAt text ≡ stop (fault n place)) ↔ JudgedText text (stop (fault n place))
+    pub judged : (n place : ℕ) → (text_at text ≡ stop (fault n place)) ↔ JudgedText text (stop (fault n place))
     judged n place = (
       λ e. text-leads.bad (fault n place) e,
-      λ j. either (textAt text)
+      λ j. either (text_at text)
           (λ x e. stop≢got (sym (one-outcome (accepted-whole x e) j)))
           (λ f e. e ∙ ap stop (stop-inj (one-outcome (text-leads.bad f e) j))),
     )
 
     -- a text is accepted exactly where every token may stand, and nothing is awaited at its end
-    pub all-stand : ((x : Form × Reader) × (textAt text ≡ got x)) ↔ JudgedText text (got tt)
+    pub all-stand : ((x : Form × Reader) × (text_at text ≡ got x)) ↔ JudgedText text (got tt)
     all-stand = (
       λ x. accepted-whole x.0 x.1,
-      λ j. either (textAt text)
+      λ j. either (text_at text)
           (λ x e. (x, e))
           (λ f e. stop≢got (one-outcome (text-leads.bad f e) j)),
     )

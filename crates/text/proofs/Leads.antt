@@ -12,14 +12,14 @@ use Rattle.words.specs.Answer.{Answer, got, stop, ◌>>=◌}
 use Rattle.words.proofs.AnswerLaws.{got-inj, stop-inj, stop≢got}
 use Rattle.tables.specs.Sizes.{variables, labels}
 use Rattle.tables.proofs.SearchLaws.{cases, and_left}
-use Rattle.program.specs.Forms.{mostWords}
+use Rattle.program.specs.Forms.{most_words}
 use Rattle.program.specs.Reading.{among}
 use Rattle.program.proofs.AmongLaws.{among_none}
 use Rattle.tokens.specs.declared.Token.{Token}
-use Rattle.tokens.specs.Codes.{endCode, nameCode, tooLong}
+use Rattle.tokens.specs.Codes.{end_code, name_code, too_long}
 use Rattle.tokens.specs.Claims.{Makes, MakesUp}
-use Rattle.text.specs.Reading.{Fault, Reader, dueAfter, peek, is, refusal, take, need, known, number_in, room_for, variable, label}
-use Rattle.text.specs.Judge.{Sort, other, variable as aVariable, label as aLabel, Awaited, unfit, room, after, stands, may, there, Judged}
+use Rattle.text.specs.Reading.{Fault, Reader, due_after, peek, is, refusal, take, need, known, number_in, room_for, variable, label}
+use Rattle.text.specs.Judge.{Sort, other, variable as a_variable, label as a_label, Awaited, unfit, room, after, stands, may, there, Judged}
 
 module _ (text : List ℕ) where
   -- the token to be judged is judged in the same way where b is awaited
@@ -95,33 +95,33 @@ module _ (text : List ℕ) where
   pub after-at : (s : Sort) (n : ℕ) (r : Reader) (t : Token) → (after text s n r t).at ≡ t.end
   unfolding after
   after-at other n r t = refl
-  after-at aVariable n r t = refl
-  after-at aLabel n r t = refl
+  after-at a_variable n r t = refl
+  after-at a_label n r t = refl
 
   module _ (makes-up : MakesUp) where
     -- a token that was taken ends behind the byte that it was looked for at, unless it is the text's end
-    pub onward : (r : Reader) (c : ℕ) → is text r c ≡ true → eqb c tooLong ≡ false → r.at ≤ length text → (r.at ≤ (peek text r).end) × ((peek text r).end ≤ length text)
+    pub onward : (r : Reader) (c : ℕ) → is text r c ≡ true → eqb c too_long ≡ false → r.at ≤ length text → (r.at ≤ (peek text r).end) × ((peek text r).end ≤ length text)
     unfolding peek
-    onward r c e h l = go (makes-up (dueAfter r.last) text r.at l)
+    onward r c e h l = go (makes-up (due_after r.last) text r.at l)
       where
         go : Makes text r.at (there text r) → (r.at ≤ (there text r).end) × ((there text r).end ≤ length text)
         go (Makes.whole not_end not-long p q u v) = (omega (arith, p, q), u)
         go (Makes.end p q u) = (omega (arith, p, ap (λ z. z.end) q), omega (arith, ap (λ z. z.end) q))
-        go (Makes.longer p q) = absurd (eqb-false c tooLong h (sym (eqb-true _ c e) ∙ ap (λ z. z.code) q))
+        go (Makes.longer p q) = absurd (eqb-false c too_long h (sym (eqb-true _ c e) ∙ ap (λ z. z.code) q))
 
-    pub strictly : (r : Reader) (c : ℕ) → is text r c ≡ true → eqb c tooLong ≡ false → eqb c endCode ≡ false → r.at ≤ length text → r.at < (peek text r).end
+    pub strictly : (r : Reader) (c : ℕ) → is text r c ≡ true → eqb c too_long ≡ false → eqb c end_code ≡ false → r.at ≤ length text → r.at < (peek text r).end
     unfolding peek
-    strictly r c e h i l = go (makes-up (dueAfter r.last) text r.at l)
+    strictly r c e h i l = go (makes-up (due_after r.last) text r.at l)
       where
         go : Makes text r.at (there text r) → r.at < (there text r).end
         go (Makes.whole not_end not-long p q u v) = omega (arith, p, q)
-        go (Makes.end p q u) = absurd (eqb-false c endCode i (sym (eqb-true _ c e) ∙ ap (λ z. z.code) q))
-        go (Makes.longer p q) = absurd (eqb-false c tooLong h (sym (eqb-true _ c e) ∙ ap (λ z. z.code) q))
+        go (Makes.end p q u) = absurd (eqb-false c end_code i (sym (eqb-true _ c e) ∙ ap (λ z. z.code) q))
+        go (Makes.longer p q) = absurd (eqb-false c too_long h (sym (eqb-true _ c e) ∙ ap (λ z. z.code) q))
 
-    pub take-leads : (c k : ℕ) (b : Awaited) (r : Reader) → is text r c ≡ true → eqb c tooLong ≡ false → Leads (Awaited.token c Sort.other k b) r (λ s. (b, s)) (take text k r)
+    pub take-leads : (c k : ℕ) (b : Awaited) (r : Reader) → is text r c ≡ true → eqb c too_long ≡ false → Leads (Awaited.token c Sort.other k b) r (λ s. (b, s)) (take text k r)
     unfolding take may stands room after peek
     take-leads c k b r e h =
-        cases (not r.passed && leb (r.certain + r.owed + k) mostWords)
+        cases (not r.passed && leb (r.certain + r.owed + k) most_words)
         (λ p. rw p (leads-took (rw (e, p)) (onward r c e h)))
         (λ p. rw p (leads-stop (Judged.refused (rw (e, p)))))
 
@@ -130,52 +130,52 @@ module _ (text : List ℕ) where
         → may text a r (there text r) ≡ unfit text (there text r) → Leads a r k (stop (refusal text (peek text r)))
     unfolding refusal unfit peek
     unfit-leads a r e =
-        cases (eqb (there text r).code tooLong)
+        cases (eqb (there text r).code too_long)
         (λ p. rw p (leads-stop (Judged.refused (e ∙ rw p))))
         (λ p. rw p (leads-stop (Judged.refused (e ∙ rw p))))
 
-    pub need-leads : (c k : ℕ) (b : Awaited) (r : Reader) → eqb c tooLong ≡ false → Leads (Awaited.token c Sort.other k b) r (λ s. (b, s)) (need text c k r)
+    pub need-leads : (c k : ℕ) (b : Awaited) (r : Reader) → eqb c too_long ≡ false → Leads (Awaited.token c Sort.other k b) r (λ s. (b, s)) (need text c k r)
     unfolding need may peek
     need-leads c k b r h =
         cases (is text r c)
         (λ e. rw e (take-leads c k b r e h))
         (λ e. rw e (unfit-leads (Awaited.token c Sort.other k b) r (rw e)))
 
-    pub variable-leads : (k : ℕ) (b : Awaited) (r : Reader) → Leads (Awaited.token nameCode Sort.variable k b) r (λ x. (b, x.1)) (variable text k r)
+    pub variable-leads : (k : ℕ) (b : Awaited) (r : Reader) → Leads (Awaited.token name_code Sort.variable k b) r (λ x. (b, x.1)) (variable text k r)
     unfolding variable take may stands room room_for after peek
     variable-leads k b r =
-        cases (is text r nameCode)
+        cases (is text r name_code)
         (λ e. rw e
         (cases (room_for text variables r.variables (peek text r))
         (λ c. rw c
-        (cases (not r.passed && leb (r.certain + r.owed + k) mostWords)
-        (λ p. rw p (leads-took (rw (e, c, p)) (onward r nameCode e refl)))
+        (cases (not r.passed && leb (r.certain + r.owed + k) most_words)
+        (λ p. rw p (leads-took (rw (e, c, p)) (onward r name_code e refl)))
         (λ p. rw p (leads-stop (Judged.refused (rw (e, c, p)))))))
         (λ c. rw c (leads-stop (Judged.refused (rw (e, c)))))))
-        (λ e. rw e (unfit-leads (Awaited.token nameCode Sort.variable k b) r (rw e)))
+        (λ e. rw e (unfit-leads (Awaited.token name_code Sort.variable k b) r (rw e)))
 
     -- a label that is none of these; what is awaited behind it may speak of its number
     pub label-leads : (a : Awaited) (b : ℕ → Awaited) (seen : List ℕ) (r : Reader)
         → may text a r (there text r)
-        ≡ cond (is text r nameCode && not (known text r.labels (there text r) && among (number_in text r.labels (there text r)) seen))
+        ≡ cond (is text r name_code && not (known text r.labels (there text r) && among (number_in text r.labels (there text r)) seen))
         (stands text Sort.label 1 (b (number_in text r.labels (there text r))) r (there text r)) (unfit text (there text r))
         → Leads a r (λ x. (b x.0, x.1)) (label text seen r)
     unfolding label take stands room room_for after peek
     label-leads a b seen r h =
-        cases (is text r nameCode && not (known text r.labels (peek text r) && among (number_in text r.labels (peek text r)) seen))
+        cases (is text r name_code && not (known text r.labels (peek text r) && among (number_in text r.labels (peek text r)) seen))
         (λ e. rw e
         (cases (room_for text labels r.labels (peek text r))
         (λ c. rw c
-        (cases (not r.passed && leb (r.certain + r.owed + 1) mostWords)
-        (λ p. rw p (leads-took (h ∙ rw (e, c, p)) (onward r nameCode (and_left _ _ e) refl)))
+        (cases (not r.passed && leb (r.certain + r.owed + 1) most_words)
+        (λ p. rw p (leads-took (h ∙ rw (e, c, p)) (onward r name_code (and_left _ _ e) refl)))
         (λ p. rw p (leads-stop (Judged.refused (h ∙ rw (e, c, p)))))))
         (λ c. rw c (leads-stop (Judged.refused (h ∙ rw (e, c)))))))
         (λ e. rw e (unfit-leads a r (h ∙ rw e)))
 
-    pub any-label-leads : (b : Awaited) (r : Reader) → Leads (Awaited.token nameCode Sort.label 1 b) r (λ x. (b, x.1)) (label text [] r)
+    pub any-label-leads : (b : Awaited) (r : Reader) → Leads (Awaited.token name_code Sort.label 1 b) r (λ x. (b, x.1)) (label text [] r)
     unfolding may peek
     any-label-leads b r =
-        label-leads (Awaited.token nameCode Sort.label 1 b) (λ n. b) [] r (rw (go (is text r nameCode) (known text r.labels (there text r)) (number_in text r.labels (there text r))))
+        label-leads (Awaited.token name_code Sort.label 1 b) (λ n. b) [] r (rw (go (is text r name_code) (known text r.labels (there text r)) (number_in text r.labels (there text r))))
       where
         go : (c k : Bool) (n : ℕ) → (c && not (k && among n [])) ≡ c
         go true true n = rw (among_none n)

@@ -7,12 +7,12 @@ use native.Mathlib.Omega.{arith}
 use lib.IntN.{ℤ, pos}
 use lib.ListN.{length, length-append}
 use Rattle.words.specs.Answer.{Answer}
-use Rattle.program.specs.Forms.{mostWords, mostSteps, expressionDepth}
+use Rattle.program.specs.Forms.{most_words, most_steps, expression_depth}
 use Rattle.program.specs.Grammar.{Expression as Of}
 use Rattle.tokens.specs.declared.Token.{Token}
-use Rattle.tokens.specs.Codes.{nameCode}
+use Rattle.tokens.specs.Codes.{name_code}
 use Rattle.text.specs.Grammar.{Path, Expression}
-use Rattle.text.specs.Reading.{Fault, Reader, Form, enough, onwards, climb, expressionOn}
+use Rattle.text.specs.Reading.{Fault, Reader, Form, enough, onwards, climb, expression_on}
 use Rattle.text.proofs.Taken.{Given, At, next}
 use Rattle.text.proofs.PathsRead.{M, Done, made}
 use Rattle.text.proofs.Cuts.{path-of-length, path-part, operation-parts}
@@ -32,19 +32,19 @@ module _ (G : Given) (left : ℕ) (go : ℕ → Reader → Answer Fault (Form ×
     pub path-origins : List ℕ
     pub split : ts ≡ (first ∷ path-rest) ++ tokens
     pub is-path : Path (M G) (first ∷ path-rest) path-words path-origins
-    pub short : length path-words ≤ mostSteps + 2
+    pub short : length path-words ≤ most_steps + 2
     pub after : (m : ℕ) × Stops false m (next G (tokens ++ rest))
     pub fewer : 1 + length path-words ≤ length ws
     pub goes_on : (u : Reader) → At G u (c + 1 + length path-words) (tokens ++ rest)
         → Arrives G true left go (onwards G.text go (enough G.text) left low 0 (made (pos 24 ∷ path-words) (first.place ∷ path-origins) 1) u) u.at low 0 e rest ws os d
 
   led : Goes G true left go → {l d c : ℕ} (low e : ℕ) {ts : List Token} (rest : List Token) {ws : List ℤ} {os : List ℕ} → Expression (M G) true l ts ws os
-      → ((t : Token) (us : List Token) → ts ≡ t ∷ us → t.code ≡ nameCode) → Of true d ws → d ≤ suc left → low ≤ l → Stops false l (next G rest) → e ≡ c + length ws → e ≤ mostWords
+      → ((t : Token) (us : List Token) → ts ≡ t ∷ us → t.code ≡ name_code) → Of true d ws → d ≤ suc left → low ≤ l → Stops false l (next G rest) → e ≡ c + length ws → e ≤ most_words
       → Led low e c d ts rest ws os
-  led goes low e rest (Expression.nil t x) n o h f s q w = let z : t.code ≡ nameCode = n t [] refl in absurd (omega arith)
-  led goes low e rest (Expression.no t x) n o h f s q w = let z : t.code ≡ nameCode = n t [] refl in absurd (omega arith)
-  led goes low e rest (Expression.yes t x) n o h f s q w = let z : t.code ≡ nameCode = n t [] refl in absurd (omega arith)
-  led goes low e rest (Expression.number t x) n o h f s q w = let z : t.code ≡ nameCode = n t [] refl in absurd (omega arith)
+  led goes low e rest (Expression.nil t x) n o h f s q w = let z : t.code ≡ name_code = n t [] refl in absurd (omega arith)
+  led goes low e rest (Expression.no t x) n o h f s q w = let z : t.code ≡ name_code = n t [] refl in absurd (omega arith)
+  led goes low e rest (Expression.yes t x) n o h f s q w = let z : t.code ≡ name_code = n t [] refl in absurd (omega arith)
+  led goes low e rest (Expression.number t x) n o h f s q w = let z : t.code ≡ name_code = n t [] refl in absurd (omega arith)
   led goes {c = c} low e rest (Expression.at t {ts = ts} {ws = ws} {os = os} p) n o h f s q w = record {
     first = t;
     path-rest = ts;
@@ -68,7 +68,7 @@ module _ (G : Given) (left : ℕ) (go : ℕ → Reader → Answer Fault (Form ×
     };
   }
   led goes low e rest (Expression.identity t x p k y) n o h f s q w = absurd (let z : ◌≡◌ {A = ℕ} 0 1 = cc in omega arith)
-  led goes low e rest (Expression.brackets {ts = ts} t k x p y) n o h f s q w = let z : t.code ≡ nameCode = n t (ts ++ k ∷ []) refl in absurd (omega arith)
+  led goes low e rest (Expression.brackets {ts = ts} t k x p y) n o h f s q w = let z : t.code ≡ name_code = n t (ts ++ k ∷ []) refl in absurd (omega arith)
   led goes low e rest (Expression.tighter k p) n o h f s q w = led goes low e rest p n o h (omega arith) (stops-looser (omega arith) s) q w
   led goes {l = l} {d = depth} {c = c} low e rest (Expression.operation {k = k} {a = x} {b = y} t {va = va} {vb = vb} {oa = oa} {ob = ob} p j v z) n o h f s q w =
       by (operation-parts p o) (λ E i r. led goes low (c + length va) (t ∷ (y ++ rest)) p (λ a us r. n a (us ++ t ∷ y) (ap (λ (b : List Token). b ++ t ∷ y) r)) i r f (stops-operator j v) refl (omega (arith, length-append va vb)))
@@ -97,13 +97,13 @@ module _ (G : Given) (left : ℕ) (go : ℕ → Reader → Answer Fault (Form ×
 
 -- how an expression in a constraint is read on behind its first path
 pub led_on : {G : Given} {d c : ℕ} {ts : List Token} (rest : List Token) {ws : List ℤ} {os : List ℕ} (e : ℕ) → Expression (M G) true 1 ts ws os
-    → ((t : Token) (us : List Token) → ts ≡ t ∷ us → t.code ≡ nameCode) → Of true d ws → d ≤ expressionDepth → Stops false 0 (next G rest) → e ≡ c + length ws → e ≤ mostWords
-    → Led G (expressionDepth - 1) (λ l v. climb G.text (expressionDepth - 1) true l v) 1 e c d ts rest ws os
-led_on {G} rest e x n o h s q w = led G (expressionDepth - 1) (λ l v. climb G.text (expressionDepth - 1) true l v) (climbs G true (expressionDepth - 1)) 1 e rest x n o h (omega arith) (stops-looser (omega arith) s) q w
+    → ((t : Token) (us : List Token) → ts ≡ t ∷ us → t.code ≡ name_code) → Of true d ws → d ≤ expression_depth → Stops false 0 (next G rest) → e ≡ c + length ws → e ≤ most_words
+    → Led G (expression_depth - 1) (λ l v. climb G.text (expression_depth - 1) true l v) 1 e c d ts rest ws os
+led_on {G} rest e x n o h s q w = led G (expression_depth - 1) (λ l v. climb G.text (expression_depth - 1) true l v) (climbs G true (expression_depth - 1)) 1 e rest x n o h (omega arith) (stops-looser (omega arith) s) q w
 
 -- what is read there
-pub led-read : {G : Given} {e c d : ℕ} {ts rest : List Token} {ws : List ℤ} {os : List ℕ} (i : Led G (expressionDepth - 1) (λ l v. climb G.text (expressionDepth - 1) true l v) 1 e c d ts rest ws os)
+pub led-read : {G : Given} {e c d : ℕ} {ts rest : List Token} {ws : List ℤ} {os : List ℕ} (i : Led G (expression_depth - 1) (λ l v. climb G.text (expression_depth - 1) true l v) 1 e c d ts rest ws os)
     (u : Reader) → At G u (c + 1 + length i.path-words) (i.tokens ++ rest) → Stops false 0 (next G rest)
-    → Done G (expressionOn G.text true (made (pos 24 ∷ i.path-words) (i.first.place ∷ i.path-origins) 1) u) u.at e rest ws os d
-unfolding expressionOn
-led-read {G} i u a s = ends G true (expressionDepth - 1) (λ l v. climb G.text (expressionDepth - 1) true l v) (i.goes_on u a) (in-constraint s)
+    → Done G (expression_on G.text true (made (pos 24 ∷ i.path-words) (i.first.place ∷ i.path-origins) 1) u) u.at e rest ws os d
+unfolding expression_on
+led-read {G} i u a s = ends G true (expression_depth - 1) (λ l v. climb G.text (expression_depth - 1) true l v) (i.goes_on u a) (in-constraint s)

@@ -5,8 +5,8 @@ use Prim.Native.Nat.{ℕ, zero, suc, ◌+◌, ◌≤◌}
 use native.Mathlib.Omega.{arith}
 use lib.Dec.{eqb, leb}
 use Rattle.tables.proofs.SearchLaws.{cases}
-use Rattle.tokens.specs.Codes.{alwaysCode, onceCode, weakCode, mediumCode, requiredCode, ifCode, whileCode, becomesCode, colonCode, openBracketCode, besideCode}
-use Rattle.text.specs.Reading.{dueAfter, levelOf}
+use Rattle.tokens.specs.Codes.{always_code, once_code, weak_code, medium_code, required_code, if_code, while_code, becomes_code, colon_code, open_bracket_code, beside_code}
+use Rattle.text.specs.Reading.{due_after, level_of}
 use Rattle.text.specs.Grammar.{Level}
 
 -- an operator by its number
@@ -25,10 +25,10 @@ by-operator X (suc (suc (suc (suc (suc (suc (suc (suc (suc (suc zero)))))))))) l
 by-operator X (suc (suc (suc (suc (suc (suc (suc (suc (suc (suc (suc zero))))))))))) l m a b c d e f g h i j n = n
 by-operator X (suc (suc (suc (suc (suc (suc (suc (suc (suc (suc (suc (suc k)))))))))))) l m a b c d e f g h i j n = let z : ⊥ = omega arith in absurd z
 
-pub level-is : (k : ℕ) → 1 ≤ k → k ≤ 11 → Level k (levelOf k)
-unfolding levelOf
+pub level-is : (k : ℕ) → 1 ≤ k → k ≤ 11 → Level k (level_of k)
+unfolding level_of
 level-is k l m =
-    by-operator (λ n. Level n (levelOf n)) k l m (Level.sums (omega arith) (omega arith)) (Level.sums (omega arith) (omega arith)) Level.times
+    by-operator (λ n. Level n (level_of n)) k l m (Level.sums (omega arith) (omega arith)) (Level.sums (omega arith) (omega arith)) Level.times
     (Level.comparisons (omega arith) (omega arith))
     (Level.comparisons (omega arith) (omega arith))
     (Level.comparisons (omega arith) (omega arith))
@@ -46,8 +46,8 @@ level-bounds Level.both = (omega arith, omega arith)
 level-bounds Level.either = (omega arith, omega arith)
 
 -- no number has a level above 5
-pub level-most : (k : ℕ) → levelOf k ≤ 5
-unfolding levelOf
+pub level-most : (k : ℕ) → level_of k ≤ 5
+unfolding level_of
 level-most k =
     cases (eqb k 3) (λ a. rw a (omega arith))
     (λ a. cases (leb k 2) (λ b. rw (a, b) (omega arith))
@@ -56,50 +56,50 @@ level-most k =
 
 -- ---- an operand is due
 
-pub due-operator : (k : ℕ) → 1 ≤ k → k ≤ 11 → dueAfter (40 + k) ≡ true
-unfolding dueAfter
-due-operator k l m = by-operator (λ n. dueAfter (40 + n) ≡ true) k l m refl refl refl refl refl refl refl refl refl refl refl
+pub due-operator : (k : ℕ) → 1 ≤ k → k ≤ 11 → due_after (40 + k) ≡ true
+unfolding due_after
+due-operator k l m = by-operator (λ n. due_after (40 + n) ≡ true) k l m refl refl refl refl refl refl refl refl refl refl refl
 
-pub due-becomes : dueAfter becomesCode ≡ true
-unfolding dueAfter
+pub due-becomes : due_after becomes_code ≡ true
+unfolding due_after
 due-becomes = refl
 
-pub due-colon : dueAfter colonCode ≡ true
-unfolding dueAfter
+pub due-colon : due_after colon_code ≡ true
+unfolding due_after
 due-colon = refl
 
-pub due-bracket : dueAfter openBracketCode ≡ true
-unfolding dueAfter
+pub due-bracket : due_after open_bracket_code ≡ true
+unfolding due_after
 due-bracket = refl
 
-pub due-beside : dueAfter besideCode ≡ true
-unfolding dueAfter
+pub due-beside : due_after beside_code ≡ true
+unfolding due_after
 due-beside = refl
 
-pub due-always : dueAfter alwaysCode ≡ true
-unfolding dueAfter
+pub due-always : due_after always_code ≡ true
+unfolding due_after
 due-always = refl
 
-pub due-once : dueAfter onceCode ≡ true
-unfolding dueAfter
+pub due-once : due_after once_code ≡ true
+unfolding due_after
 due-once = refl
 
-pub due-weak : dueAfter weakCode ≡ true
-unfolding dueAfter
+pub due-weak : due_after weak_code ≡ true
+unfolding due_after
 due-weak = refl
 
-pub due-medium : dueAfter mediumCode ≡ true
-unfolding dueAfter
+pub due-medium : due_after medium_code ≡ true
+unfolding due_after
 due-medium = refl
 
-pub due-required : dueAfter requiredCode ≡ true
-unfolding dueAfter
+pub due-required : due_after required_code ≡ true
+unfolding due_after
 due-required = refl
 
-pub due-if : dueAfter ifCode ≡ true
-unfolding dueAfter
+pub due-if : due_after if_code ≡ true
+unfolding due_after
 due-if = refl
 
-pub due-while : dueAfter whileCode ≡ true
-unfolding dueAfter
+pub due-while : due_after while_code ≡ true
+unfolding due_after
 due-while = refl

@@ -9,8 +9,8 @@ use lib.Dec.{eqb, ltb}
 use lib.ListN.{length, length-append}
 use Rattle.tables.proofs.SearchLaws.{cases}
 use Rattle.tokens.specs.declared.Token.{Token}
-use Rattle.tokens.specs.Bytes.{sameIn}
-use Rattle.text.specs.Reading.{Named, number_in, known, withName, room_for}
+use Rattle.tokens.specs.Bytes.{same_in}
+use Rattle.text.specs.Reading.{Named, number_in, known, with_name, room_for}
 use Rattle.text.specs.Claims.{NamesAre}
 
 -- these names, and others behind
@@ -29,34 +29,34 @@ module _ (text : List ℕ) where
   unfolding number_in
   number-most [] t = omega arith
   number-most (n ∷ ns) t =
-      cases (eqb n.length (t.end - t.place) && sameIn text n.place t.place n.length)
+      cases (eqb n.length (t.end - t.place) && same_in text n.place t.place n.length)
       (λ y. rw y (omega arith)) (λ y. rw y (let z : number_in text ns t ≤ length ns = number-most ns t in omega arith))
 
   pub number-keeps : (ns xs : List Named) (t : Token) → number_in text ns t < length ns → number_in text (ns ++ xs) t ≡ number_in text ns t
   unfolding number_in
   number-keeps [] xs t h = absurd (omega arith)
   number-keeps (n ∷ ns) xs t h =
-      cases (eqb n.length (t.end - t.place) && sameIn text n.place t.place n.length)
+      cases (eqb n.length (t.end - t.place) && same_in text n.place t.place n.length)
       (λ y. rw y) (λ y. rw y (ap suc (number-keeps ns xs t (let z : suc (number_in text ns t) < suc (length ns) = rw y at h in omega arith))))
 
-  pub number-new : (ns : List Named) (t : Token) → length ns ≤ number_in text ns t → sameIn text t.place t.place (t.end - t.place) ≡ true
+  pub number-new : (ns : List Named) (t : Token) → length ns ≤ number_in text ns t → same_in text t.place t.place (t.end - t.place) ≡ true
       → number_in text (ns ++ record { place = t.place; length = t.end - t.place } ∷ []) t ≡ number_in text ns t
   unfolding number_in
   number-new [] t h e = rw (eq-eqb (t.end - t.place) (t.end - t.place) refl, e)
   number-new (n ∷ ns) t h e =
-      cases (eqb n.length (t.end - t.place) && sameIn text n.place t.place n.length)
+      cases (eqb n.length (t.end - t.place) && same_in text n.place t.place n.length)
       (λ y. rw y) (λ y. rw y (ap suc (number-new ns t (let z : suc (length ns) ≤ suc (number_in text ns t) = rw y at h in omega arith) e)))
 
-  pub with-extends : (ns : List Named) (t : Token) → Extends ns (withName text ns t)
-  unfolding withName
+  pub with-extends : (ns : List Named) (t : Token) → Extends ns (with_name text ns t)
+  unfolding with_name
   with-extends ns t = cases (known text ns t) (λ y. rw y (extends-same ns)) (λ y. rw y (record { behind = record { place = t.place; length = t.end - t.place } ∷ []; split = refl }))
 
-  pub with-known : (ns : List Named) (t : Token) → number_in text ns t < length ns → withName text ns t ≡ ns
-  unfolding withName known
+  pub with-known : (ns : List Named) (t : Token) → number_in text ns t < length ns → with_name text ns t ≡ ns
+  unfolding with_name known
   with-known ns t h = rw (lt-ltb (number_in text ns t) (length ns) h)
 
-  pub with-new : (ns : List Named) (t : Token) → length ns ≤ number_in text ns t → withName text ns t ≡ ns ++ record { place = t.place; length = t.end - t.place } ∷ []
-  unfolding withName known
+  pub with-new : (ns : List Named) (t : Token) → length ns ≤ number_in text ns t → with_name text ns t ≡ ns ++ record { place = t.place; length = t.end - t.place } ∷ []
+  unfolding with_name known
   with-new ns t h = rw (le-ltb (number_in text ns t) (length ns) h)
 
   pub names-extend : {ns ms : List Named} {ts : List Token} → NamesAre text ns ts ms → Extends ns ms
@@ -64,9 +64,9 @@ module _ (text : List ℕ) where
   names-extend (NamesAre.more {ns = ns} {t = t} k) = extends-on (with-extends ns t) (names-extend k)
 
   -- a name has its number from the moment that it is known
-  pub number-stays : (ns : List Named) (t : Token) (vs : List Named) → sameIn text t.place t.place (t.end - t.place) ≡ true
-      → Extends (withName text ns t) vs → number_in text vs t ≡ number_in text ns t
-  unfolding withName known
+  pub number-stays : (ns : List Named) (t : Token) (vs : List Named) → same_in text t.place t.place (t.end - t.place) ≡ true
+      → Extends (with_name text ns t) vs → number_in text vs t ≡ number_in text ns t
+  unfolding with_name known
   number-stays ns t vs s x =
       cases (known text ns t)
       (λ y. let f : vs ≡ ns ++ x.behind = rw y at x.split in rw f (number-keeps ns x.behind t (ltb-true (number_in text ns t) (length ns) y)))
@@ -76,15 +76,15 @@ module _ (text : List ℕ) where
       let n : number_in text (ns ++ record { place = t.place; length = t.end - t.place } ∷ []) t ≡ number_in text ns t = number-new ns t h s in
       rw f (number-keeps (ns ++ record { place = t.place; length = t.end - t.place } ∷ []) x.behind t (rw (n, length-append) (omega arith)) ∙ n))
 
-  pub number-within : (ns : List Named) (t : Token) → number_in text ns t < length (withName text ns t)
-  unfolding withName known
+  pub number-within : (ns : List Named) (t : Token) → number_in text ns t < length (with_name text ns t)
+  unfolding with_name known
   number-within ns t =
       cases (known text ns t)
       (λ y. rw y (ltb-true (number_in text ns t) (length ns) y))
       (λ y. rw (y, length-append) (let z : number_in text ns t ≤ length ns = number-most ns t in omega arith))
 
-  pub with-most : (most : ℕ) (ns : List Named) (t : Token) → room_for text most ns t ≡ true → length ns ≤ most → length (withName text ns t) ≤ most
-  unfolding withName room_for
+  pub with-most : (most : ℕ) (ns : List Named) (t : Token) → room_for text most ns t ≡ true → length ns ≤ most → length (with_name text ns t) ≤ most
+  unfolding with_name room_for
   with-most most ns t r h =
       cases (known text ns t)
       (λ y. rw y h)

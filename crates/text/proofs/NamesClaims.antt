@@ -12,15 +12,15 @@ use lib.Seq.{length-take-le, take_all, get_or-append_seam}
 use Rattle.program.proofs.GrammarLaws.{program-complete}
 use Rattle.tables.proofs.SearchLaws.{cases, and_left, and_right}
 use Rattle.tokens.specs.declared.Token.{Token}
-use Rattle.tokens.specs.Bytes.{sameIn}
-use Rattle.tokens.specs.Codes.{nameCode}
-use Rattle.tokens.specs.Tokens.{mostBytes, tokenFrom}
+use Rattle.tokens.specs.Bytes.{same_in}
+use Rattle.tokens.specs.Codes.{name_code}
+use Rattle.tokens.specs.Tokens.{most_bytes, token_from}
 use Rattle.tokens.specs.Rules.{Shared}
 use Rattle.tokens.specs.Claims.{Makes}
 use Rattle.tokens.proofs.ByteLaws.{shares}
 use Rattle.tokens.proofs.SameLaws.{same-itself}
 use Rattle.tokens.proofs.TextRules.{makes-up}
-use Rattle.text.specs.Reading.{Named, dueAfter, number_in, known, withName}
+use Rattle.text.specs.Reading.{Named, due_after, number_in, known, with_name}
 use Rattle.text.specs.Claims.{TokensOf, NamesAre, Sorted, Reads}
 use Rattle.text.specs.Names.{name_of, named, Alike, Each, First, Numbered, Names, NumberedByAppearance, AlwaysReads}
 use Rattle.text.proofs.AcceptedSound.{accepted-sound}
@@ -55,12 +55,12 @@ module _ (text : List ℕ) where
       (s.0 ∙ u.0, record { there = s.1.there; same = s.1.same ∙ v.same })
 
   abbrev pub test : Named → Token → Bool
-  test n t = eqb n.length (t.end - t.place) && sameIn text n.place t.place n.length
+  test n t = eqb n.length (t.end - t.place) && same_in text n.place t.place n.length
 
   pub test-alike : (n : Named) (t : Token) → test n t ≡ true → Alike text n (name_of t)
   test-alike n t e = (
-    eqb-true n.length (t.end - t.place) (and_left (eqb n.length (t.end - t.place)) (sameIn text n.place t.place n.length) e),
-    (shares text n.place t.place n.length).0 (and_right (eqb n.length (t.end - t.place)) (sameIn text n.place t.place n.length) e),
+    eqb-true n.length (t.end - t.place) (and_left (eqb n.length (t.end - t.place)) (same_in text n.place t.place n.length) e),
+    (shares text n.place t.place n.length).0 (and_right (eqb n.length (t.end - t.place)) (same_in text n.place t.place n.length) e),
   )
 
   pub alike-test : (n : Named) (t : Token) → Alike text n (name_of t) → test n t ≡ true
@@ -95,19 +95,19 @@ inside-from : {text : List ℕ} {at to : ℕ} {ts : List Token} → at ≤ to �
 inside-from h Inside.none = Inside.none
 inside-from {at = at} h (Inside.more {t = t} a b c i) = let l : at ≤ t.place = omega arith in Inside.more l b c i
 
-module _ (text : List ℕ) (at : ℕ) (h : at ≤ length text) (m : at ≤ mostBytes) (due : Bool) {t : Token} (e : tokenFrom due text at ≡ t) where
+module _ (text : List ℕ) (at : ℕ) (h : at ≤ length text) (m : at ≤ most_bytes) (due : Bool) {t : Token} (e : token_from due text at ≡ t) where
   made : Makes text at t
   made = rw e at (makes-up due text at h)
 
-  ends-in : (t.end ≤ length text) × ((t.end ≤ mostBytes) × (at ≤ t.end))
+  ends-in : (t.end ≤ length text) × ((t.end ≤ most_bytes) × (at ≤ t.end))
   ends-in = go made
     where
-      go : Makes text at t → (t.end ≤ length text) × ((t.end ≤ mostBytes) × (at ≤ t.end))
+      go : Makes text at t → (t.end ≤ length text) × ((t.end ≤ most_bytes) × (at ≤ t.end))
       go (Makes.whole x y a b c d) = (c, (d, omega arith))
       go (Makes.end a q b) = rw q (omega arith, (b, a))
       go (Makes.longer a q) = rw q (omega arith, (omega arith, m))
 
-  name_in : t.code ≡ nameCode → (at ≤ t.place) × (t.place < t.end)
+  name_in : t.code ≡ name_code → (at ≤ t.place) × (t.place < t.end)
   name_in n = go made
     where
       go : Makes text at t → (at ≤ t.place) × (t.place < t.end)
@@ -115,32 +115,32 @@ module _ (text : List ℕ) (at : ℕ) (h : at ≤ length text) (m : at ≤ mostB
       go (Makes.end a q b) = absurd (let z : ◌≡◌ {A = ℕ} 0 1 = rw q at n in omega arith)
       go (Makes.longer a q) = absurd (let z : ◌≡◌ {A = ℕ} 4 1 = rw q at n in omega arith)
 
-tokens-end : {text : List ℕ} {at end to last : ℕ} {ts : List Token} {t : Token} → TokensOf text at end ts to last → tokenFrom (dueAfter last) text to ≡ t
+tokens-end : {text : List ℕ} {at end to last : ℕ} {ts : List Token} {t : Token} → TokensOf text at end ts to last → token_from (due_after last) text to ≡ t
     → TokensOf text at end (ts ++ t ∷ []) t.end t.code
 tokens-end TokensOf.none e = TokensOf.more e TokensOf.none
 tokens-end (TokensOf.more q k) e = TokensOf.more q (tokens-end k e)
 
 module _ (text : List ℕ) where
-  sorted-inside : {at end to last before : ℕ} {ts vs ls : List Token} → at ≤ length text → at ≤ mostBytes → TokensOf text at end ts to last → Sorted before ts vs ls
+  sorted-inside : {at end to last before : ℕ} {ts vs ls : List Token} → at ≤ length text → at ≤ most_bytes → TokensOf text at end ts to last → Sorted before ts vs ls
       → Inside text at vs × Inside text at ls
   sorted-inside h m k Sorted.none = (Inside.none, Inside.none)
   sorted-inside {at} {end} h m (TokensOf.more e k) (Sorted.other n s) =
-      let x = ends-in text at h m (dueAfter end) e in
+      let x = ends-in text at h m (due_after end) e in
       let i = sorted-inside x.0 x.1.0 k s in
       (inside-from x.1.1 i.0, inside-from x.1.1 i.1)
-  sorted-inside {at} {end} h m (TokensOf.more e k) (Sorted.behind-dot c s) =
-      let x = ends-in text at h m (dueAfter end) e in
-      let y = name_in text at h m (dueAfter end) e c in
+  sorted-inside {at} {end} h m (TokensOf.more e k) (Sorted.behind_dot c s) =
+      let x = ends-in text at h m (due_after end) e in
+      let y = name_in text at h m (due_after end) e c in
       let i = sorted-inside x.0 x.1.0 k s in
       (inside-from x.1.1 i.0, Inside.more y.0 y.1 x.0 i.1)
   sorted-inside {at} {end} h m (TokensOf.more e k) (Sorted.before_colon d c n s) =
-      let x = ends-in text at h m (dueAfter end) e in
-      let y = name_in text at h m (dueAfter end) e c in
+      let x = ends-in text at h m (due_after end) e in
+      let y = name_in text at h m (due_after end) e c in
       let i = sorted-inside x.0 x.1.0 k s in
       (inside-from x.1.1 i.0, Inside.more y.0 y.1 x.0 i.1)
   sorted-inside {at} {end} h m (TokensOf.more e k) (Sorted.variable d c n s) =
-      let x = ends-in text at h m (dueAfter end) e in
-      let y = name_in text at h m (dueAfter end) e c in
+      let x = ends-in text at h m (due_after end) e in
+      let y = name_in text at h m (due_after end) e c in
       let i = sorted-inside x.0 x.1.0 k s in
       (Inside.more y.0 y.1 x.0 i.0, inside-from x.1.1 i.1)
 
@@ -237,8 +237,8 @@ module _ {text : List ℕ} {at : ℕ} {done : List Token} {ns : List Named} (S :
           (λ s. u (length ns) (rw long (omega arith)) (rw (new (length ns) refl) s));
     }
 
-  seen-with : Seen text t.end (done ++ t ∷ []) (withName text ns t)
-  unfolding withName known
+  seen-with : Seen text t.end (done ++ t ∷ []) (with_name text ns t)
+  unfolding with_name known
   seen-with =
       cases (known text ns t)
       (λ y. rw y (seen-known (ltb-true (number_in text ns t) (length ns) y)))
@@ -257,8 +257,8 @@ numbered-by-appearance text f r e = go (accepted-sound text f r e)
   where
     go : Reads text f.words f.origins r.variables r.labels → Names text f r
     go d =
-        let i : Inside text 0 d.variable-tokens × Inside text 0 d.label-tokens = sorted-inside text (omega arith) (omega arith) (tokens-end d.spelt refl) d.sorted in
-        record { reads = d; variables = names-numbered [] d.variable-names i.0 (seen_none text); labels = names-numbered [] d.label-names i.1 (seen_none text) }
+        let i : Inside text 0 d.variable_tokens × Inside text 0 d.label_tokens = sorted-inside text (omega arith) (omega arith) (tokens-end d.spelt refl) d.sorted in
+        record { reads = d; variables = names-numbered [] d.variable_names i.0 (seen_none text); labels = names-numbered [] d.label_names i.1 (seen_none text) }
 
 pub always-reads : AlwaysReads
 always-reads text f r e = program-complete f.words (accepted-sound text f r e).limits

@@ -13,9 +13,9 @@ use Rattle.program.specs.Reading.{among}
 use Rattle.program.proofs.AmongLaws.{among_none, among-more}
 use Rattle.tables.proofs.SearchLaws.{cases}
 use Rattle.tokens.specs.declared.Token.{Token}
-use Rattle.tokens.specs.Bytes.{sameIn}
-use Rattle.text.specs.Reading.{Named, number_in, known, withName, room_for}
-use Rattle.text.specs.Told.{name_at, isName, namesFrom, tableWith, countWith, at_most}
+use Rattle.tokens.specs.Bytes.{same_in}
+use Rattle.text.specs.Reading.{Named, number_in, known, with_name, room_for}
+use Rattle.text.specs.Told.{name_at, is_name, names_from, table_with, count_with, at_most}
 use Rattle.text.proofs.NameLaws.{number-most}
 
 pub most-small : (most n : ℕ) → at_most most n ≤ most
@@ -26,14 +26,14 @@ pub most-is : (most n : ℕ) → n ≤ most → at_most most n ≡ n
 unfolding at_most
 most-is most n h = rw (le-ltb most n h)
 
-pub length-names : (names : List ℕ) (i n : ℕ) → length (namesFrom names i n) ≡ n
-unfolding namesFrom
+pub length-names : (names : List ℕ) (i n : ℕ) → length (names_from names i n) ≡ n
+unfolding names_from
 length-names names i zero = refl
 length-names names i (suc n) = ap suc (length-names names (suc (suc i)) n)
 
 -- how many names there are with one of number n
-pub count_most : (most count n : ℕ) → count ≤ most → n ≤ count → n < most → at_most most (countWith count n) ≡ countWith count n
-unfolding countWith
+pub count_most : (most count n : ℕ) → count ≤ most → n ≤ count → n < most → at_most most (count_with count n) ≡ count_with count n
+unfolding count_with
 count_most most count n a b c =
     cases (ltb n count) (λ e. rw e (most-is most count a)) (λ e. let l : count ≤ n = ltb-false n count e in rw e (most-is most (suc count) (omega arith)))
 
@@ -61,19 +61,19 @@ module _ (text names : List ℕ) (i : ℕ) (t : Token) {w d : ℕ} (e : w ≡ ge
   named-length : get_or names (suc i) 0 ≡ w
   named-length = let y : suc i ≡ i + 1 = omega arith in rw y (sym e)
 
-  pub other_name : (w ≡ d → ⊥) → false ≡ isName text (name_at names i) t
-  unfolding isName
+  pub other_name : (w ≡ d → ⊥) → false ≡ is_name text (name_at names i) t
+  unfolding is_name
   other_name h = rw (named-length, ← l, ne_eqb w d h)
 
-  pub that-name : w ≡ d → {v : ℕ} {b : Bool} → v ≡ get_or names i 0 → b ≡ sameIn text v t.place w → b ≡ isName text (name_at names i) t
-  unfolding isName
+  pub that-name : w ≡ d → {v : ℕ} {b : Bool} → v ≡ get_or names i 0 → b ≡ same_in text v t.place w → b ≡ is_name text (name_at names i) t
+  unfolding is_name
   that-name h m n = rw (named-length, ← l, eq-eqb w d h, ← m) n
 
 -- ---- the loop that looks for a name: i are seen
 
 pub record Naming (text names : List ℕ) (from count : ℕ) (t : Token) (i : ℕ) : Type 0 where
   pub inside : i ≤ count
-  pub rest : i + number_in text (namesFrom names (from + 2 * i) (count - i)) t ≡ number_in text (namesFrom names from count) t
+  pub rest : i + number_in text (names_from names (from + 2 * i) (count - i)) t ≡ number_in text (names_from names from count) t
 
 pub naming-starts : {text names : List ℕ} {from count : ℕ} {t : Token} → Naming text names from count t 0
 naming-starts {from = from} {count = count} =
@@ -83,53 +83,53 @@ naming-starts {from = from} {count = count} =
     }
 
 module _ {text names : List ℕ} {from count : ℕ} {t : Token} {i : ℕ} (inv : Naming text names from count t i) where
-  naming-turn : i < count → i + cond (isName text (name_at names (from + 2 * i)) t) 0 (suc (number_in text (namesFrom names (from + 2 * (i + 1)) (count - (i + 1))) t)) ≡ number_in text (namesFrom names from count) t
-  unfolding namesFrom number_in isName
+  naming-turn : i < count → i + cond (is_name text (name_at names (from + 2 * i)) t) 0 (suc (number_in text (names_from names (from + 2 * (i + 1)) (count - (i + 1))) t)) ≡ number_in text (names_from names from count) t
+  unfolding names_from number_in is_name
   naming-turn h =
       let z : count - i ≡ suc (count - (i + 1)) = omega arith in
       let y : from + 2 * (i + 1) ≡ suc (suc (from + 2 * i)) = omega arith in
       rw y (rw z at inv.rest)
 
-  pub naming-hits : i < count → isName text (name_at names (from + 2 * i)) t ≡ true → i ≡ number_in text (namesFrom names from count) t
-  naming-hits h e = let k : i + 0 ≡ number_in text (namesFrom names from count) t = rw e at (naming-turn h) in omega arith
+  pub naming-hits : i < count → is_name text (name_at names (from + 2 * i)) t ≡ true → i ≡ number_in text (names_from names from count) t
+  naming-hits h e = let k : i + 0 ≡ number_in text (names_from names from count) t = rw e at (naming-turn h) in omega arith
 
-  pub naming-goes-on : i < count → isName text (name_at names (from + 2 * i)) t ≡ false → Naming text names from count t (i + 1)
+  pub naming-goes-on : i < count → is_name text (name_at names (from + 2 * i)) t ≡ false → Naming text names from count t (i + 1)
   naming-goes-on h e =
-      let k : i + suc (number_in text (namesFrom names (from + 2 * (i + 1)) (count - (i + 1))) t) ≡ number_in text (namesFrom names from count) t = rw e at (naming-turn h) in
+      let k : i + suc (number_in text (names_from names (from + 2 * (i + 1)) (count - (i + 1))) t) ≡ number_in text (names_from names from count) t = rw e at (naming-turn h) in
       record { inside = omega arith; rest = omega arith }
 
-  pub naming-ends : count ≤ i → i ≡ number_in text (namesFrom names from count) t
-  unfolding namesFrom number_in
+  pub naming-ends : count ≤ i → i ≡ number_in text (names_from names from count) t
+  unfolding names_from number_in
   naming-ends h =
       let z : count - i ≡ 0 = omega arith in
-      let k : i + 0 ≡ number_in text (namesFrom names from count) t = rw z at inv.rest in
+      let k : i + 0 ≡ number_in text (names_from names from count) t = rw z at inv.rest in
       omega arith
 
 -- ---- a name more
 
-names-set : (names : List ℕ) (j w i n : ℕ) → (i ≤ j → i + 2 * n ≤ j) → namesFrom (set names j w) i n ≡ namesFrom names i n
-unfolding namesFrom
+names-set : (names : List ℕ) (j w i n : ℕ) → (i ≤ j → i + 2 * n ≤ j) → names_from (set names j w) i n ≡ names_from names i n
+unfolding names_from
 names-set names j w i zero h = refl
 names-set names j w i (suc n) h =
     rw (get_or-set_other names j i w 0 (λ e. omega (arith, h (omega arith))), get_or-set_other names j (suc i) w 0 (λ e. omega (arith, h (omega arith))), names-set names j w (suc (suc i)) n (λ l. omega (arith, h (omega arith))))
 
-names_more : (names : List ℕ) (i n : ℕ) → namesFrom names i (suc n) ≡ namesFrom names i n ++ name_at names (i + 2 * n) ∷ []
-unfolding namesFrom
+names_more : (names : List ℕ) (i n : ℕ) → names_from names i (suc n) ≡ names_from names i n ++ name_at names (i + 2 * n) ∷ []
+unfolding names_from
 names_more names i zero = let y : i + 2 * 0 ≡ i = omega arith in rw y
 names_more names i (suc n) =
     let y : i + 2 * suc n ≡ suc (suc i) + 2 * n = omega arith in
     rw y (ap (λ s. name_at names i ∷ s) (names_more names (suc (suc i)) n))
 
 pub table-with : (names : List ℕ) (from count number : ℕ) (t : Token) {one two : List ℕ} {d : ℕ} → count ≤ number → one ≡ set names (from + 2 * count) t.place → d ≡ t.end - t.place
-    → two ≡ set one (from + 2 * count + 1) d → two ≡ tableWith names from count number t
-unfolding tableWith
+    → two ≡ set one (from + 2 * count + 1) d → two ≡ table_with names from count number t
+unfolding table_with
 table-with names from count number t h a b e =
     let y : suc (from + 2 * count) ≡ from + 2 * count + 1 = omega arith in
     rw (le-ltb number count h, y, ← a, ← b) e
 
 -- names that the new one does not touch
-pub other-names : (names : List ℕ) (from count number : ℕ) (t : Token) (i n : ℕ) → (count ≤ number → i ≤ suc (from + 2 * count) → i + 2 * n ≤ from + 2 * count) → namesFrom (tableWith names from count number t) i n ≡ namesFrom names i n
-unfolding tableWith
+pub other-names : (names : List ℕ) (from count number : ℕ) (t : Token) (i n : ℕ) → (count ≤ number → i ≤ suc (from + 2 * count) → i + 2 * n ≤ from + 2 * count) → names_from (table_with names from count number t) i n ≡ names_from names i n
+unfolding table_with
 other-names names from count number t i n h =
     cases (ltb number count)
     (λ e. rw e)
@@ -152,14 +152,14 @@ module _ (names : List ℕ) (from count : ℕ) (t : Token) (room : suc (from + 2
   new-length : get_or twice (suc at) 0 ≡ t.end - t.place
   new-length = get_or-set_same once (suc at) (t.end - t.place) 0 (simp length-set room)
 
-  names-added : namesFrom twice from (suc count) ≡ namesFrom names from count ++ record { place = t.place; length = t.end - t.place } ∷ []
+  names-added : names_from twice from (suc count) ≡ names_from names from count ++ record { place = t.place; length = t.end - t.place } ∷ []
   names-added =
-      let b : namesFrom twice from count ≡ namesFrom names from count = names-set once (suc at) (t.end - t.place) from count (λ l. omega arith) ∙ names-set names at t.place from count (λ l. omega arith) in
+      let b : names_from twice from count ≡ names_from names from count = names-set once (suc at) (t.end - t.place) from count (λ l. omega arith) ∙ names-set names at t.place from count (λ l. omega arith) in
       names_more twice from count ∙ rw (b, new-place, new-length)
 
-pub names-with : (text names : List ℕ) (from count number : ℕ) (t : Token) → (count ≤ number → suc (from + 2 * count) < length names) → number ≡ number_in text (namesFrom names from count) t
-    → namesFrom (tableWith names from count number t) from (countWith count number) ≡ withName text (namesFrom names from count) t
-unfolding tableWith countWith withName known
+pub names-with : (text names : List ℕ) (from count number : ℕ) (t : Token) → (count ≤ number → suc (from + 2 * count) < length names) → number ≡ number_in text (names_from names from count) t
+    → names_from (table_with names from count number t) from (count_with count number) ≡ with_name text (names_from names from count) t
+unfolding table_with count_with with_name known
 names-with text names from count number t room is =
     cases (ltb number count)
     (λ e. rw (← is, length-names names from count, e))

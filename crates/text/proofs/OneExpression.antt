@@ -8,7 +8,7 @@ use lib.Dec.{eqb}
 use lib.IntN.{ℤ, pos}
 use lib.ListN.{length, length-append}
 use Rattle.tokens.specs.declared.Token.{Token}
-use Rattle.tokens.specs.Codes.{nameCode, numberCode, trueCode, falseCode, nilCode, dotCode, openBracketCode, closeBracketCode, identicalCode}
+use Rattle.tokens.specs.Codes.{name_code, number_code, true_code, false_code, nil_code, dot_code, open_bracket_code, close_bracket_code, identical_code}
 use Rattle.text.specs.Grammar.{Meaning, Labels, Path, Level, Expression}
 use Rattle.text.proofs.Cuts.{tails}
 use Rattle.text.proofs.OperatorsRead.{is-operator, Stops, stops-looser, stops-by, stops-operator}
@@ -36,7 +36,7 @@ not_at c h u vs e z = h (codes e ∙ z)
 
 module _ (M : Meaning) where
   labels-one : {n m : ℕ} {a b : List Token} (r s : List Token) {ws vs : List ℤ} {os us : List ℕ} → Labels M n a ws os → Labels M m b vs us
-      → a ++ r ≡ b ++ s → Not dotCode r → Not dotCode s → (n ≡ m) × Same r s ws vs os us
+      → a ++ r ≡ b ++ s → Not dot_code r → Not dot_code s → (n ≡ m) × Same r s ws vs os us
   labels-one r s Labels.none Labels.none q h k = (refl, record { rest = q; words = refl; origins = refl })
   labels-one r s Labels.none (Labels.one d l {ts = ts} c e f) q h k = absurd (h d (l ∷ (ts ++ s)) q c)
   labels-one r s (Labels.one d l {ts = ts} c e f) Labels.none q h k = absurd (k d (l ∷ (ts ++ r)) (sym q) c)
@@ -46,7 +46,7 @@ module _ (M : Meaning) where
       (ap suc i.0, record { rest = i.1.rest; words = cc (p, i.1.words); origins = cc (p, i.1.origins) })
 
   pub path-one : {a b : List Token} (r s : List Token) {ws vs : List ℤ} {os us : List ℕ} → Path M a ws os → Path M b vs us
-      → a ++ r ≡ b ++ s → Not dotCode r → Not dotCode s → Same r s ws vs os us
+      → a ++ r ≡ b ++ s → Not dot_code r → Not dot_code s → Same r s ws vs os us
   path-one r s (Path.path x n f) (Path.path y m g) q h k =
       let i = labels-one r s f g (tails q) h k in
       let p : x ≡ y = first q in
@@ -61,7 +61,7 @@ Stopped in_c l r = (t : Token) (us : List Token) → r ≡ t ∷ us → Stops in
 pub stopped-at : {in_c : Bool} {l : ℕ} {t : Token} {us : List Token} → Stops in_c l t → Stopped in_c l (t ∷ us)
 stopped-at s u vs e = rw (first e) at s
 
-undotted : {in_c : Bool} {l : ℕ} {r : List Token} → Stopped in_c l r → Not dotCode r
+undotted : {in_c : Bool} {l : ℕ} {r : List Token} → Stopped in_c l r → Not dot_code r
 undotted h t us e = (h t us e).undotted
 
 level-most : {k l : ℕ} → Level k l → l ≤ 5
@@ -86,19 +86,19 @@ module _ (M : Meaning) (in_c : Bool) where
   -- ---- operands
 
   literal : Token → List ℤ
-  literal t = cond (eqb t.code nilCode) (pos 20 ∷ []) (cond (eqb t.code falseCode) (pos 21 ∷ []) (cond (eqb t.code trueCode) (pos 22 ∷ []) (pos 23 ∷ M.integer t ∷ [])))
+  literal t = cond (eqb t.code nil_code) (pos 20 ∷ []) (cond (eqb t.code false_code) (pos 21 ∷ []) (cond (eqb t.code true_code) (pos 22 ∷ []) (pos 23 ∷ M.integer t ∷ [])))
 
   places : Token → List ℕ
-  places t = cond (eqb t.code numberCode) (t.place ∷ t.place ∷ []) (t.place ∷ [])
+  places t = cond (eqb t.code number_code) (t.place ∷ t.place ∷ []) (t.place ∷ [])
 
   -- the forms of an operand, literals as one
   data Operand : List Token → List ℤ → List ℕ → Type 0 where
-    word : (t : Token) {ws : List ℤ} {os : List ℕ} → (t.code ≡ nameCode → ⊥) → (t.code ≡ openBracketCode → ⊥) → ws ≡ literal t → os ≡ places t → Operand (t ∷ []) ws os
+    word : (t : Token) {ws : List ℤ} {os : List ℕ} → (t.code ≡ name_code → ⊥) → (t.code ≡ open_bracket_code → ⊥) → ws ≡ literal t → os ≡ places t → Operand (t ∷ []) ws os
     path : (t : Token) {ts : List Token} {ws : List ℤ} {os : List ℕ} → Path M (t ∷ ts) ws os → Operand (t ∷ ts) (pos 24 ∷ ws) (t.place ∷ os)
-    same : {a b : List Token} (e : Token) {va vb : List ℤ} {oa ob : List ℕ} → in_c ≡ false → Path M a va oa → e.code ≡ identicalCode → Path M b vb ob
+    same : {a b : List Token} (e : Token) {va vb : List ℤ} {oa ob : List ℕ} → in_c ≡ false → Path M a va oa → e.code ≡ identical_code → Path M b vb ob
         → Operand (a ++ e ∷ b) (pos 26 ∷ va ++ vb) (e.place ∷ oa ++ ob)
     brackets : {ts : List Token} (o c : Token) {ws : List ℤ} {os : List ℕ}
-        → o.code ≡ openBracketCode → Expression M in_c 1 ts ws os → c.code ≡ closeBracketCode → Operand (o ∷ ts ++ c ∷ []) ws os
+        → o.code ≡ open_bracket_code → Expression M in_c 1 ts ws os → c.code ≡ close_bracket_code → Operand (o ∷ ts ++ c ∷ []) ws os
 
   operand-of : {l : ℕ} {ts : List Token} {ws : List ℤ} {os : List ℕ} → Expression M in_c l ts ws os → 6 ≤ l → Operand ts ws os
   unfolding literal places
@@ -119,8 +119,8 @@ module _ (M : Meaning) (in_c : Bool) where
       (a b r s : List Token) (ws vs : List ℤ) (os us : List ℕ) → Expression M in_c (suc l) a ws os → Expression M in_c (suc l) b vs us → length a < n
       → a ++ r ≡ b ++ s → Stopped in_c l r → Stopped in_c l s → Same r s ws vs os us
 
-  closes : {c : Token} {us : List Token} → c.code ≡ closeBracketCode → Stopped in_c 0 (c ∷ us)
-  closes {c} n = stopped-at (stops-by closeBracketCode c n (λ z. omega arith) (λ z. omega arith) (λ z. omega arith) refl)
+  closes : {c : Token} {us : List Token} → c.code ≡ close_bracket_code → Stopped in_c 0 (c ∷ us)
+  closes {c} n = stopped-at (stops-by close_bracket_code c n (λ z. omega arith) (λ z. omega arith) (λ z. omega arith) refl)
 
   operands-one : (n : ℕ) → One 0 n → {a b : List Token} (r s : List Token) {ws vs : List ℤ} {os us : List ℕ} → Operand a ws os → Operand b vs us → length a ≤ n
       → a ++ r ≡ b ++ s → Stopped in_c 5 r → Stopped in_c 5 s → Same r s ws vs os us
@@ -134,16 +134,16 @@ module _ (M : Meaning) (in_c : Bool) where
       let i = path-one M r s p w q (undotted h) (undotted k) in
       record { rest = i.rest; words = cc i.words; origins = cc (i.origins, first q) }
   operands-one n ih r s (Operand.path t p) (Operand.same {a = a} {b = b} e z w m v) l q h k =
-      let i = path-one M r (e ∷ (b ++ s)) p w (q ∙ append_assoc a (e ∷ b) s) (undotted h) (not_at dotCode (λ z. omega arith)) in
+      let i = path-one M r (e ∷ (b ++ s)) p w (q ∙ append_assoc a (e ∷ b) s) (undotted h) (not_at dot_code (λ z. omega arith)) in
       absurd ((h e (b ++ s) i.rest).unlike z m)
   operands-one n ih r s (Operand.path t (Path.path v m g)) (Operand.brackets o c x p w) l q h k = absurd (omega (arith, codes q))
   operands-one n ih r s (Operand.same i w (Path.path v m g) j p) (Operand.word t x y e f) l q h k = absurd (x (sym (codes q) ∙ m))
   operands-one n ih r s (Operand.same {a = a} {b = b} e z w m v) (Operand.path t p) l q h k =
-      let i = path-one M (e ∷ (b ++ r)) s w p (sym (append_assoc a (e ∷ b) r) ∙ q) (not_at dotCode (λ z. omega arith)) (undotted k) in
+      let i = path-one M (e ∷ (b ++ r)) s w p (sym (append_assoc a (e ∷ b) r) ∙ q) (not_at dot_code (λ z. omega arith)) (undotted k) in
       absurd ((k e (b ++ r) (sym i.rest)).unlike z m)
   operands-one n ih r s (Operand.same {a = a} {b = b} e z w m v) (Operand.same {a = a'} {b = b'} e' z' w' m' v') l q h k =
-      let i = path-one M (e ∷ (b ++ r)) (e' ∷ (b' ++ s)) w w' (sym (append_assoc a (e ∷ b) r) ∙ q ∙ append_assoc a' (e' ∷ b') s) (not_at dotCode (λ z. omega arith))
-      (not_at dotCode (λ z. omega arith)) in
+      let i = path-one M (e ∷ (b ++ r)) (e' ∷ (b' ++ s)) w w' (sym (append_assoc a (e ∷ b) r) ∙ q ∙ append_assoc a' (e' ∷ b') s) (not_at dot_code (λ z. omega arith))
+      (not_at dot_code (λ z. omega arith)) in
       let j = path-one M r s v v' (tails i.rest) (undotted h) (undotted k) in
       record { rest = j.rest; words = cc (i.words, j.words); origins = cc (first i.rest, i.origins, j.origins) }
   operands-one n ih r s (Operand.same e z (Path.path v m g) j p) (Operand.brackets o c x y w) l q h k = absurd (omega (arith, codes q))

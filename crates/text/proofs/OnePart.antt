@@ -6,9 +6,9 @@ use Prim.Native.Nat.{ℕ, suc, ◌+◌, ◌≤◌}
 use native.Mathlib.Omega.{arith}
 use lib.IntN.{ℤ}
 use Rattle.tokens.specs.declared.Token.{Token}
-use Rattle.tokens.specs.Codes.{newCode, weakCode}
-use Rattle.tokens.specs.Codes.{colonCode, commaCode, dotCode, identicalCode, besideCode}
-use Rattle.text.specs.Reading.{isOperator}
+use Rattle.tokens.specs.Codes.{new_code, weak_code}
+use Rattle.tokens.specs.Codes.{colon_code, comma_code, dot_code, identical_code, beside_code}
+use Rattle.text.specs.Reading.{is_operator}
 use Rattle.text.specs.Grammar.{Meaning, Path, Expression, Part, Parts, Constraint, Fields}
 use Rattle.text.proofs.Cuts.{tails}
 use Rattle.text.proofs.OperatorsRead.{stops-by}
@@ -18,8 +18,8 @@ use Rattle.text.proofs.OneExpression.{first, codes, Same, Not, Stopped, stopped-
 
 -- not with a priority, and not with `new`
 pub record Begins (t : Token) : Type 0 where
-  pub unsaid : {k : ℕ} → 1 ≤ k → k ≤ 3 → t.code + 1 ≡ weakCode + k → ⊥
-  pub unmade : t.code ≡ newCode → ⊥
+  pub unsaid : {k : ℕ} → 1 ≤ k → k ≤ 3 → t.code + 1 ≡ weak_code + k → ⊥
+  pub unmade : t.code ≡ new_code → ⊥
 
 begins-path : {M : Meaning} {a : List Token} (r : List Token) {ws : List ℤ} {os : List ℕ} (t : Token) (us : List Token) → Path M a ws os → a ++ r ≡ t ∷ us → Begins t
 begins-path r t us (Path.path x n f) q = let c = codes q in record { unsaid = λ h k e. omega arith; unmade = λ e. omega arith }
@@ -37,7 +37,7 @@ begins r t us (Expression.tighter h p) q = begins r t us p q
 begins r t us (Expression.operation {a = a} {b = b} o p n v w) q = begins (o ∷ (b ++ r)) t us p (sym (append_assoc a (o ∷ b) r) ∙ q)
 
 -- what follows an expression where it ends by a token of such a code
-pub ends_by : {in_c : Bool} (c : ℕ) {t : Token} {us : List Token} → t.code ≡ c → (c ≡ dotCode → ⊥) → (c ≡ colonCode → ⊥) → (c ≡ identicalCode → ⊥) → isOperator c ≡ false
+pub ends_by : {in_c : Bool} (c : ℕ) {t : Token} {us : List Token} → t.code ≡ c → (c ≡ dot_code → ⊥) → (c ≡ colon_code → ⊥) → (c ≡ identical_code → ⊥) → is_operator c ≡ false
     → Stopped in_c 0 (t ∷ us)
 ends_by c {t} e d f g h = stopped-at (stops-by c t e d f g h)
 
@@ -56,11 +56,11 @@ module _ (M : Meaning) where
       let i = expression-one M true r s x y q f g in
       record { rest = i.rest; words = cc i.words; origins = cc (first q, i.origins) }
 
-  joined : {t : Token} {us : List Token} → t.code ≡ besideCode → Stopped true 0 (t ∷ us)
-  joined e = ends_by besideCode e (λ z. omega arith) (λ z. omega arith) (λ z. omega arith) refl
+  joined : {t : Token} {us : List Token} → t.code ≡ beside_code → Stopped true 0 (t ∷ us)
+  joined e = ends_by beside_code e (λ z. omega arith) (λ z. omega arith) (λ z. omega arith) refl
 
   parts-one : {n m : ℕ} {a b : List Token} (r s : List Token) {ws vs : List ℤ} {os us : List ℕ} → Parts M n a ws os → Parts M m b vs us → a ++ r ≡ b ++ s
-      → Stopped true 0 r → Stopped true 0 s → Not besideCode r → Not besideCode s → (n ≡ m) × Same r s ws vs os us
+      → Stopped true 0 r → Stopped true 0 s → Not beside_code r → Not beside_code s → (n ≡ m) × Same r s ws vs os us
   parts-one r s (Parts.one x) (Parts.one y) q f g h k = (refl, part-one r s x y q f g)
   parts-one r s (Parts.one x) (Parts.more {a = a} {b = b} j y n z) q f g h k =
       let i = part-one r (j ∷ (b ++ s)) x y (q ∙ append_assoc a (j ∷ b) s) f (joined n) in absurd (h j (b ++ s) i.rest n)
@@ -72,18 +72,18 @@ module _ (M : Meaning) where
       (ap suc l.0, record { rest = l.1.rest; words = cc (i.words, l.1.words); origins = cc (i.origins, l.1.origins) })
 
   pub constraint-one : {a b : List Token} (r s : List Token) {ws vs : List ℤ} {os us : List ℕ} → Constraint M a ws os → Constraint M b vs us → a ++ r ≡ b ++ s
-      → Stopped true 0 r → Stopped true 0 s → Not besideCode r → Not besideCode s → Same r s ws vs os us
+      → Stopped true 0 r → Stopped true 0 s → Not beside_code r → Not beside_code s → Same r s ws vs os us
   constraint-one r s (Constraint.constraint t x) (Constraint.constraint u y) q f g h k =
       let i = parts-one r s x y q f g h k in
       record { rest = i.1.rest; words = cc (i.0, i.1.words); origins = cc (first q, i.1.origins) }
 
   -- ---- fields
 
-  parted : {t : Token} {us : List Token} → t.code ≡ commaCode → Stopped false 0 (t ∷ us)
-  parted e = ends_by commaCode e (λ z. omega arith) (λ z. omega arith) (λ z. omega arith) refl
+  parted : {t : Token} {us : List Token} → t.code ≡ comma_code → Stopped false 0 (t ∷ us)
+  parted e = ends_by comma_code e (λ z. omega arith) (λ z. omega arith) (λ z. omega arith) refl
 
   pub fields-one : {n m : ℕ} {a b : List Token} (r s : List Token) {ws vs : List ℤ} {os us : List ℕ} → Fields M n a ws os → Fields M m b vs us → a ++ r ≡ b ++ s
-      → Stopped false 0 r → Stopped false 0 s → Not commaCode r → Not commaCode s → (n ≡ m) × Same r s ws vs os us
+      → Stopped false 0 r → Stopped false 0 s → Not comma_code r → Not comma_code s → (n ≡ m) × Same r s ws vs os us
   fields-one r s (Fields.one l c n m x) (Fields.one l' c' n' m' y) q f g h k =
       let i = expression-one M false r s x y (tails (tails q)) f g in
       (refl, record { rest = i.rest; words = cc (first q, i.words); origins = cc (first q, i.origins) })

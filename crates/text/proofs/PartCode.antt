@@ -14,12 +14,12 @@ use Rattle.words.proofs.AnswerLaws.{stop≢got, step, either, bind-cong, got-inj
 use Rattle.words.proofs.Laws.{word-is}
 use Rattle.tables.proofs.SearchLaws.{cases, and_right}
 use Rattle.tokens.specs.declared.Token.{Token}
-use Rattle.tokens.specs.Codes.{besideCode, openBracketCode, nameCode}
-use Rattle.text.specs.Reading.{Fault, Reader, Form, wordThen, and_then, empty, owing, passing, is, peek, take, variable, path}
-use Rattle.text.specs.Reading.{pathOrSame, literal, literalAt, outside, operand, enough, opened, climb, expression, priority, part_at, partsOn, constraintOn}
-use Rattle.text.specs.Told.{Carried, readerOf, Peeks, Follows}
-use Rattle.text.specs.Written.{with1, wroteOne, Passes, Owes}
-use Rattle.text.specs.Pieces.{Lent, lent, form_of, Fit, Does, Piece, Expression, Onward, behindFirst}
+use Rattle.tokens.specs.Codes.{beside_code, open_bracket_code, name_code}
+use Rattle.text.specs.Reading.{Fault, Reader, Form, word_then, and_then, empty, owing, passing, is, peek, take, variable, path}
+use Rattle.text.specs.Reading.{path_or_same, literal, literal_at, outside, operand, enough, opened, climb, expression, priority, part_at, parts_on, constraint_on}
+use Rattle.text.specs.Told.{Carried, reader_of, Peeks, Follows}
+use Rattle.text.specs.Written.{with1, wrote_one, Passes, Owes}
+use Rattle.text.specs.Pieces.{Lent, lent, form_of, Fit, Does, Piece, Expression, Onward, behind_first}
 use Rattle.text.proofs.PieceLaws.{either_way}
 use Rattle.text.proofs.RowsLaws.{fit-from}
 use Rattle.text.proofs.AnswerSteps.{beside, flat, following, worded, behind-first, passing-none, passing-one, take-never, variable-never}
@@ -57,7 +57,7 @@ module _ (text : List ℕ) (q : Reader) (t : Token) (e : t ≡ peek text q) wher
 
 module _ (text : List ℕ) {names after : List ℕ} {ws vs xs : List ℤ} {os us ys : List ℕ} {r u s e : Carried} {t : Token} {p : ℕ}
     (peeks : Peeks text r t) (prior : (l : List ℕ) → p ≡ priority l t) where
-  pub part-said : {w : ℤ} → 0 < p → Follows r (λ q. take text 1 q) u → w ≡ word_of p → vs ≡ with1 ws u w → us ≡ with1 os u t.place → s ≡ wroteOne u
+  pub part-said : {w : ℤ} → 0 < p → Follows r (λ q. take text 1 q) u → w ≡ word_of p → vs ≡ with1 ws u w → us ≡ with1 os u t.place → s ≡ wrote_one u
       → Expression 2 0 (lent names vs us) s (λ q. expression text true q) (lent after xs ys) e
       → Piece 1 0 (lent names ws os) r (λ q. part_at text q) (lent after xs ys) e
   part-said {w = w} h f k a b c d =
@@ -67,11 +67,11 @@ module _ (text : List ℕ) {names after : List ℕ} {ws vs xs : List ℤ} {os us
       does-as
       (does-then (does-take text 1 f) (does-then (does-word w t.place (omega arith) a b c) (does-piece y)))
       (λ fit z.
-      taken_then (form_of false r.written (lent names ws os) r) w t.place (take text 1 (readerOf names r)) (λ v. expression text true v)
+      taken_then (form_of false r.written (lent names ws os) r) w t.place (take text 1 (reader_of names r)) (λ v. expression text true v)
       (form-none false (lent names ws os) r).0 (form-none false (lent names ws os) r).1
-      ∙ rw g (is_said text (readerOf names r) t (peeks names) (omega (arith, prior text))))
+      ∙ rw g (is_said text (reader_of names r) t (peeks names) (omega (arith, prior text))))
 
-  pub part-unsaid : p ≤ 0 → Owes 1 r u → vs ≡ with1 ws u (pos 3) → us ≡ with1 os u t.place → s ≡ wroteOne u
+  pub part-unsaid : p ≤ 0 → Owes 1 r u → vs ≡ with1 ws u (pos 3) → us ≡ with1 os u t.place → s ≡ wrote_one u
       → Expression 2 0 (lent names vs us) s (λ q. expression text true q) (lent after xs ys) e
       → Piece 1 0 (lent names ws os) r (λ q. part_at text q) (lent after xs ys) e
   part-unsaid h f a b c d =
@@ -79,32 +79,32 @@ module _ (text : List ℕ) {names after : List ℕ} {ws vs xs : List ℤ} {os us
       does-as
       (does-then (does-owe text 1 (omega arith) (omega arith) f) (does-then (does-word (pos 3) t.place (omega arith) a b c) (does-piece y)))
       (λ fit z.
-      word-then (form_of false r.written (lent names ws os) r) (pos 3) t.place (expression text true (owing 1 (readerOf names r)))
+      word-then (form_of false r.written (lent names ws os) r) (pos 3) t.place (expression text true (owing 1 (reader_of names r)))
       (form-none false (lent names ws os) r).0 (form-none false (lent names ws os) r).1
-      ∙ is-unsaid text (readerOf names r) t (peeks names) (omega (arith, prior text)))
+      ∙ is-unsaid text (reader_of names r) t (peeks names) (omega (arith, prior text)))
 
 -- ---- where a limit is passed no part is read
 
 module _ (text : List ℕ) where
-  path-never {ℓ} : {X : Type ℓ} (q : Reader) (x : Form × Reader) → q.passed ≡ true → pathOrSame text true q ≡ got x → X
-  unfolding pathOrSame path
+  path-never {ℓ} : {X : Type ℓ} (q : Reader) (x : Form × Reader) → q.passed ≡ true → path_or_same text true q ≡ got x → X
+  unfolding path_or_same path
   path-never q x h e = step (path text 3 q) _ e λ f e1 e2. step (variable text 3 q) _ e1 λ y e3 e4. variable-never text 3 q y h e3
 
-  literal-never {ℓ} : {X : Type ℓ} (q : Reader) (l : Answer (Unit {0}) (List ℤ)) (x : Form × Reader) → q.passed ≡ true → literalAt text q l ≡ got x → X
-  unfolding literalAt
+  literal-never {ℓ} : {X : Type ℓ} (q : Reader) (l : Answer (Unit {0}) (List ℤ)) (x : Form × Reader) → q.passed ≡ true → literal_at text q l ≡ got x → X
+  unfolding literal_at
   literal-never q (got ws) x h e = step (take text (length ws) (passing (outside text (peek text q)) q)) _ e λ s e1 e2. take-never text (length ws) (passing (outside text (peek text q)) q) s (rw h) e1
   literal-never q (stop u) x h e = stop≢got e
 
   operand-never {ℓ} : {X : Type ℓ} (q : Reader) (x : Form × Reader) → q.passed ≡ true → operand text true q ≡ got x → X
   unfolding operand
-  operand-never q x h e = either_way (is text q nameCode) _ _ e (λ t f. path-never q x h f) (λ t f. literal-never q (literal text (peek text q)) x h f)
+  operand-never q x h e = either_way (is text q name_code) _ _ e (λ t f. path-never q x h f) (λ t f. literal-never q (literal text (peek text q)) x h f)
 
   expression-never {ℓ} : {X : Type ℓ} (q : Reader) (x : Form × Reader) → q.passed ≡ true → expression text true q ≡ got x → X
   unfolding expression climb opened
   expression-never q x h e =
       step (opened text (enough text) 0 q) _ e λ y e1 e2.
       step (operand text true y.1) _ e2 λ o e3 e4.
-      either_way (is text q openBracketCode) _ _ e1
+      either_way (is text q open_bracket_code) _ _ e1
       (λ t f. step (take text 0 q) _ f λ s f1 f2. take-never text 0 q s h f1)
       (λ t f. let g : (0, q) ≡ y = got-inj f in operand-never y.1 o (rw (← g) h) e3)
 
@@ -119,18 +119,18 @@ module _ (text : List ℕ) where
 
 -- m and the parts more that are read behind the form f, whose first word it is; one part more before them
 abbrev pub counting : ℕ → ℕ → Form → Answer Fault (ℕ × (Form × Reader)) → Answer Fault (Form × Reader)
-counting m p f a = a >>= λ g. got (wordThen (pos (m + g.0)) p (and_then (behindFirst f) g.1.0), g.1.1)
+counting m p f a = a >>= λ g. got (word_then (pos (m + g.0)) p (and_then (behind_first f) g.1.0), g.1.1)
 
-abbrev onePart : Form → Answer Fault (ℕ × (Form × Reader)) → Answer Fault (ℕ × (Form × Reader))
-onePart y a = a >>= λ g. got (suc g.0, (and_then y g.1.0, g.1.1))
+abbrev one_part : Form → Answer Fault (ℕ × (Form × Reader)) → Answer Fault (ℕ × (Form × Reader))
+one_part y a = a >>= λ g. got (suc g.0, (and_then y g.1.0, g.1.1))
 
 -- the parts behind those that have been read, which are m, and their number before them all, which comes from p; behind the 17th there is none
 abbrev pub rest_of : List ℕ → ℕ → ℕ → Form → Reader → Answer Fault (Form × Reader)
-rest_of text p m f q = cond (leb m 16) (counting m p f (partsOn text (16 - m) q)) (got (f, q))
+rest_of text p m f q = cond (leb m 16) (counting m p f (parts_on text (16 - m) q)) (got (f, q))
 
 -- what is promised of the parts behind a first one, with their number at the word from, which comes from p
 abbrev pub Constrains : List ℕ → ℕ → ℕ → Lent → Carried → Lent → Carried → Type 0
-Constrains text from p a r b s = (most : ℕ) → most ≤ 3 → (r.number ≡ 0 → from < r.written) → Onward false most most from a r (λ f q. constraintOn text p (behindFirst f) q) b s
+Constrains text from p a r b s = (most : ℕ) → most ≤ 3 → (r.number ≡ 0 → from < r.written) → Onward false most most from a r (λ f q. constraint_on text p (behind_first f) q) b s
 
 -- one part is read at each turn
 pub record Parted (text : List ℕ) (from p : ℕ) (a : Lent) (r : Carried) (m : ℕ) (b : Lent) (s : Carried) : Type 0 where
@@ -139,34 +139,34 @@ pub record Parted (text : List ℕ) (from p : ℕ) (a : Lent) (r : Carried) (m :
   pub origins : length b.origins ≡ length a.origins
   pub begun : {most : ℕ} → most ≤ 3 → (r.number ≡ 0 → from < r.written) → Fit most 0 from a r → (s.number ≡ 0 → from < s.written) × Fit most 0 from b s
   pub rest : {most : ℕ} {c : Lent} {u : Carried} → most ≤ 3 → (r.number ≡ 0 → from < r.written)
-      → Does false most 0 most 0 from b s (λ f q. rest_of text p m f q) c u → Does false most 0 most 0 from a r (λ f q. constraintOn text p (behindFirst f) q) c u
+      → Does false most 0 most 0 from b s (λ f q. rest_of text p m f q) c u → Does false most 0 most 0 from a r (λ f q. constraint_on text p (behind_first f) q) c u
 
 pub parted-starts : {text : List ℕ} {from p : ℕ} {a : Lent} {r : Carried} → Parted text from p a r 1 a r
-unfolding constraintOn
+unfolding constraint_on
 parted-starts {text = text} {from = from} {p = p} {a = a} {r = r} =
     record {
       names = refl;
       words = refl;
       origins = refl;
       begun = λ h l f. (l, f);
-      rest = λ h l d. does-as d (λ fit z. bind-cong (partsOn text 15 (readerOf a.names r)) _ _ (λ g e. let y : 1 + g.0 ≡ suc g.0 = omega arith in rw y));
+      rest = λ h l d. does-as d (λ fit z. bind-cong (parts_on text 15 (reader_of a.names r)) _ _ (λ g e. let y : 1 + g.0 ≡ suc g.0 = omega arith in rw y));
     }
 
 module _ (p m : ℕ) (f : Form) (h : 0 < length f.words) (k : 0 < length f.origins) where
-  turn-counts : (y : Form) (a : Answer Fault (ℕ × (Form × Reader))) → counting (m + 1) p (and_then f y) a ≡ counting m p f (onePart y a)
+  turn-counts : (y : Form) (a : Answer Fault (ℕ × (Form × Reader))) → counting (m + 1) p (and_then f y) a ≡ counting m p f (one_part y a)
   turn-counts y (got g) =
       let e : m + 1 + g.0 ≡ m + suc g.0 = omega arith in
-      rw (e, behind-first f y h k, append_assoc (behindFirst f).words y.words g.1.0.words, append_assoc (behindFirst f).origins y.origins g.1.0.origins)
+      rw (e, behind-first f y h k, append_assoc (behind_first f).words y.words g.1.0.words, append_assoc (behind_first f).origins y.origins g.1.0.origins)
   turn-counts y (stop e) = refl
 
   turn-parts : (a : Answer Fault (Form × Reader)) (on : Reader → Answer Fault (ℕ × (Form × Reader)))
-      → (following f a >>= λ x. counting (m + 1) p x.0 (on x.1)) ≡ counting m p f (a >>= λ y. onePart y.0 (on y.1))
+      → (following f a >>= λ x. counting (m + 1) p x.0 (on x.1)) ≡ counting m p f (a >>= λ y. one_part y.0 (on y.1))
   turn-parts (got y) on = turn-counts y.0 (on y.1)
   turn-parts (stop e) on = refl
 
   turn-takes : (t : Answer Fault Reader) (part : Reader → Answer Fault (Form × Reader)) (on : Reader → Answer Fault (ℕ × (Form × Reader)))
       → ((beside f t >>= λ x. following x.0 (part (passing false x.1))) >>= λ x. counting (m + 1) p x.0 (on x.1))
-      ≡ counting m p f (t >>= λ s. part s >>= λ y. onePart y.0 (on y.1))
+      ≡ counting m p f (t >>= λ s. part s >>= λ y. one_part y.0 (on y.1))
   turn-takes (got v) part on = rw (passing-none v) (turn-parts (part v) on)
   turn-takes (stop e) part on = refl
 
@@ -182,28 +182,28 @@ module _ (text : List ℕ) (p : ℕ) where
   turn-full f (got v) = either (part_at text (passing true v)) (λ y e. part-never text (passing true v) y (passing-one v) e) (λ n e. rw e)
   turn-full f (stop e) = refl
 
-  turn : (m : ℕ) (f : Form) (q : Reader) → m ≤ 16 → is text q besideCode ≡ true → 0 < length f.words → 0 < length f.origins
+  turn : (m : ℕ) (f : Form) (q : Reader) → m ≤ 16 → is text q beside_code ≡ true → 0 < length f.words → 0 < length f.origins
       → ((beside f (take text 0 q) >>= λ x. following x.0 (part_at text (passing (eqb m 16) x.1))) >>= λ x. rest_of text p (m + 1) x.0 x.1) ≡ rest_of text p m f q
-  unfolding partsOn
+  unfolding parts_on
   turn m f q k e h l =
       cases (ltb m 16)
       (λ b. let u : m < 16 = ltb-true m 16 b in
       let e1 : 16 - m ≡ suc (15 - m) = omega arith in
       let e2 : 16 - (m + 1) ≡ 15 - m = omega arith in
-      rw (ne_eqb m 16 (λ z. omega arith), le-leb m 16 k, le-leb (m + 1) 16 (omega arith), e1, e2, e) (turn-takes p m f h l (take text 0 q) (λ v. part_at text v) (λ v. partsOn text (15 - m) v)))
+      rw (ne_eqb m 16 (λ z. omega arith), le-leb m 16 k, le-leb (m + 1) 16 (omega arith), e1, e2, e) (turn-takes p m f h l (take text 0 q) (λ v. part_at text v) (λ v. parts_on text (15 - m) v)))
       (λ b. let u : 16 ≤ m = ltb-false m 16 b in
       let e1 : m ≡ 16 = omega arith in
       rw (e1, e) (turn-full f (take text 0 q)))
 
-  none-on : (n : ℕ) (q : Reader) → is text q besideCode ≡ false → partsOn text n q ≡ got (0, (empty, q))
-  unfolding partsOn
+  none-on : (n : ℕ) (q : Reader) → is text q beside_code ≡ false → parts_on text n q ≡ got (0, (empty, q))
+  unfolding parts_on
   none-on zero q e = rw e
   none-on (suc n) q e = rw e
 
-  turn_last : (m : ℕ) (f : Form) (q : Reader) → m ≤ 16 → is text q besideCode ≡ false → got (wordThen (pos m) p (behindFirst f), q) ≡ rest_of text p m f q
+  turn_last : (m : ℕ) (f : Form) (q : Reader) → m ≤ 16 → is text q beside_code ≡ false → got (word_then (pos m) p (behind_first f), q) ≡ rest_of text p m f q
   turn_last m f q k e =
       let y : m + 0 ≡ m = omega arith in
-      rw (le-leb m 16 k, none-on (16 - m) q e, y, append-nil (behindFirst f).words, append-nil (behindFirst f).origins)
+      rw (le-leb m 16 k, none-on (16 - m) q e, y, append-nil (behind_first f).words, append-nil (behind_first f).origins)
 
 module _ {text : List ℕ} {from p m : ℕ} {a : Lent} {r s : Carried} {names : List ℕ} {ws : List ℤ} {os : List ℕ} (inv : Parted text from p a r m (lent names ws os) s) where
   pub parted-stopped : (s.number ≡ 0 → ⊥) → Constrains text from p a r (lent names ws os) s
@@ -221,7 +221,7 @@ module _ {text : List ℕ} {from p m : ℕ} {a : Lent} {r s : Carried} {names : 
         inv.rest h l
         (does-as
         (does-first w p h ((inv.begun h l fit0).0 z) d g)
-        (λ fit y. rw i (turn_last text p m (form_of false from (lent names ws os) s) (readerOf names s) k (rw (← peeks names) (ne_eqb t.code 40 c))))))
+        (λ fit y. rw i (turn_last text p m (form_of false from (lent names ws os) s) (reader_of names s) k (rw (← peeks names) (ne_eqb t.code 40 c))))))
 
     module _ {v u e : Carried} {b : Bool} {after : List ℕ} {xs : List ℤ} {ys : List ℕ}
         (code : t.code ≡ 40) (takes : Follows s (λ q. take text 0 q) v) (pass : Passes b v u) (last : b ≡ eqb m 16)
@@ -254,5 +254,5 @@ module _ {text : List ℕ} {from p m : ℕ} {a : Lent} {r s : Carried} {names : 
                 let j : (from + length (form_of false from (lent names ws os) s).words ≡ s.written) × (from + length (form_of false from (lent names ws os) s).origins ≡ s.written) =
                 form-length false fit h z in
                 rw last
-                (turn text p m (form_of false from (lent names ws os) s) (readerOf names s) k (rw (← peeks names) (eq-eqb t.code 40 code)) (omega (arith, j.0)) (omega (arith, j.1))))));
+                (turn text p m (form_of false from (lent names ws os) s) (reader_of names s) k (rw (← peeks names) (eq-eqb t.code 40 code)) (omega (arith, j.0)) (omega (arith, j.1))))));
           }

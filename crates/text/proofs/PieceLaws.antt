@@ -13,15 +13,15 @@ use Rattle.words.specs.Range.{fits}
 use Rattle.words.proofs.AnswerLaws.{got-inj, stop≢got, step}
 use Rattle.tables.specs.Sizes.{variables, labels}
 use Rattle.tables.proofs.SearchLaws.{cases, and_left, and_right}
-use Rattle.program.specs.Forms.{mostSteps}
+use Rattle.program.specs.Forms.{most_steps}
 use Rattle.program.specs.Grammar as Limits
 use Rattle.tokens.specs.declared.Token.{Token}
-use Rattle.tokens.specs.Codes.{nameCode, numberCode, dotCode, nilCode, falseCode, trueCode, identicalCode}
+use Rattle.tokens.specs.Codes.{name_code, number_code, dot_code, nil_code, false_code, true_code, identical_code}
 use Rattle.tokens.specs.Bytes.{part}
-use Rattle.tokens.specs.Numbers.{integerOf}
+use Rattle.tokens.specs.Numbers.{integer_of}
 use Rattle.text.specs.Grammar.{Meaning, Labels, Path, Expression}
-use Rattle.text.specs.Reading.{Fault, Named, Reader, Form, form, passing, withName, peek, take, variable, label, is}
-use Rattle.text.specs.Reading.{steps, path, literal, literalAt, outside, everywhere, pathOrSame, operand}
+use Rattle.text.specs.Reading.{Fault, Named, Reader, Form, form, passing, with_name, peek, take, variable, label, is}
+use Rattle.text.specs.Reading.{steps, path, literal, literal_at, outside, everywhere, path_or_same, operand}
 use Rattle.text.specs.Claims.{meaning}
 use Rattle.text.proofs.NameLaws.{Extends, names-extend}
 use Rattle.text.proofs.TookLaws.{spot, total, Fine, Took, took-none, took-on, Later, before}
@@ -50,11 +50,11 @@ leaf f zero h = absurd (omega arith)
 leaf f (suc d) h = f d
 
 labels-one : {M : Meaning} {n k : ℕ} {d l : Token} {ts : List Token} {ws : List ℤ} {os : List ℕ}
-    → d.code ≡ dotCode → l.code ≡ nameCode → M.label l ≡ k → Labels M n ts ws os → Labels M (suc n) (d ∷ l ∷ ts) (pos k ∷ ws) (l.place ∷ os)
+    → d.code ≡ dot_code → l.code ≡ name_code → M.label l ≡ k → Labels M n ts ws os → Labels M (suc n) (d ∷ l ∷ ts) (pos k ∷ ws) (l.place ∷ os)
 labels-one {d = d} {l = l} a b e k = rw (← e) (Labels.one d l a b k)
 
 path-one : {M : Meaning} {n k : ℕ} {x : Token} {ts : List Token} {ws : List ℤ} {os : List ℕ}
-    → x.code ≡ nameCode → M.variable x ≡ k → Labels M n ts ws os → Path M (x ∷ ts) (pos k ∷ pos n ∷ ws) (x.place ∷ x.place ∷ os)
+    → x.code ≡ name_code → M.variable x ≡ k → Labels M n ts ws os → Path M (x ∷ ts) (pos k ∷ pos n ∷ ws) (x.place ∷ x.place ∷ os)
 path-one {x = x} b e k = rw (← e) (Path.path x b k)
 
 module _ (text : List ℕ) where
@@ -93,19 +93,19 @@ module _ {text : List ℕ} (L : TokenLaws text) where
   pub steps-sound : (n : ℕ) (r : Reader) (x : Form × Reader) → Fine text (spot r) → steps text n r ≡ got x → Steps text n r x
   unfolding steps
   steps-sound zero r x f e =
-      either_way (is text r dotCode) _ _ e
+      either_way (is text r dot_code) _ _ e
       (λ t e1.
       step (take text 0 r) _ e1 λ s e2 e3.
       step (label text [] (passing true s)) _ e3 λ y e4 e5.
       label-never text [] (passing true s) y (passing-one s) e4)
       (λ t e1. no_steps zero r x f e1)
   steps-sound (suc n) r x f e =
-      either_way (is text r dotCode) _ _ e
+      either_way (is text r dot_code) _ _ e
       (λ t e1.
       step (take text 0 r) _ e1 λ s e2 e3.
       step (label text [] s) _ e3 λ y e4 e5.
       step (steps text n y.1) _ e5 λ g e6 e7.
-      let i : (peek text r).code ≡ dotCode = eqb-true (peek text r).code dotCode t in
+      let i : (peek text r).code ≡ dot_code = eqb-true (peek text r).code dot_code t in
       let d : Dotted text r s y = dotted L r s y f i e2 e4 in
       let z : Steps text n y.1 g = steps-sound n y.1 g d.took.fine e6 in
       rw (← got-inj e7) (record {
@@ -122,9 +122,9 @@ module _ {text : List ℕ} (L : TokenLaws text) where
   unfolding path
   path-sound k extra r x h f e =
       step (variable text k r) _ e λ y e1 e2.
-      step (steps text mostSteps y.1) _ e2 λ g e3 e4.
+      step (steps text most_steps y.1) _ e2 λ g e3 e4.
       let v : Variable text k r y = variable-one L k r y f e1 in
-      let z : Steps text mostSteps y.1 g = steps-sound mostSteps y.1 g v.took.fine e3 in
+      let z : Steps text most_steps y.1 g = steps-sound most_steps y.1 g v.took.fine e3 in
       rw (← got-inj e4) (record {
         rest = z.tokens;
         took = took-on v.took z.took;
@@ -135,14 +135,14 @@ module _ {text : List ℕ} (L : TokenLaws text) where
       })
 
   -- the path's variable has been named
-  pub path_names : (k : ℕ) (r : Reader) (x : Form × Reader) → Fine text (spot r) → path text k r ≡ got x → Extends (withName text r.variables (peek text r)) x.1.variables
+  pub path_names : (k : ℕ) (r : Reader) (x : Form × Reader) → Fine text (spot r) → path text k r ≡ got x → Extends (with_name text r.variables (peek text r)) x.1.variables
   unfolding path
   path_names k r x f e =
       step (variable text k r) _ e λ y e1 e2.
-      step (steps text mostSteps y.1) _ e2 λ g e3 e4.
+      step (steps text most_steps y.1) _ e2 λ g e3 e4.
       let v : Variable text k r y = variable-one L k r y f e1 in
-      let z : Steps text mostSteps y.1 g = steps-sound mostSteps y.1 g v.took.fine e3 in
-      rw (← got-inj e4, ← v.names) (names-extend text z.took.variable-names)
+      let z : Steps text most_steps y.1 g = steps-sound most_steps y.1 g v.took.fine e3 in
+      rw (← got-inj e4, ← v.names) (names-extend text z.took.variable_names)
 
   -- ---- operands
 
@@ -164,44 +164,44 @@ module _ {text : List ℕ} (L : TokenLaws text) where
         unpassed = or_left r.passed (outside text (peek text r)) o.unpassed;
       })
 
-  number_fits : (r s : Reader) → (peek text r).code ≡ numberCode → take text 2 (passing (outside text (peek text r)) r) ≡ got s
-      → fits (integerOf (part text (peek text r).place (peek text r).end)) ≡ true
+  number_fits_lem : (r s : Reader) → (peek text r).code ≡ number_code → take text 2 (passing (outside text (peek text r)) r) ≡ got s
+      → fits (integer_of (part text (peek text r).place (peek text r).end)) ≡ true
   unfolding outside
-  number_fits r s i e =
+  number_fits_lem r s i e =
       by-take text 2 (passing (outside text (peek text r)) r) s e λ p h g.
       let q : outside text (peek text r) ≡ false = or-false r.passed (outside text (peek text r)) p in
-      not-false _ (rw (eq-eqb (peek text r).code numberCode i) at q)
+      not-false _ (rw (eq-eqb (peek text r).code number_code i) at q)
 
-  pub literal-sound : (in_c : Bool) (r : Reader) (x : Form × Reader) → Fine text (spot r) → literalAt text r (literal text (peek text r)) ≡ got x → Operand text in_c r x.1 0 x.0
-  unfolding literalAt literal peek
+  pub literal-sound : (in_c : Bool) (r : Reader) (x : Form × Reader) → Fine text (spot r) → literal_at text r (literal text (peek text r)) ≡ got x → Operand text in_c r x.1 0 x.0
+  unfolding literal_at literal peek
   literal-sound in_c r x f e =
-      cases (eqb (peek text r).code nilCode)
-      (λ t. let i : (peek text r).code ≡ nilCode = eqb-true (peek text r).code nilCode t in
-      literal-is in_c (pos 20 ∷ []) r x (rw t at e) (λ s e1. take-one L 1 _ s nilCode f i refl e1) (λ vs ls. Expression.nil (peek text r) i) (λ d. Limits.Expression.nil))
-      (λ a. cases (eqb (peek text r).code falseCode)
-      (λ t. let i : (peek text r).code ≡ falseCode = eqb-true (peek text r).code falseCode t in
-      literal-is in_c (pos 21 ∷ []) r x (rw (a, t) at e) (λ s e1. take-one L 1 _ s falseCode f i refl e1) (λ vs ls. Expression.no (peek text r) i) (λ d. Limits.Expression.no))
-      (λ b. cases (eqb (peek text r).code trueCode)
-      (λ t. let i : (peek text r).code ≡ trueCode = eqb-true (peek text r).code trueCode t in
-      literal-is in_c (pos 22 ∷ []) r x (rw (a, b, t) at e) (λ s e1. take-one L 1 _ s trueCode f i refl e1) (λ vs ls. Expression.yes (peek text r) i) (λ d. Limits.Expression.yes))
-      (λ c. cases (eqb (peek text r).code numberCode)
-      (λ t. let i : (peek text r).code ≡ numberCode = eqb-true (peek text r).code numberCode t in
-      literal-is in_c (pos 23 ∷ integerOf (part text (peek text r).place (peek text r).end) ∷ []) r x (rw (a, b, c, t) at e)
-      (λ s e1. take-number L 2 _ s f i (number_fits r s i e1) e1) (λ vs ls. Expression.number (peek text r) i) (λ d. Limits.Expression.integer))
+      cases (eqb (peek text r).code nil_code)
+      (λ t. let i : (peek text r).code ≡ nil_code = eqb-true (peek text r).code nil_code t in
+      literal-is in_c (pos 20 ∷ []) r x (rw t at e) (λ s e1. take-one L 1 _ s nil_code f i refl e1) (λ vs ls. Expression.nil (peek text r) i) (λ d. Limits.Expression.nil))
+      (λ a. cases (eqb (peek text r).code false_code)
+      (λ t. let i : (peek text r).code ≡ false_code = eqb-true (peek text r).code false_code t in
+      literal-is in_c (pos 21 ∷ []) r x (rw (a, t) at e) (λ s e1. take-one L 1 _ s false_code f i refl e1) (λ vs ls. Expression.no (peek text r) i) (λ d. Limits.Expression.no))
+      (λ b. cases (eqb (peek text r).code true_code)
+      (λ t. let i : (peek text r).code ≡ true_code = eqb-true (peek text r).code true_code t in
+      literal-is in_c (pos 22 ∷ []) r x (rw (a, b, t) at e) (λ s e1. take-one L 1 _ s true_code f i refl e1) (λ vs ls. Expression.yes (peek text r) i) (λ d. Limits.Expression.yes))
+      (λ c. cases (eqb (peek text r).code number_code)
+      (λ t. let i : (peek text r).code ≡ number_code = eqb-true (peek text r).code number_code t in
+      literal-is in_c (pos 23 ∷ integer_of (part text (peek text r).place (peek text r).end) ∷ []) r x (rw (a, b, c, t) at e)
+      (λ s e1. take-number L 2 _ s f i (number_fits_lem r s i e1) e1) (λ vs ls. Expression.number (peek text r) i) (λ d. Limits.Expression.integer))
       (λ d. stop≢got (rw (a, b, c, d) at e)))))
 
-  pub path-or-same-sound : (in_c : Bool) (r : Reader) (x : Form × Reader) → Fine text (spot r) → pathOrSame text in_c r ≡ got x → Operand text in_c r x.1 0 x.0
-  unfolding pathOrSame
+  pub path-or-same-sound : (in_c : Bool) (r : Reader) (x : Form × Reader) → Fine text (spot r) → path_or_same text in_c r ≡ got x → Operand text in_c r x.1 0 x.0
+  unfolding path_or_same
   path-or-same-sound in_c r x f e =
       step (path text 3 r) _ e λ g e1 e2.
       let p : PathIs text r g.1 1 g.0 = path-sound 3 1 r g refl f e1 in
-      either_way (not in_c && is text g.1 identicalCode) _ _ e2
+      either_way (not in_c && is text g.1 identical_code) _ _ e2
       (λ t e3.
       step (take text 0 g.1) _ e3 λ s e4 e5.
       step (path text 2 s) _ e5 λ h e6 e7.
-      let i : (peek text g.1).code ≡ identicalCode = eqb-true (peek text g.1).code identicalCode (and_right (not in_c) _ t) in
+      let i : (peek text g.1).code ≡ identical_code = eqb-true (peek text g.1).code identical_code (and_right (not in_c) _ t) in
       let c : in_c ≡ false = not-true in_c (and_left (not in_c) _ t) in
-      let o : One text 0 g.1 s = take-one L 0 g.1 s identicalCode p.took.fine i refl e4 in
+      let o : One text 0 g.1 s = take-one L 0 g.1 s identical_code p.took.fine i refl e4 in
       let q : PathIs text s h.1 0 h.0 = path-sound 2 0 s h refl o.took.fine e6 in
       rw (← got-inj e7) (record {
         rest = p.rest ++ peek text g.1 ∷ peek text s ∷ q.rest;
@@ -222,4 +222,4 @@ module _ {text : List ℕ} (L : TokenLaws text) where
 
   pub operand_sound : (in_c : Bool) (r : Reader) (x : Form × Reader) → Fine text (spot r) → operand text in_c r ≡ got x → Operand text in_c r x.1 0 x.0
   unfolding operand
-  operand_sound in_c r x f e = either_way (is text r nameCode) _ _ e (λ t e1. path-or-same-sound in_c r x f e1) (λ t e1. literal-sound in_c r x f e1)
+  operand_sound in_c r x f e = either_way (is text r name_code) _ _ e (λ t e1. path-or-same-sound in_c r x f e1) (λ t e1. literal-sound in_c r x f e1)

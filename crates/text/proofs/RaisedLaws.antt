@@ -11,7 +11,7 @@ use lib.ListN.{length, get_or, set, take, drop, length-set, length-drop}
 use lib.Seq.{take-set-le, take-suc, get_or-set_same, get_or-set_other, get_or-drop, drop-set-add, drop-cons, length-take-le, drop_at, take-append-add, sets, sets-eq}
 use Rattle.tables.proofs.SearchLaws.{cases}
 use Rattle.text.specs.Reading.{everywhere}
-use Rattle.text.specs.Told.{Carried, readerOf}
+use Rattle.text.specs.Told.{Carried, reader_of}
 use Rattle.text.specs.Written.{since, raised, filled}
 use Rattle.text.specs.Pieces.{form_of, piece_of, Inserts}
 use Rattle.text.proofs.RowsLaws.{fit-room}
@@ -38,8 +38,8 @@ module _ {A : Type 0} (z : A) (from k : ℕ) where
       raised-behind n j (set ws (from + n + k) (get_or ws (from + n) z)) (omega arith) ∙ get_or-set_other ws (from + n + k) j (get_or ws (from + n) z) z (λ e. omega arith)
 
   -- a word that is set above others, and one more of two rows that agree
-  one_more : (n : ℕ) (us ws : List A) → n < length us → n < length ws → take n us ≡ take n ws → get_or us n z ≡ get_or ws n z → take (suc n) us ≡ take (suc n) ws
-  one_more n us ws a b e f = take-suc us n z a ∙ rw (e, f) (sym (take-suc ws n z b))
+  one_more_lem : (n : ℕ) (us ws : List A) → n < length us → n < length ws → take n us ≡ take n ws → get_or us n z ≡ get_or ws n z → take (suc n) us ≡ take (suc n) ws
+  one_more_lem n us ws a b e f = take-suc us n z a ∙ rw (e, f) (sym (take-suc ws n z b))
 
   set-above : (n : ℕ) (ws : List A) (v : A) → take n (drop from (set ws (from + n + k) v)) ≡ take n (drop from ws)
   set-above n ws v = let h : from + n + k ≡ from + (n + k) = omega arith in rw (h, drop-set-add from ws (n + k) v) (take-set-le n (drop from ws) (n + k) v (omega arith))
@@ -59,7 +59,7 @@ module _ {A : Type 0} (z : A) (from k : ℕ) where
           → take (suc n) (drop (from + k) (raised z from k n us)) ≡ take (suc n) (drop from ws)
       raised-more n ws us e h go =
           let long : length us ≡ length ws = rw e (length-set ws (from + n + k) (get_or ws (from + n) z)) in
-          one_more n (drop (from + k) (raised z from k n us)) (drop from ws)
+          one_more_lem n (drop (from + k) (raised z from k n us)) (drop from ws)
           (rw (length-drop (from + k) (raised z from k n us), raised-length n us) (omega arith)) (rw (length-drop from ws) (omega arith))
           (go us (omega arith) ∙ rw e (set-above n ws (get_or ws (from + n) z)))
           (get_or-drop (from + k) (raised z from k n us) n z ∙ raised-behind n (from + k + n) us (omega arith)
@@ -159,8 +159,8 @@ since-inserted z from k gap ws r s e h l w =
     ∙ rw m (ap (λ l. gap ++ l) (raised-words z from k (r.written - from) ws (omega arith))))
 
 -- the same reader, with k words more
-abbrev pub grownBy : ℕ → Carried → Carried
-grownBy k r = record {
+abbrev pub grown_by : ℕ → Carried → Carried
+grown_by k r = record {
   number = r.number;
   place = r.place;
   at = r.at;
@@ -191,14 +191,14 @@ module _ (from p : ℕ) (gap ws : List ℤ) (os : List ℕ) (r : Carried) where
   module _ (h : from ≤ r.written) {xs vs : List ℤ} {ys us : List ℕ}
       (a : xs ≡ raised (pos 0) from (length gap) (r.written - from) ws) (b : ys ≡ raised 0 from (length gap) (r.written - from) os)
       (c : vs ≡ filled from gap xs) (d : us ≡ filled from (everywhere p gap) ys) where
-    words_are : r.written + length gap ≤ length ws → since from vs (grownBy (length gap) r) ≡ gap ++ since from ws r
-    words_are l = rw (c, a) (since-inserted (pos 0) from (length gap) gap ws r (grownBy (length gap) r) refl h l refl)
+    words_are : r.written + length gap ≤ length ws → since from vs (grown_by (length gap) r) ≡ gap ++ since from ws r
+    words_are l = rw (c, a) (since-inserted (pos 0) from (length gap) gap ws r (grown_by (length gap) r) refl h l refl)
 
-    origins-are : r.written + length gap ≤ length os → since from us (grownBy (length gap) r) ≡ everywhere p gap ++ since from os r
-    origins-are l = rw (d, b) (since-inserted 0 from (length gap) (everywhere p gap) os r (grownBy (length gap) r) (everywhere-length p gap) h l refl)
+    origins-are : r.written + length gap ≤ length os → since from us (grown_by (length gap) r) ≡ everywhere p gap ++ since from os r
+    origins-are l = rw (d, b) (since-inserted 0 from (length gap) (everywhere p gap) os r (grown_by (length gap) r) (everywhere-length p gap) h l refl)
 
-    pub inserts : Inserts from gap p ws os r vs us (grownBy (length gap) r)
-    unfolding piece_of form_of readerOf
+    pub inserts : Inserts from gap p ws os r vs us (grown_by (length gap) r)
+    unfolding piece_of form_of reader_of
     inserts names deep most lacking small =
         record {
           reads = λ f. cases (eqb r.number 0)
@@ -216,6 +216,6 @@ module _ (from p : ℕ) (gap ws : List ℤ) (os : List ℕ) (r : Carried) where
                 certain = f.certain;
                 owed = f.owed;
               };
-          words-before = λ f. rw c (filled-before from from gap xs (omega arith) ∙ rw a (raised-before (pos 0) from (length gap) from (r.written - from) ws (omega arith)));
-          origins-before = λ f. rw d (filled-before from from (everywhere p gap) ys (omega arith) ∙ rw b (raised-before 0 from (length gap) from (r.written - from) os (omega arith)));
+          words_before = λ f. rw c (filled-before from from gap xs (omega arith) ∙ rw a (raised-before (pos 0) from (length gap) from (r.written - from) ws (omega arith)));
+          origins_before = λ f. rw d (filled-before from from (everywhere p gap) ys (omega arith) ∙ rw b (raised-before 0 from (length gap) from (r.written - from) os (omega arith)));
         }

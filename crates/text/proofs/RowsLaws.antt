@@ -14,14 +14,14 @@ use Rattle.words.specs.Answer.{Answer, got, stop, ◌>>=◌}
 use Rattle.words.proofs.AnswerLaws.{stop≢got, got-inj, step, tested}
 use Rattle.tables.proofs.SearchLaws.{and_right, cases}
 use Rattle.tables.specs.Sizes.{variables, labels}
-use Rattle.program.specs.Forms.{mostWords}
+use Rattle.program.specs.Forms.{most_words}
 use Rattle.program.specs.Reading.{among}
 use Rattle.tokens.specs.declared.Token.{Token}
-use Rattle.tokens.specs.Codes.{nameCode}
+use Rattle.tokens.specs.Codes.{name_code}
 use Rattle.text.specs.Reading.{Fault, fault, Reader, Form, form, and_then, Named, peek, is, refusal, need, room_for, known, number_in, variable, label}
-use Rattle.text.specs.Reading.{take as takeBy}
-use Rattle.text.specs.Told.{Carried, at_most, readerOf, reading_of, numberedOf, refusedBy, Peeks, Follows}
-use Rattle.text.specs.Written.{since, with1, wroteOne}
+use Rattle.text.specs.Reading.{take as take_by}
+use Rattle.text.specs.Told.{Carried, at_most, reader_of, reading_of, numbered_of, refused_by, Peeks, Follows}
+use Rattle.text.specs.Written.{since, with1, wrote_one}
 use Rattle.text.specs.Pieces.{Lent, lent, form_of, piece_of, Fit}
 use Rattle.text.proofs.NamingLaws.{most-small, length-names, room-full}
 use Rattle.text.proofs.ToldLaws.{goes_on, refused-written, refused-depth, refused-reads}
@@ -53,7 +53,7 @@ going {X = X} r f g = go (ℕ_discrete r.number 0)
     go (no n) = g n
 
 module _ (deep : Bool) (from : ℕ) (a : Lent) (r : Carried) where
-  pub piece-goes : r.number ≡ 0 → piece_of deep from a r ≡ got (form_of deep from a r, readerOf a.names r)
+  pub piece-goes : r.number ≡ 0 → piece_of deep from a r ≡ got (form_of deep from a r, reader_of a.names r)
   unfolding piece_of
   piece-goes z = rw (eq-eqb r.number 0 z)
 
@@ -65,8 +65,8 @@ module _ (deep : Bool) (from : ℕ) (a : Lent) (r : Carried) where
   unfolding piece_of reading_of
   piece-reads = going r (λ z. rw (eq-eqb r.number 0 z)) (λ n. rw (ne_eqb r.number 0 n))
 
-  piece-numbered : piece_of deep from a r ≡ (numberedOf a.names r >>= λ y. got (form_of deep from a r, y.1))
-  unfolding piece_of numberedOf
+  piece-numbered : piece_of deep from a r ≡ (numbered_of a.names r >>= λ y. got (form_of deep from a r, y.1))
+  unfolding piece_of numbered_of
   piece-numbered = going r (λ z. rw (eq-eqb r.number 0 z)) (λ n. rw (ne_eqb r.number 0 n))
 
 -- ---- rows that fit
@@ -85,7 +85,7 @@ fit-wider h f =
 
 -- the same rows, with another reader behind the same words
 pub fit-by : {m l m1 l1 from : ℕ} {a : Lent} {r s : Carried} → s.written ≡ r.written
-    → (s.number ≡ 0 → (s.written + l1 ≡ s.certain + s.owed) × ((s.certain ≤ mostWords) × (s.owed ≤ m1))) → Fit m l from a r → Fit m1 l1 from a s
+    → (s.number ≡ 0 → (s.written + l1 ≡ s.certain + s.owed) × ((s.certain ≤ most_words) × (s.owed ≤ m1))) → Fit m l from a r → Fit m1 l1 from a s
 fit-by w h f =
     record {
       names = f.names;
@@ -122,22 +122,22 @@ follows-piece {step = by} deep from a {r = r} {s = s} f =
 
 -- where the reader goes on behind a step, the step answered it
 pub follows-got : {step : Reader → Answer Fault Reader} (names : List ℕ) {r s : Carried} → Follows r step s → s.number ≡ 0
-    → (r.number ≡ 0) × (step (readerOf names r) ≡ got (readerOf names s))
+    → (r.number ≡ 0) × (step (reader_of names r) ≡ got (reader_of names s))
 unfolding reading_of
 follows-got {step = by} names {r = r} {s = s} f z =
-    let e : (reading_of names r >>= by) ≡ got (readerOf names s) = sym (f.reads names) ∙ rw (eq-eqb s.number 0 z) in
-    going r (λ y. (y, rw (eq-eqb r.number 0 y) at e)) (λ n. stop≢got {a = readerOf names s} (rw (ne_eqb r.number 0 n) at e))
+    let e : (reading_of names r >>= by) ≡ got (reader_of names s) = sym (f.reads names) ∙ rw (eq-eqb s.number 0 z) in
+    going r (λ y. (y, rw (eq-eqb r.number 0 y) at e)) (λ n. stop≢got {a = reader_of names s} (rw (ne_eqb r.number 0 n) at e))
 
 -- the same of a step that reads a number
-module _ (before after : List ℕ) (r s : Carried) (by : Reader → Answer Fault (ℕ × Reader)) (e : numberedOf after s ≡ (reading_of before r >>= by)) where
-  pub numbered-got : s.number ≡ 0 → (r.number ≡ 0) × (by (readerOf before r) ≡ got (s.named, readerOf after s))
-  unfolding reading_of numberedOf
+module _ (before after : List ℕ) (r s : Carried) (by : Reader → Answer Fault (ℕ × Reader)) (e : numbered_of after s ≡ (reading_of before r >>= by)) where
+  pub numbered-got : s.number ≡ 0 → (r.number ≡ 0) × (by (reader_of before r) ≡ got (s.named, reader_of after s))
+  unfolding reading_of numbered_of
   numbered-got z =
-      let d : (reading_of before r >>= by) ≡ got (s.named, readerOf after s) = sym e ∙ rw (eq-eqb s.number 0 z) in
+      let d : (reading_of before r >>= by) ≡ got (s.named, reader_of after s) = sym e ∙ rw (eq-eqb s.number 0 z) in
       going r (λ y. (y, rw (eq-eqb r.number 0 y) at d)) (λ n. stop≢got (rw (ne_eqb r.number 0 n) at d))
 
-  pub numbered-stopped : (s.number ≡ 0 → ⊥) → r.number ≡ 0 → by (readerOf before r) ≡ stop (fault s.number s.place)
-  unfolding reading_of numberedOf
+  pub numbered-stopped : (s.number ≡ 0 → ⊥) → r.number ≡ 0 → by (reader_of before r) ≡ stop (fault s.number s.place)
+  unfolding reading_of numbered_of
   numbered-stopped n z = let d : (reading_of before r >>= by) ≡ stop (fault s.number s.place) = sym e ∙ rw (ne_eqb s.number 0 n) in rw (eq-eqb r.number 0 z) at d
 
   pub numbered-piece : (deep : Bool) (from : ℕ) (ws : List ℤ) (os : List ℕ) → form_of deep from (lent after ws os) s ≡ form_of deep from (lent before ws os) r
@@ -150,7 +150,7 @@ module _ (before after : List ℕ) (r s : Carried) (by : Reader → Answer Fault
 
 pub record Counted (k : ℕ) (q v : Reader) : Type 0 where
   pub certain : v.certain ≡ q.certain + q.owed + k
-  pub few : v.certain ≤ mostWords
+  pub few : v.certain ≤ most_words
   pub owed : v.owed ≡ 0
 
 counted-by : {k : ℕ} {q v w : Reader} → w ≡ v → Counted k q w → Counted k q v
@@ -162,19 +162,19 @@ counted-names : {k : ℕ} {q v : Reader} {at last : ℕ} {passed : Bool} {variab
 counted-names c = record { certain = c.certain; few = c.few; owed = refl }
 
 module _ (text : List ℕ) where
-  pub take_counted : (k : ℕ) (q v : Reader) → takeBy text k q ≡ got v → Counted k q v
-  unfolding takeBy
+  pub take_counted : (k : ℕ) (q v : Reader) → take_by text k q ≡ got v → Counted k q v
+  unfolding take_by
   take_counted k q v e =
-      tested (fault 22 (peek text q).place) (not q.passed && leb (q.certain + q.owed + k) mostWords) _ e λ room one.
+      tested (fault 22 (peek text q).place) (not q.passed && leb (q.certain + q.owed + k) most_words) _ e λ room one.
       counted-by (got-inj one) (record { certain = refl; few = leb-true (q.certain + q.owed + k) 4096 (and_right (not q.passed) _ room); owed = refl })
 
   pub need-counted : (c k : ℕ) (q v : Reader) → need text c k q ≡ got v → Counted k q v
   unfolding need
-  need-counted c k q v e = tested (refusal text (peek text q)) (is text q c) (takeBy text k q) e λ there one. take_counted k q v one
+  need-counted c k q v e = tested (refusal text (peek text q)) (is text q c) (take_by text k q) e λ there one. take_counted k q v one
 
 pub fit-counted : {m l from : ℕ} {a : Lent} {r s : Carried} (before after : List ℕ) (k : ℕ) → s.written ≡ r.written
-    → (s.number ≡ 0 → (r.number ≡ 0) × Counted k (readerOf before r) (readerOf after s)) → Fit m l from a r → Fit 0 (l + k) from a s
-unfolding readerOf
+    → (s.number ≡ 0 → (r.number ≡ 0) × Counted k (reader_of before r) (reader_of after s)) → Fit m l from a r → Fit 0 (l + k) from a s
+unfolding reader_of
 fit-counted before after k w h f = fit-by w (λ z. (omega (arith, w, f.counts (h z).0, (h z).1.certain, (h z).1.owed), ((h z).1.few, omega (arith, (h z).1.owed)))) f
 
 pub fit-names : {m l from : ℕ} {before after : List ℕ} {ws : List ℤ} {os : List ℕ} {r : Carried} → length after ≡ length before
@@ -190,7 +190,7 @@ fit-names e f =
       owed = f.owed;
     }
 
-pub refused-follows : (text : List ℕ) {t : Token} {r s : Carried} → r.number ≡ 0 → Peeks text r t → s ≡ refusedBy t r → Follows r (λ q. stop (refusal text (peek text q))) s
+pub refused-follows : (text : List ℕ) {t : Token} {r s : Carried} → r.number ≡ 0 → Peeks text r t → s ≡ refused_by t r → Follows r (λ q. stop (refusal text (peek text q))) s
 refused-follows text {t = t} {r = r} z p is =
     record { reads = λ names. rw (is, goes_on r z names, ← p names) (refused-reads text names t r); written = rw is (refused-written t r); depth = rw is (refused-depth t r) }
 
@@ -208,65 +208,65 @@ module _ (text : List ℕ) (q v : Reader) (n : ℕ) where
   pub variable-counted : (k : ℕ) → variable text k q ≡ got (n, v) → length q.variables ≤ 64 → Counted k q v × (n < 64)
   unfolding variable
   variable-counted k e few =
-      tested (refusal text (peek text q)) (is text q nameCode) _ e λ there one.
+      tested (refusal text (peek text q)) (is text q name_code) _ e λ there one.
       tested (fault 21 (peek text q).place) (room_for text variables q.variables (peek text q)) _ one λ room two.
-      step (takeBy text k q) _ two λ s took three.
+      step (take_by text k q) _ two λ s took three.
       let a : number_in text q.variables (peek text q) ≡ n = ap (λ x. x.0) (got-inj three) in
       (counted-by (ap (λ x. x.1) (got-inj three)) (counted-names (take_counted text k q s took)), omega (arith, a, number_small text 64 q.variables (peek text q) room few))
 
   pub label-counted : (seen : List ℕ) → label text seen q ≡ got (n, v) → length q.labels ≤ 32 → Counted 1 q v × (n < 32)
   unfolding label
   label-counted seen e few =
-      tested (refusal text (peek text q)) (is text q nameCode && not (known text q.labels (peek text q) && among (number_in text q.labels (peek text q)) seen)) _ e λ there one.
+      tested (refusal text (peek text q)) (is text q name_code && not (known text q.labels (peek text q) && among (number_in text q.labels (peek text q)) seen)) _ e λ there one.
       tested (fault 21 (peek text q).place) (room_for text labels q.labels (peek text q)) _ one λ room two.
-      step (takeBy text 1 q) _ two λ s took three.
+      step (take_by text 1 q) _ two λ s took three.
       let a : number_in text q.labels (peek text q) ≡ n = ap (λ x. x.0) (got-inj three) in
       (counted-by (ap (λ x. x.1) (got-inj three)) (counted-names (take_counted text 1 q s took)), omega (arith, a, number_small text 32 q.labels (peek text q) room few))
 
-pub few-variables : (names : List ℕ) (r : Carried) → length (readerOf names r).variables ≤ 64
-unfolding readerOf
-few-variables names r = omega (arith, length-names names 0 (at_most 64 r.variables), most-small 64 r.variables)
+pub few_variables : (names : List ℕ) (r : Carried) → length (reader_of names r).variables ≤ 64
+unfolding reader_of
+few_variables names r = omega (arith, length-names names 0 (at_most 64 r.variables), most-small 64 r.variables)
 
-pub few-labels : (names : List ℕ) (r : Carried) → length (readerOf names r).labels ≤ 32
-unfolding readerOf
-few-labels names r = omega (arith, length-names names 128 (at_most 32 r.labels), most-small 32 r.labels)
+pub few_labels : (names : List ℕ) (r : Carried) → length (reader_of names r).labels ≤ 32
+unfolding reader_of
+few_labels names r = omega (arith, length-names names 128 (at_most 32 r.labels), most-small 32 r.labels)
 
 -- ---- a word more
 
 module _ (r : Carried) where
-  pub wrote-number : (wroteOne r).number ≡ r.number
-  unfolding wroteOne
+  pub wrote-number : (wrote_one r).number ≡ r.number
+  unfolding wrote_one
   wrote-number = cases (ltb r.written 4100) (λ e. rw e) (λ e. rw e)
 
-  wrote-place : (wroteOne r).place ≡ r.place
-  unfolding wroteOne
+  wrote-place : (wrote_one r).place ≡ r.place
+  unfolding wrote_one
   wrote-place = cases (ltb r.written 4100) (λ e. rw e) (λ e. rw e)
 
-  wrote-depth : (wroteOne r).depth ≡ r.depth
-  unfolding wroteOne
+  wrote-depth : (wrote_one r).depth ≡ r.depth
+  unfolding wrote_one
   wrote-depth = cases (ltb r.written 4100) (λ e. rw e) (λ e. rw e)
 
-  pub wrote-reader : (names : List ℕ) → readerOf names (wroteOne r) ≡ readerOf names r
-  unfolding wroteOne readerOf
+  pub wrote-reader : (names : List ℕ) → reader_of names (wrote_one r) ≡ reader_of names r
+  unfolding wrote_one reader_of
   wrote-reader names = cases (ltb r.written 4100) (λ e. rw e) (λ e. rw e)
 
-  pub wrote-begins : r.written ≤ (wroteOne r).written
-  unfolding wroteOne
+  pub wrote-begins : r.written ≤ (wrote_one r).written
+  unfolding wrote_one
   wrote-begins = cases (ltb r.written 4100) (λ e. rw e (omega arith)) (λ e. rw e (omega arith))
 
-  pub wrote-more : {s : Carried} → s ≡ wroteOne r → r.written < 4100 → s.written ≡ r.written + 1
-  unfolding wroteOne
+  pub wrote-more : {s : Carried} → s ≡ wrote_one r → r.written < 4100 → s.written ≡ r.written + 1
+  unfolding wrote_one
   wrote-more e h = rw (e, lt-ltb r.written 4100 h)
 
 length-with : {A : Type 0} (ws : List A) (r : Carried) (w : A) → length (with1 ws r w) ≡ length ws
 unfolding with1
 length-with ws r w = cases (ltb r.written 4100) (λ e. rw e (length-set ws r.written w)) (λ e. rw e)
 
-module _ (from : ℕ) (names : List ℕ) (ws vs : List ℤ) (os us : List ℕ) (r s : Carried) (w : ℤ) (p : ℕ) (v : vs ≡ with1 ws r w) (u : us ≡ with1 os r p) (e : s ≡ wroteOne r) where
+module _ (from : ℕ) (names : List ℕ) (ws vs : List ℤ) (os us : List ℕ) (r s : Carried) (w : ℤ) (p : ℕ) (v : vs ≡ with1 ws r w) (u : us ≡ with1 os r p) (e : s ≡ wrote_one r) where
   number_is : s.number ≡ r.number
   number_is = rw e (wrote-number r)
 
-  reader-is : readerOf names s ≡ readerOf names r
+  reader-is : reader_of names s ≡ reader_of names r
   reader-is = rw e (wrote-reader r names)
 
   written-form : (deep : Bool) → from ≤ r.written → r.written < 4100 → 4100 ≤ length ws → 4100 ≤ length os
@@ -292,11 +292,11 @@ module _ (from : ℕ) (names : List ℕ) (ws vs : List ℤ) (os us : List ℕ) (
         (λ n. rw (piece-stopped deep from (lent names vs us) s (λ z. n (sym number_is ∙ z)), piece-stopped deep from (lent names ws os) r n, e, wrote-number r, wrote-place r))
 
     pub written-fit : Fit m l from (lent names vs us) s
-    unfolding readerOf
+    unfolding reader_of
     written-fit =
-        let c : (wroteOne r).certain ≡ r.certain = ap (λ q. q.certain) (wrote-reader r names) in
-        let o : (wroteOne r).owed ≡ r.owed = ap (λ q. q.owed) (wrote-reader r names) in
-        let n : (wroteOne r).number ≡ r.number = wrote-number r in
+        let c : (wrote_one r).certain ≡ r.certain = ap (λ q. q.certain) (wrote-reader r names) in
+        let o : (wrote_one r).owed ≡ r.owed = ap (λ q. q.owed) (wrote-reader r names) in
+        let n : (wrote_one r).number ≡ r.number = wrote-number r in
         rw e (record {
           names = f.names;
           words = rw v (omega (arith, length-with ws r w, f.words));

@@ -6,13 +6,13 @@ use lib.IntN.{ℤ, pos}
 use lib.ListN.{length}
 use Rattle.words.specs.Answer.{Answer, got, stop}
 use Rattle.program.specs.Reading.{among}
-use Rattle.tokens.specs.Bytes.{between, isWhite, isNamed, run, trimmed, spelt, sameIn}
-use Rattle.tokens.specs.Spelling.{code_of, laterKeywords, keywords, pairs, singles}
-use Rattle.tokens.specs.Tokens.{askedFrom, nameLength, name_at, singleAt, markAt, signs, tokenAt, limited, restFrom, tokenFrom}
-use Rattle.tokens.specs.Numbers.{digitOf, digitsFrom, integerOf}
-use Rattle.text.specs.Reading.{Fault, Form, Reader, dueAfter, levelOf, number_in, known, withName}
-use Rattle.text.specs.Reading.{peek, refusal, take, need, room_for, variable, label, steps, path, literal, outside, literalAt, pathOrSame, operand, opened, onwards, climb, expression, expressionOn, priority, part_at, partsOn, constraintOn, statedOn, stated, field_at, fieldsOn, fields_at, assignment, statementAt, row_at, block_at, textAt}
-use Rattle.text.specs.Judge.{Awaited, judgeText, grouped, closed, bracketed, levels, unfit, room, after, stands, tooGreat, mayOperand, mayOperator, mayPart, mayField, mayStatement, may, judge}
+use Rattle.tokens.specs.Bytes.{between, is_white, is_named, run, trimmed, spelt, same_in}
+use Rattle.tokens.specs.Spelling.{code_of, later_keywords, keywords, pairs, singles}
+use Rattle.tokens.specs.Tokens.{asked_from, name_length, name_at, single_at, mark_at, signs, token_at, limited, rest_from, token_from}
+use Rattle.tokens.specs.Numbers.{digit_of, digits_from, integer_of}
+use Rattle.text.specs.Reading.{Fault, Form, Reader, due_after, level_of, number_in, known, with_name}
+use Rattle.text.specs.Reading.{peek, refusal, take, need, room_for, variable, label, steps, path, literal, outside, literal_at, path_or_same, operand, opened, onwards, climb, expression, expression_on, priority, part_at, parts_on, constraint_on, stated_on, stated, field_at, fields_on, fields_at, assignment, statement_at, row_at, block_at, text_at}
+use Rattle.text.specs.Judge.{Awaited, judge_text, grouped, closed, bracketed, levels, unfit, room, after, stands, too_great, may_operand, may_operator, may_part, may_field, may_statement, may, judge}
 
 abbrev each : (List ℕ → ℕ × ℕ) → List (List ℕ) → List (ℕ × ℕ)
 each f [] = []
@@ -115,14 +115,14 @@ abbrev words_of : Answer Fault (Form × Reader) → List ℤ × List ℕ
 words_of (got x) = (x.0.words, x.0.origins)
 words_of (stop f) = ([], [])
 
-pub example-sheet : words_of (textAt example) ≡ (pos 2 ∷ pos 2 ∷ pos 0 ∷ pos 2 ∷ pos 0 ∷ pos 23 ∷ pos 64 ∷ pos 1 ∷ pos 23 ∷ pos 16 ∷ pos 3 ∷ pos 1 ∷ pos 3 ∷ pos 25 ∷ pos 6 ∷ pos 24 ∷ pos 0 ∷ pos 1 ∷ pos 0 ∷ pos 25 ∷ pos 3 ∷ pos 23 ∷ pos 4 ∷ pos 24 ∷ pos 0 ∷ pos 1 ∷ pos 1 ∷ [], 0 ∷ 0 ∷ 0 ∷ 9 ∷ 10 ∷ 17 ∷ 17 ∷ 21 ∷ 30 ∷ 30 ∷ 35 ∷ 42 ∷ 42 ∷ 59 ∷ 59 ∷ 51 ∷ 51 ∷ 51 ∷ 53 ∷ 63 ∷ 63 ∷ 61 ∷ 61 ∷ 65 ∷ 65 ∷ 65 ∷ 67 ∷ [])
-unfolding between isWhite isNamed run trimmed spelt sameIn code_of laterKeywords keywords pairs singles askedFrom nameLength name_at singleAt markAt signs tokenAt limited restFrom tokenFrom digitOf digitsFrom integerOf dueAfter levelOf number_in known withName among peek refusal take need room_for variable label steps path literal outside literalAt pathOrSame operand opened onwards climb expression expressionOn priority part_at partsOn constraintOn statedOn stated field_at fieldsOn fields_at assignment statementAt row_at block_at textAt
+pub example-sheet : words_of (text_at example) ≡ (pos 2 ∷ pos 2 ∷ pos 0 ∷ pos 2 ∷ pos 0 ∷ pos 23 ∷ pos 64 ∷ pos 1 ∷ pos 23 ∷ pos 16 ∷ pos 3 ∷ pos 1 ∷ pos 3 ∷ pos 25 ∷ pos 6 ∷ pos 24 ∷ pos 0 ∷ pos 1 ∷ pos 0 ∷ pos 25 ∷ pos 3 ∷ pos 23 ∷ pos 4 ∷ pos 24 ∷ pos 0 ∷ pos 1 ∷ pos 1 ∷ [], 0 ∷ 0 ∷ 0 ∷ 9 ∷ 10 ∷ 17 ∷ 17 ∷ 21 ∷ 30 ∷ 30 ∷ 35 ∷ 42 ∷ 42 ∷ 59 ∷ 59 ∷ 51 ∷ 51 ∷ 51 ∷ 53 ∷ 63 ∷ 63 ∷ 61 ∷ 61 ∷ 65 ∷ 65 ∷ 65 ∷ 67 ∷ [])
+unfolding between is_white is_named run trimmed spelt same_in code_of later_keywords keywords pairs singles asked_from name_length name_at single_at mark_at signs token_at limited rest_from token_from digit_of digits_from integer_of due_after level_of number_in known with_name among peek refusal take need room_for variable label steps path literal outside literal_at path_or_same operand opened onwards climb expression expression_on priority part_at parts_on constraint_on stated_on stated field_at fields_on fields_at assignment statement_at row_at block_at text_at
 example-sheet = refl
 
-pub reading-sheet : each (λ t. read (length t) (textAt t)) (example ∷ texts) ≡ (0, 74) ∷ outcomes
-unfolding between isWhite isNamed run trimmed spelt sameIn code_of laterKeywords keywords pairs singles askedFrom nameLength name_at singleAt markAt signs tokenAt limited restFrom tokenFrom digitOf digitsFrom integerOf dueAfter levelOf number_in known withName among peek refusal take need room_for variable label steps path literal outside literalAt pathOrSame operand opened onwards climb expression expressionOn priority part_at partsOn constraintOn statedOn stated field_at fieldsOn fields_at assignment statementAt row_at block_at textAt
+pub reading-sheet : each (λ t. read (length t) (text_at t)) (example ∷ texts) ≡ (0, 74) ∷ outcomes
+unfolding between is_white is_named run trimmed spelt same_in code_of later_keywords keywords pairs singles asked_from name_length name_at single_at mark_at signs token_at limited rest_from token_from digit_of digits_from integer_of due_after level_of number_in known with_name among peek refusal take need room_for variable label steps path literal outside literal_at path_or_same operand opened onwards climb expression expression_on priority part_at parts_on constraint_on stated_on stated field_at fields_on fields_at assignment statement_at row_at block_at text_at
 reading-sheet = refl
 
-pub judging-sheet : each (λ t. judged (length t) (judgeText t)) (example ∷ texts) ≡ (0, 74) ∷ outcomes
-unfolding between isWhite isNamed run trimmed spelt sameIn code_of laterKeywords keywords pairs singles askedFrom nameLength name_at singleAt markAt signs tokenAt limited restFrom tokenFrom digitOf digitsFrom integerOf dueAfter levelOf number_in known withName among grouped closed bracketed levels unfit room after stands tooGreat mayOperand mayOperator mayPart mayField mayStatement may judge
+pub judging-sheet : each (λ t. judged (length t) (judge_text t)) (example ∷ texts) ≡ (0, 74) ∷ outcomes
+unfolding between is_white is_named run trimmed spelt same_in code_of later_keywords keywords pairs singles asked_from name_length name_at single_at mark_at signs token_at limited rest_from token_from digit_of digits_from integer_of due_after level_of number_in known with_name among grouped closed bracketed levels unfit room after stands too_great may_operand may_operator may_part may_field may_statement may judge
 judging-sheet = refl

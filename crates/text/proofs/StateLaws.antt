@@ -10,11 +10,11 @@ use lib.ListN.{length, get_or, set}
 use Rattle.words.specs.Answer.{Answer}
 use Rattle.tables.proofs.SearchLaws.{cases}
 use Rattle.tokens.specs.declared.Token.{Token}
-use Rattle.tokens.specs.Tokens.{tokenFrom}
-use Rattle.text.specs.Reading.{Fault, Reader, dueAfter}
-use Rattle.text.specs.Told.{Carried, carried, next_of, readerOf, reading_of, numberedOf, refusedAt, roomWith, behind, takenBy, namedVariable, namedLabel}
-use Rattle.text.specs.Told.{lookedBy, tookBy, Follows, Numbers}
-use Rattle.text.specs.Written.{passBy, deepBy, numberedBy}
+use Rattle.tokens.specs.Tokens.{token_from}
+use Rattle.text.specs.Reading.{Fault, Reader, due_after}
+use Rattle.text.specs.Told.{Carried, carried, next_of, reader_of, reading_of, numbered_of, refused_at, room_with, behind, taken_by, named_variable, named_label}
+use Rattle.text.specs.Told.{looked_by, took_by, Follows, Numbers}
+use Rattle.text.specs.Written.{pass_by, deep_by, numbered_by}
 
 -- ---- a row is its 15 words
 
@@ -53,33 +53,33 @@ or-true true = refl
 or-true false = refl
 
 module _ (l : List ℕ) (long : length l ≡ 15) where
-  pub row-refused : (x : ℕ) → carried (set (set l 0 x) 1 (get_or (set l 0 x) 13 0)) ≡ refusedAt x (carried l).start (carried l)
+  pub row-refused : (x : ℕ) → carried (set (set l 0 x) 1 (get_or (set l 0 x) 13 0)) ≡ refused_at x (carried l).start (carried l)
   unfolding carried
   row-refused x =
-      of_row (λ l. carried (set (set l 0 x) 1 (get_or (set l 0 x) 13 0)) ≡ refusedAt x (carried l).start (carried l)) (λ a b c d e f g h i j k m n o p. refl) l long
+      of_row (λ l. carried (set (set l 0 x) 1 (get_or (set l 0 x) 13 0)) ≡ refused_at x (carried l).start (carried l)) (λ a b c d e f g h i j k m n o p. refl) l long
 
-  pub row-passed : carried (set l 6 1) ≡ passBy true (carried l)
+  pub row-passed : carried (set l 6 1) ≡ pass_by true (carried l)
   unfolding carried
-  row-passed = of_row (λ l. carried (set l 6 1) ≡ passBy true (carried l)) (λ a b c d e f g h i j k m n o p. rw (or-true (ltb 0 g))) l long
+  row-passed = of_row (λ l. carried (set l 6 1) ≡ pass_by true (carried l)) (λ a b c d e f g h i j k m n o p. rw (or-true (ltb 0 g))) l long
 
-  pub row-counted : (x : ℕ) → carried (set l 9 x) ≡ numberedBy x (carried l)
+  pub row-counted : (x : ℕ) → carried (set l 9 x) ≡ numbered_by x (carried l)
   unfolding carried
-  row-counted x = of_row (λ l. carried (set l 9 x) ≡ numberedBy x (carried l)) (λ a b c d e f g h i j k m n o p. refl) l long
+  row-counted x = of_row (λ l. carried (set l 9 x) ≡ numbered_by x (carried l)) (λ a b c d e f g h i j k m n o p. refl) l long
 
-  pub row-deep : (x : ℕ) → carried (set l 11 x) ≡ deepBy x (carried l)
+  pub row-deep : (x : ℕ) → carried (set l 11 x) ≡ deep_by x (carried l)
   unfolding carried
-  row-deep x = of_row (λ l. carried (set l 11 x) ≡ deepBy x (carried l)) (λ a b c d e f g h i j k m n o p. refl) l long
+  row-deep x = of_row (λ l. carried (set l 11 x) ≡ deep_by x (carried l)) (λ a b c d e f g h i j k m n o p. refl) l long
 
-  pub row-variable : (x y : ℕ) → carried (set (set l 7 x) 9 y) ≡ namedVariable x y (carried l)
+  pub row-variable : (x y : ℕ) → carried (set (set l 7 x) 9 y) ≡ named_variable x y (carried l)
   unfolding carried
-  row-variable x y = of_row (λ l. carried (set (set l 7 x) 9 y) ≡ namedVariable x y (carried l)) (λ a b c d e f g h i j k m n o p. refl) l long
+  row-variable x y = of_row (λ l. carried (set (set l 7 x) 9 y) ≡ named_variable x y (carried l)) (λ a b c d e f g h i j k m n o p. refl) l long
 
-  pub row_label : (x y : ℕ) → carried (set (set l 8 x) 9 y) ≡ namedLabel x y (carried l)
+  pub row_label : (x y : ℕ) → carried (set (set l 8 x) 9 y) ≡ named_label x y (carried l)
   unfolding carried
-  row_label x y = of_row (λ l. carried (set (set l 8 x) 9 y) ≡ namedLabel x y (carried l)) (λ a b c d e f g h i j k m n o p. refl) l long
+  row_label x y = of_row (λ l. carried (set (set l 8 x) 9 y) ≡ named_label x y (carried l)) (λ a b c d e f g h i j k m n o p. refl) l long
 
   pub row-looked :
-      (text : List ℕ) (t : Token) → t ≡ tokenFrom (dueAfter (get_or l 3 0)) text (get_or l 2 0) → carried (set (set (set l 12 t.code) 13 t.place) 14 t.end) ≡ lookedBy text
+      (text : List ℕ) (t : Token) → t ≡ token_from (due_after (get_or l 3 0)) text (get_or l 2 0) → carried (set (set (set l 12 t.code) 13 t.place) 14 t.end) ≡ looked_by text
       (carried l)
   unfolding carried
   row-looked text t is =
@@ -87,8 +87,8 @@ module _ (l : List ℕ) (long : length l ≡ 15) where
       is
       (of_row
       (λ l.
-      let u = tokenFrom (dueAfter (get_or l 3 0)) text (get_or l 2 0) in
-      carried (set (set (set l 12 u.code) 13 u.place) 14 u.end) ≡ lookedBy text (carried l))
+      let u = token_from (due_after (get_or l 3 0)) text (get_or l 2 0) in
+      carried (set (set (set l 12 u.code) 13 u.place) 14 u.end) ≡ looked_by text (carried l))
       (λ a b c d e f g h i j k m n o p. refl)
       l
       long)
@@ -109,56 +109,56 @@ none_is : (n : ℕ) → eqb n 0 ≡ not (ltb 0 n)
 none_is zero = refl
 none_is (suc n) = rw (ne_eqb (suc n) 0 (omega arith), lt-ltb 0 (suc n) (omega arith))
 
-pub row_room : (l : List ℕ) (k : ℕ) → eqb (get_or l 6 0) 0 && leb (get_or l 4 0 + get_or l 5 0 + k) 4096 ≡ roomWith k (carried l)
-unfolding carried roomWith
+pub row_room : (l : List ℕ) (k : ℕ) → eqb (get_or l 6 0) 0 && leb (get_or l 4 0 + get_or l 5 0 + k) 4096 ≡ room_with k (carried l)
+unfolding carried room_with
 row_room l k = rw (none_is (get_or l 6 0))
 
 -- ---- a token is taken, and the next one looked at
 
 module _ (text : List ℕ) (k : ℕ) (r : Carried) where
   -- as if it were not looked at
-  took-as : (P : Carried → Carried → Type 0) → ((u : Carried) → P (lookedBy text u) u) → ((u : Carried) → P u u) → P (tookBy text k r) (takenBy (next_of r) k r)
-  unfolding tookBy takenBy
-  took-as P f g = cases (roomWith k r) (λ e. rw e (f (behind (next_of r) k r))) (λ e. rw e (g (refusedAt 22 r.start r)))
+  took-as : (P : Carried → Carried → Type 0) → ((u : Carried) → P (looked_by text u) u) → ((u : Carried) → P u u) → P (took_by text k r) (taken_by (next_of r) k r)
+  unfolding took_by taken_by
+  took-as P f g = cases (room_with k r) (λ e. rw e (f (behind (next_of r) k r))) (λ e. rw e (g (refused_at 22 r.start r)))
 
-  pub took_number : (tookBy text k r).number ≡ (takenBy (next_of r) k r).number
+  pub took_number : (took_by text k r).number ≡ (taken_by (next_of r) k r).number
   took_number = took-as (λ s u. s.number ≡ u.number) (λ u. refl) (λ u. refl)
 
-  pub took-room : roomWith k r ≡ true → tookBy text k r ≡ lookedBy text (behind (next_of r) k r)
-  unfolding tookBy
+  pub took-room : room_with k r ≡ true → took_by text k r ≡ looked_by text (behind (next_of r) k r)
+  unfolding took_by
   took-room e = rw e
 
-  pub took-none : roomWith k r ≡ false → tookBy text k r ≡ refusedAt 22 r.start r
-  unfolding tookBy
+  pub took-none : room_with k r ≡ false → took_by text k r ≡ refused_at 22 r.start r
+  unfolding took_by
   took-none e = rw e
 
-  pub took-follows : {s : Carried} {step : Reader → Answer Fault Reader} → s ≡ tookBy text k r → Follows r step (takenBy (next_of r) k r) → Follows r step s
-  unfolding reading_of readerOf
+  pub took-follows : {s : Carried} {step : Reader → Answer Fault Reader} → s ≡ took_by text k r → Follows r step (taken_by (next_of r) k r) → Follows r step s
+  unfolding reading_of reader_of
   took-follows {step = step} is =
       rw is (took-as (λ s u. Follows r step u → Follows r step s) (λ u F. record { reads = F.reads; written = F.written; depth = F.depth }) (λ u F. F))
 
   module _ {before after : List ℕ} {s : Carried} {step : Reader → Answer Fault (ℕ × Reader)} where
-    pub took_numbers : s ≡ tookBy text k r → Numbers before r step after (takenBy (next_of r) k r) → Numbers before r step after s
-    unfolding numberedOf readerOf
+    pub took_numbers : s ≡ took_by text k r → Numbers before r step after (taken_by (next_of r) k r) → Numbers before r step after s
+    unfolding numbered_of reader_of
     took_numbers is =
         rw is (took-as (λ s u. Numbers before r step after u → Numbers before r step after s) (λ u F. record { reads = F.reads; written = F.written; depth = F.depth }) (λ u F. F))
 
-    pub took-variable : (c n : ℕ) → s ≡ namedVariable c n (tookBy text k r) → Numbers before r step after (namedVariable c n (takenBy (next_of r) k r)) → Numbers before r step after s
-    unfolding numberedOf readerOf
+    pub took-variable : (c n : ℕ) → s ≡ named_variable c n (took_by text k r) → Numbers before r step after (named_variable c n (taken_by (next_of r) k r)) → Numbers before r step after s
+    unfolding numbered_of reader_of
     took-variable c n is =
         rw
         is
         (took-as
-        (λ s u. Numbers before r step after (namedVariable c n u) → Numbers before r step after (namedVariable c n s))
+        (λ s u. Numbers before r step after (named_variable c n u) → Numbers before r step after (named_variable c n s))
         (λ u F. record { reads = F.reads; written = F.written; depth = F.depth })
         (λ u F. F))
 
-    pub took-label : (c n : ℕ) → s ≡ namedLabel c n (tookBy text k r) → Numbers before r step after (namedLabel c n (takenBy (next_of r) k r)) → Numbers before r step after s
-    unfolding numberedOf readerOf
+    pub took-label : (c n : ℕ) → s ≡ named_label c n (took_by text k r) → Numbers before r step after (named_label c n (taken_by (next_of r) k r)) → Numbers before r step after s
+    unfolding numbered_of reader_of
     took-label c n is =
         rw
         is
         (took-as
-        (λ s u. Numbers before r step after (namedLabel c n u) → Numbers before r step after (namedLabel c n s))
+        (λ s u. Numbers before r step after (named_label c n u) → Numbers before r step after (named_label c n s))
         (λ u F. record { reads = F.reads; written = F.written; depth = F.depth })
         (λ u F. F))

@@ -11,13 +11,13 @@ use Rattle.words.specs.Answer.{Answer, got, stop, ◌>>=◌}
 use Rattle.words.specs.Words.{word_of}
 use Rattle.words.proofs.Laws.{word-is}
 use Rattle.tokens.specs.declared.Token.{Token}
-use Rattle.text.specs.Reading.{Fault, Reader, Form, form, wordThen, and_then, owing, peek, take, path, enough, onwards, climb, expressionOn, part_at, constraintOn, statedOn, stated}
-use Rattle.text.specs.Told.{Carried, readerOf, Peeks, Follows}
-use Rattle.text.specs.Written.{with1, wroteOne, deepBy, Owes}
-use Rattle.text.specs.Pieces.{Lent, lent, form_of, Fit, Does, Piece, Onward, inserted, Inserts, behindFirst, statedFrom}
+use Rattle.text.specs.Reading.{Fault, Reader, Form, form, word_then, and_then, owing, peek, take, path, enough, onwards, climb, expression_on, part_at, constraint_on, stated_on, stated}
+use Rattle.text.specs.Told.{Carried, reader_of, Peeks, Follows}
+use Rattle.text.specs.Written.{with1, wrote_one, deep_by, Owes}
+use Rattle.text.specs.Pieces.{Lent, lent, form_of, Fit, Does, Piece, Onward, inserted, Inserts, behind_first, stated_from}
 use Rattle.text.proofs.RowsLaws.{fit-room, fit-from, wrote-reader, wrote-more}
 use Rattle.text.proofs.AnswerSteps.{flat, following, worded, bind-pair}
-use Rattle.text.proofs.DoesLaws.{ended, first_of, laterOf, does-then, does-as, does-wider, does-take, does-owe}
+use Rattle.text.proofs.DoesLaws.{ended, first_of, later_of, does-then, does-as, does-wider, does-take, does-owe}
 use Rattle.text.proofs.DoesLaws.{does-word, does-first, does-piece, does-later, does-flat, does-depth, form-none, form-length}
 use Rattle.text.proofs.StepLaws.{does-given, does-full, does-went, does-answered}
 use Rattle.text.proofs.PartCode.{Constrains}
@@ -26,13 +26,13 @@ use Rattle.text.proofs.PartCode.{Constrains}
 
 -- the word w before f, and a piece behind it
 abbrev around : ℤ → ℕ → Form → Answer Fault (Form × Reader) → Answer Fault (Form × Reader)
-around w p f m = m >>= λ g. got (wordThen w p (and_then f g.0), g.1)
+around w p f m = m >>= λ g. got (word_then w p (and_then f g.0), g.1)
 
 -- the words of the gap are read again, but for the statement's
 gap-then : (w : ℤ) (p q : ℕ) (m : Answer Fault (Form × Reader)) (on : Form → Reader → Answer Fault (Form × Reader))
-    → (following (form (w ∷ pos 0 ∷ pos 3 ∷ []) (p ∷ q ∷ q ∷ [])) (flat m) >>= λ x. following (first_of 1 x.0) (on (behindFirst (laterOf 1 x.0)) x.1))
-    ≡ (m >>= λ e. worded w p (on (wordThen (pos 3) q e.0) e.1))
-unfolding behindFirst
+    → (following (form (w ∷ pos 0 ∷ pos 3 ∷ []) (p ∷ q ∷ q ∷ [])) (flat m) >>= λ x. following (first_of 1 x.0) (on (behind_first (later_of 1 x.0)) x.1))
+    ≡ (m >>= λ e. worded w p (on (word_then (pos 3) q e.0) e.1))
+unfolding behind_first
 gap-then w p q (got e) on = refl
 gap-then w p q (stop n) on = refl
 
@@ -41,14 +41,14 @@ abbrev operators : List ℕ → Form → Reader → Answer Fault (Form × Reader
 operators text f q = onwards text (λ l v. climb text 15 true l v) (enough text) 15 1 0 f q
 
 module _ (text : List ℕ) (verb p at : ℕ) (f : Form) (q : Reader) (t : Token) (e : t ≡ peek text q) where
-  is_same : t.code ≡ 39 → (take text 0 q >>= λ s. around (pos (verb + 2)) p f (path text 2 s)) ≡ statedOn text verb p at f q
-  unfolding statedOn
-  is_same h = rw (← e, eq-eqb t.code 39 h)
+  is_same_lem : t.code ≡ 39 → (take text 0 q >>= λ s. around (pos (verb + 2)) p f (path text 2 s)) ≡ stated_on text verb p at f q
+  unfolding stated_on
+  is_same_lem h = rw (← e, eq-eqb t.code 39 h)
 
   is-expression : (t.code ≡ 39 → ⊥)
-      → (operators text (wordThen (pos 24) at f) (owing 3 q) >>= λ e. worded (pos verb) p (constraintOn text at (wordThen (pos 3) at e.0) e.1))
-      ≡ statedOn text verb p at f q
-  unfolding statedOn expressionOn
+      → (operators text (word_then (pos 24) at f) (owing 3 q) >>= λ e. worded (pos verb) p (constraint_on text at (word_then (pos 3) at e.0) e.1))
+      ≡ stated_on text verb p at f q
+  unfolding stated_on expression_on
   is-expression h = rw (← e, ne_eqb t.code 39 h)
 
 abbrev gap : List ℤ
@@ -58,22 +58,22 @@ module _ (text : List ℕ) (from verb p at : ℕ) {names : List ℕ} {ws vs : Li
     (small : verb < 4096) (peeks : Peeks text r t) (l : from < r.written) (a : vs ≡ set ws from w) (b : us ≡ set os from p) where
   pub on_same : {after : List ℕ} {xs : List ℤ} {ys : List ℕ} {v s : Carried} → w ≡ word_of (verb + 2) → t.code ≡ 39 → Follows r (λ q. take text 0 q) v
       → Piece 3 0 (lent names vs us) v (λ q. path text 2 q) (lent after xs ys) s
-      → Onward false 0 3 from (lent names ws os) r (λ f q. statedOn text verb p at (behindFirst f) q) (lent after xs ys) s
+      → Onward false 0 3 from (lent names ws os) r (λ f q. stated_on text verb p at (behind_first f) q) (lent after xs ys) s
   on_same {after = after} {xs = xs} {ys = ys} {v = v} {s = s} i c f d =
       let j : w ≡ pos (verb + 2) = i ∙ word-is (verb + 2) (omega arith) in
       let y : Piece 0 3 (lent names vs us) v (λ q. path text 2 q) (lent after xs ys) s = does-wider (omega arith) (omega arith) d in
       does-as
       (does-then (does-first w p (omega arith) l a b) (does-then (does-take text 0 f) (does-piece y)))
       (λ fit z.
-      bind-pair (take text 0 (readerOf names r)) (wordThen w p (behindFirst (form_of false from (lent names ws os) r))) (λ x. following x.0 (path text 2 x.1))
-      ∙ rw j (is_same text verb p at (behindFirst (form_of false from (lent names ws os) r)) (readerOf names r) t (peeks names) c))
+      bind-pair (take text 0 (reader_of names r)) (word_then w p (behind_first (form_of false from (lent names ws os) r))) (λ x. following x.0 (path text 2 x.1))
+      ∙ rw j (is_same_lem text verb p at (behind_first (form_of false from (lent names ws os) r)) (reader_of names r) t (peeks names) c))
 
   module _ {after last : List ℕ} {xs ms zs : List ℤ} {ys ns qs : List ℕ} {u v d e s : Carried}
-      (i : w ≡ word_of verb) (c : t.code ≡ 39 → ⊥) (z : r.number ≡ 0) (o : Owes 3 r u) (ins : Inserts (from + 1) gap at vs us u xs ys v) (n : d ≡ deepBy 1 v)
+      (i : w ≡ word_of verb) (c : t.code ≡ 39 → ⊥) (z : r.number ≡ 0) (o : Owes 3 r u) (ins : Inserts (from + 1) gap at vs us u xs ys v) (n : d ≡ deep_by 1 v)
       (go : (most : ℕ) → most ≤ 3 → Onward true most most (from + 3) (lent names xs ys) d (λ f q. operators text f q) (lent after ms ns) e)
       (on : Constrains text (from + 1) at (lent after ms ns) e (lent last zs qs) s) where
     module _ (fit0 : Fit 0 0 from (lent names ws os) r) where
-      verb-does : Does false 0 0 0 0 from (lent names ws os) r (λ f q. got (wordThen w p (behindFirst f), q)) (lent names vs us) r
+      verb-does : Does false 0 0 0 0 from (lent names ws os) r (λ f q. got (word_then w p (behind_first f), q)) (lent names vs us) r
       verb-does = does-first w p (omega arith) l a b
 
       owe-does : {to : ℕ} → Does false 0 0 3 3 to (lent names vs us) r (λ f q. got (f, owing 3 q)) (lent names vs us) u
@@ -112,10 +112,10 @@ module _ (text : List ℕ) (from verb p at : ℕ) {names : List ℕ} {ws vs : Li
       onwards-long : from + 3 ≤ e.written
       onwards-long = (onwards-does.fit (fit-from (from + 3) (omega (arith, deep_long)) (deep-does.fit gap-fit))).begins
 
-      parts-does : Does false 3 0 3 0 (from + 1) (lent after ms ns) e (λ f q. constraintOn text at (behindFirst f) q) (lent last zs qs) s
+      parts-does : Does false 3 0 3 0 (from + 1) (lent after ms ns) e (λ f q. constraint_on text at (behind_first f) q) (lent last zs qs) s
       parts-does = on 3 (omega arith) (λ y. omega (arith, onwards-long))
 
-      expression-does : Onward false 0 3 from (lent names ws os) r (λ f q. statedOn text verb p at (behindFirst f) q) (lent last zs qs) s
+      expression-does : Onward false 0 3 from (lent names ws os) r (λ f q. stated_on text verb p at (behind_first f) q) (lent last zs qs) s
       expression-does =
           does-as
           (does-then
@@ -127,48 +127,48 @@ module _ (text : List ℕ) (from verb p at : ℕ) {names : List ℕ} {ws vs : Li
           (does-then deep-does (does-then (does-later 3 (omega (arith, deep_long)) onwards-does) (does-later 1 (omega (arith, onwards-long)) parts-does))))))
           (λ fit y.
           gap-then w p at
-          (operators text (wordThen (pos 24) at (behindFirst (form_of false from (lent names ws os) r))) (owing 3 (readerOf names r)))
-          (λ f q. constraintOn text at f q)
-          ∙ rw (i ∙ word-is verb (omega arith)) (is-expression text verb p at (behindFirst (form_of false from (lent names ws os) r)) (readerOf names r) t (peeks names) c))
+          (operators text (word_then (pos 24) at (behind_first (form_of false from (lent names ws os) r))) (owing 3 (reader_of names r)))
+          (λ f q. constraint_on text at f q)
+          ∙ rw (i ∙ word-is verb (omega arith)) (is-expression text verb p at (behind_first (form_of false from (lent names ws os) r)) (reader_of names r) t (peeks names) c))
 
-    pub on-expression : Onward false 0 3 from (lent names ws os) r (λ f q. statedOn text verb p at (behindFirst f) q) (lent last zs qs) s
+    pub on-expression : Onward false 0 3 from (lent names ws os) r (λ f q. stated_on text verb p at (behind_first f) q) (lent last zs qs) s
     on-expression = does-given expression-does
 
 -- ---- the whole statement
 
 module _ (text : List ℕ) (verb p at : ℕ) (f : Form) (w : ℤ) (a : f.words ≡ []) (b : f.origins ≡ []) where
-  path-then : (m : Answer Fault (Form × Reader)) → (following (ended f w p) m >>= λ x. statedOn text verb p at (behindFirst x.0) x.1) ≡ (m >>= λ x. statedOn text verb p at x.0 x.1)
-  unfolding behindFirst statedOn
+  path-then : (m : Answer Fault (Form × Reader)) → (following (ended f w p) m >>= λ x. stated_on text verb p at (behind_first x.0) x.1) ≡ (m >>= λ x. stated_on text verb p at x.0 x.1)
+  unfolding behind_first stated_on
   path-then (got x) = rw (a, b)
   path-then (stop n) = refl
 
   part_then : (m : Answer Fault (Form × Reader))
-      → (following (ended (ended f w p) (pos 0) at) m >>= λ x. following (first_of 1 x.0) (constraintOn text at (behindFirst (laterOf 1 x.0)) x.1))
-      ≡ (m >>= λ x. worded w p (constraintOn text at x.0 x.1))
-  unfolding behindFirst constraintOn
+      → (following (ended (ended f w p) (pos 0) at) m >>= λ x. following (first_of 1 x.0) (constraint_on text at (behind_first (later_of 1 x.0)) x.1))
+      ≡ (m >>= λ x. worded w p (constraint_on text at x.0 x.1))
+  unfolding behind_first constraint_on
   part_then (got x) = rw (a, b)
   part_then (stop n) = refl
 
 module _ (text : List ℕ) (verb p : ℕ) (q : Reader) (t : Token) (e : t ≡ peek text q) where
-  is-path : t.code ≡ 1 → (path text 2 q >>= λ x. statedOn text verb p t.place x.0 x.1) ≡ stated text verb p q
+  is-path : t.code ≡ 1 → (path text 2 q >>= λ x. stated_on text verb p t.place x.0 x.1) ≡ stated text verb p q
   unfolding stated
   is-path h = rw (← e, eq-eqb t.code 1 h)
 
-  is-part : (t.code ≡ 1 → ⊥) → (part_at text (owing 1 q) >>= λ x. worded (pos verb) p (constraintOn text t.place x.0 x.1)) ≡ stated text verb p q
+  is-part : (t.code ≡ 1 → ⊥) → (part_at text (owing 1 q) >>= λ x. worded (pos verb) p (constraint_on text t.place x.0 x.1)) ≡ stated text verb p q
   unfolding stated
   is-part h = rw (← e, ne_eqb t.code 1 h)
 
 -- where the rows are full a refusal came before
-pub stated-full : (text : List ℕ) (verb : ℕ) {a : Lent} {r : Carried} → 4100 ≤ r.written → Piece 0 3 a r (λ q. statedFrom text verb q) a r
+pub stated-full : (text : List ℕ) (verb : ℕ) {a : Lent} {r : Carried} → 4100 ≤ r.written → Piece 0 3 a r (λ q. stated_from text verb q) a r
 stated-full text verb h = does-full (omega arith) (omega arith)
 
 module _ (text : List ℕ) (verb : ℕ) (names : List ℕ) (ws : List ℤ) (os : List ℕ) {vs : List ℤ} {us : List ℕ} {r v s : Carried} {t first : Token} {w : ℤ}
     (room : r.written < 4100) (small : verb < 4096) (peeks : Peeks text r t) (takes : Follows r (λ q. take text 1 q) v) (i : w ≡ word_of verb)
-    (a : vs ≡ with1 ws v w) (b : us ≡ with1 os v t.place) (c : s ≡ wroteOne v) (second : Peeks text s first) where
+    (a : vs ≡ with1 ws v w) (b : us ≡ with1 os v t.place) (c : s ≡ wrote_one v) (second : Peeks text s first) where
   one_written : s.written ≡ r.written + 1
   one_written = wrote-more v c (omega (arith, takes.written)) ∙ ap (λ (k : ℕ). k + 1) takes.written
 
-  seen : first ≡ peek text (readerOf names v)
+  seen : first ≡ peek text (reader_of names v)
   seen = second names ∙ rw (c, wrote-reader v names)
 
   none_before : ((form_of false r.written (lent names ws os) v).words ≡ []) × ((form_of false r.written (lent names ws os) v).origins ≡ [])
@@ -181,15 +181,15 @@ module _ (text : List ℕ) (verb : ℕ) (names : List ℕ) (ws : List ℤ) (os :
   stated-does = does-word w t.place (omega arith) a b c
 
   begins-with : {l : Lent} {z : Carried} → Does false 0 1 3 0 r.written (lent names ws os) v (λ f q. stated text verb t.place q) l z
-      → Piece 0 3 (lent names ws os) r (λ q. statedFrom text verb q) l z
+      → Piece 0 3 (lent names ws os) r (λ q. stated_from text verb q) l z
   begins-with d =
       does-as
       (does-then (does-take text 1 takes) d)
-      (λ fit z. rw (← peeks names) (bind-pair (take text 1 (readerOf names r)) (form_of false r.written (lent names ws os) r) (λ x. stated text verb t.place x.1)))
+      (λ fit z. rw (← peeks names) (bind-pair (take text 1 (reader_of names r)) (form_of false r.written (lent names ws os) r) (λ x. stated text verb t.place x.1)))
 
   pub stated-path : {l : Lent} {after : List ℕ} {xs : List ℤ} {ys : List ℕ} {u z : Carried} → first.code ≡ 1 → Piece 3 0 (lent names vs us) s (λ q. path text 2 q) (lent after xs ys) u
-      → (r.written < u.written → Onward false 0 3 r.written (lent after xs ys) u (λ f q. statedOn text verb t.place first.place (behindFirst f) q) l z)
-      → Piece 0 3 (lent names ws os) r (λ q. statedFrom text verb q) l z
+      → (r.written < u.written → Onward false 0 3 r.written (lent after xs ys) u (λ f q. stated_on text verb t.place first.place (behind_first f) q) l z)
+      → Piece 0 3 (lent names ws os) r (λ q. stated_from text verb q) l z
   stated-path {after = after} {xs = xs} {ys = ys} {u = u} h d on =
       begins-with (does-given (λ fit.
       let k : Piece 0 0 (lent names vs us) s (λ q. path text 2 q) (lent after xs ys) u = does-wider (omega arith) (omega arith) d in
@@ -197,11 +197,11 @@ module _ (text : List ℕ) (verb : ℕ) (names : List ℕ) (ws : List ℤ) (os :
       does-as
       (does-then stated-does (does-then (does-piece k) (on (omega arith))))
       (λ fit z.
-      path-then text verb t.place first.place (form_of false r.written (lent names ws os) v) w none_before.0 none_before.1 (path text 2 (readerOf names v))
-      ∙ is-path text verb t.place (readerOf names v) first seen h)))
+      path-then text verb t.place first.place (form_of false r.written (lent names ws os) v) w none_before.0 none_before.1 (path text 2 (reader_of names v))
+      ∙ is-path text verb t.place (reader_of names v) first seen h)))
 
   module _ {l : Lent} {after : List ℕ} {xs ms : List ℤ} {ys ns : List ℕ} {u e o z : Carried}
-      (h : first.code ≡ 1 → ⊥) (own : Owes 1 s o) (a1 : xs ≡ with1 vs o (pos 0)) (b1 : ys ≡ with1 us o first.place) (c1 : u ≡ wroteOne o)
+      (h : first.code ≡ 1 → ⊥) (own : Owes 1 s o) (a1 : xs ≡ with1 vs o (pos 0)) (b1 : ys ≡ with1 us o first.place) (c1 : u ≡ wrote_one o)
       (part : Piece 1 0 (lent names xs ys) u (λ q. part_at text q) (lent after ms ns) e)
       (on : Constrains text s.written first.place (lent after ms ns) e l z) where
     module _ (fit : Fit 0 1 r.written (lent names ws os) v) where
@@ -236,7 +236,7 @@ module _ (text : List ℕ) (verb : ℕ) (names : List ℕ) (ws : List ℤ) (os :
           let ew : r.written + 2 ≤ e.written = ((part-does {to = r.written + 2}).fit (fit-from (r.written + 2) (omega (arith, one_written)) u-fit)).begins in
           omega (arith, one_written)
 
-      parts-on : Does false 0 0 0 0 (r.written + 1) (lent after ms ns) e (λ f q. constraintOn text first.place (behindFirst f) q) l z
+      parts-on : Does false 0 0 0 0 (r.written + 1) (lent after ms ns) e (λ f q. constraint_on text first.place (behind_first f) q) l z
       parts-on = rw one_written at (on 0 (omega arith) e-longer)
 
       statement-does : Does false 0 1 3 0 r.written (lent names ws os) v (λ f q. stated text verb t.place q) l z
@@ -245,8 +245,8 @@ module _ (text : List ℕ) (verb : ℕ) (names : List ℕ) (ws : List ℤ) (os :
           (does-as
           (does-then stated-does (does-then m-owes (does-then m-does (does-then part-does (does-later 1 e-long parts-on)))))
           (λ fit z.
-          part_then text verb t.place first.place (form_of false r.written (lent names ws os) v) w none_before.0 none_before.1 (part_at text (owing 1 (readerOf names v)))
-          ∙ rw verb-is (is-part text verb t.place (readerOf names v) first seen h)))
+          part_then text verb t.place first.place (form_of false r.written (lent names ws os) v) w none_before.0 none_before.1 (part_at text (owing 1 (reader_of names v)))
+          ∙ rw verb-is (is-part text verb t.place (reader_of names v) first seen h)))
 
-    pub stated-part : Piece 0 3 (lent names ws os) r (λ q. statedFrom text verb q) l z
+    pub stated-part : Piece 0 3 (lent names ws os) r (λ q. stated_from text verb q) l z
     stated-part = begins-with (does-given statement-does)

@@ -11,7 +11,7 @@ use lib.Seq.{take-set-le}
 use Rattle.words.specs.Answer.{Answer, got, stop}
 use Rattle.words.proofs.AnswerLaws.{stop≢got, got-inj}
 use Rattle.text.specs.Reading.{Fault, fault, Reader, Form, form}
-use Rattle.text.specs.Told.{Carried, readerOf}
+use Rattle.text.specs.Told.{Carried, reader_of}
 use Rattle.text.specs.Pieces.{Lent, lent, form_of, piece_of, Fit, Does, Piece}
 use Rattle.text.proofs.RowsLaws.{going, fit-room, fit-stops, fit-names, fit-here}
 use Rattle.text.proofs.DoesLaws.{Program, does-stopped, does-got, form-none}
@@ -23,8 +23,8 @@ does-given h =
     record {
       reads = λ fit. (h fit).reads fit;
       fit = λ fit. (h fit).fit fit;
-      words-before = λ fit. (h fit).words-before fit;
-      origins-before = λ fit. (h fit).origins-before fit;
+      words_before = λ fit. (h fit).words_before fit;
+      origins_before = λ fit. (h fit).origins_before fit;
     }
 
 module _ {deep : Bool} {m k m1 k1 from : ℕ} {a b : Lent} {r s : Carried} {p : Program} (d : Does deep m k m1 k1 from a r p b s) (fit : Fit m k from a r) where
@@ -34,13 +34,13 @@ module _ {deep : Bool} {m k m1 k1 from : ℕ} {a b : Lent} {r s : Carried} {p : 
   does-went z = going r (λ y. y) (λ n. stop≢got (sym (rw (ne_eqb r.number 0 n, eq-eqb s.number 0 z) at (d.reads fit))))
 
   -- a step that stops
-  pub does-halted : r.number ≡ 0 → (s.number ≡ 0 → ⊥) → p (form_of deep from a r) (readerOf a.names r) ≡ stop (fault s.number s.place)
+  pub does-halted : r.number ≡ 0 → (s.number ≡ 0 → ⊥) → p (form_of deep from a r) (reader_of a.names r) ≡ stop (fault s.number s.place)
   unfolding piece_of
   does-halted z h = sym (rw (eq-eqb r.number 0 z, ne_eqb s.number 0 h) at (d.reads fit))
 
   -- a step that answers
-  pub does-answered : {x : Form × Reader} → r.number ≡ 0 → p (form_of deep from a r) (readerOf a.names r) ≡ got x
-      → (s.number ≡ 0) × (x ≡ (form_of deep from b s, readerOf b.names s))
+  pub does-answered : {x : Form × Reader} → r.number ≡ 0 → p (form_of deep from a r) (reader_of a.names r) ≡ got x
+      → (s.number ≡ 0) × (x ≡ (form_of deep from b s, reader_of b.names s))
   does-answered z g = going s (λ y. (y, got-inj (sym g ∙ does-got d fit z y))) (λ n. stop≢got (sym (does-halted z n) ∙ g))
 
 -- where the rows are full a refusal came before
@@ -50,15 +50,15 @@ does-full few h = does-given λ fit. does-stopped λ z. let y : ⊥ = omega (ari
 -- a step that leaves the rows and always stops
 pub does-halts : {deep : Bool} {m k m1 k1 from : ℕ} {before after : List ℕ} {ws : List ℤ} {os : List ℕ} {r s : Carried} {p : Program}
     → r.number ≡ 0 → length after ≡ length before → s.written ≡ r.written
-    → (192 ≤ length before → (s.number ≡ 0 → ⊥) × ((f : Form) → p f (readerOf before r) ≡ stop (fault s.number s.place)))
+    → (192 ≤ length before → (s.number ≡ 0 → ⊥) × ((f : Form) → p f (reader_of before r) ≡ stop (fault s.number s.place)))
     → Does deep m k m1 k1 from (lent before ws os) r p (lent after ws os) s
 unfolding piece_of
 does-halts {r = r} {s = s} z kept written h =
     record {
       reads = λ fit. rw (ne_eqb s.number 0 (h fit.names).0, eq-eqb r.number 0 z) (sym ((h fit.names).1 _));
       fit = λ fit. fit-names kept (fit-stops written (h fit.names).0 fit);
-      words-before = λ fit. refl;
-      origins-before = λ fit. refl;
+      words_before = λ fit. refl;
+      origins_before = λ fit. refl;
     }
 
 -- a word that is stored after a refusal
@@ -78,8 +78,8 @@ put-stopped {from = from} {ws = ws} {os = os} {r = r} i w o h far is also =
             certain = λ y. absurd (h y);
             owed = λ y. absurd (h y);
           };
-      words-before = λ fit. rw is (take-set-le from ws i w far);
-      origins-before = λ fit. rw also (take-set-le from os i o far);
+      words_before = λ fit. rw is (take-set-le from ws i w far);
+      origins_before = λ fit. rw also (take-set-le from os i o far);
     }
 
 -- where nothing is written yet

@@ -7,7 +7,7 @@ use lib.Dec.{eqb, leb}
 use lib.ListN.{length}
 use Rattle.tables.specs.Sizes.{variables, labels}
 use Rattle.tokens.specs.declared.Token.{Token}
-use Rattle.tokens.specs.Codes.{colonCode, dotCode}
+use Rattle.tokens.specs.Codes.{colon_code, dot_code}
 use Rattle.text.specs.Reading.{Named, Reader}
 use Rattle.text.specs.Claims.{TokensOf, NamesAre, Sorted, NumbersFit}
 use Rattle.text.proofs.NameLaws.{Extends, names-extend, extends-on, extends-same}
@@ -28,25 +28,25 @@ total r = r.certain + r.owed
 
 pub record Fine (text : List ℕ) (p : Spot) : Type 0 where
   pub inside : p.at ≤ length text
-  pub few-variables : length p.variables ≤ variables
-  pub few-labels : length p.labels ≤ labels
-  pub no-dot : p.last ≡ dotCode → ⊥
+  pub few_variables : length p.variables ≤ variables
+  pub few_labels : length p.labels ≤ labels
+  pub no-dot : p.last ≡ dot_code → ⊥
 
 -- the first token is no colon
 pub data Opens : List Token → Type 0 where
   none : Opens []
-  first : {t : Token} {ts : List Token} → (t.code ≡ colonCode → ⊥) → Opens (t ∷ ts)
+  first : {t : Token} {ts : List Token} → (t.code ≡ colon_code → ⊥) → Opens (t ∷ ts)
 
 pub record Took (text : List ℕ) (p q : Spot) (ts : List Token) : Type 0 where
   pub spelt : TokensOf text p.at p.last ts q.at q.last
   pub numbers : NumbersFit text ts
-  pub variable-tokens : List Token
-  pub label-tokens : List Token
-  pub variable-names : NamesAre text p.variables variable-tokens q.variables
-  pub label-names : NamesAre text p.labels label-tokens q.labels
+  pub variable_tokens : List Token
+  pub label_tokens : List Token
+  pub variable_names : NamesAre text p.variables variable_tokens q.variables
+  pub label_names : NamesAre text p.labels label_tokens q.labels
   pub opens : Opens ts
-  pub sorted : (u : Token) (us vs ls : List Token) → (u.code ≡ colonCode → ⊥) → Sorted q.last (u ∷ us) vs ls
-      → Sorted p.last (ts ++ u ∷ us) (variable-tokens ++ vs) (label-tokens ++ ls)
+  pub sorted : (u : Token) (us vs ls : List Token) → (u.code ≡ colon_code → ⊥) → Sorted q.last (u ∷ us) vs ls
+      → Sorted p.last (ts ++ u ∷ us) (variable_tokens ++ vs) (label_tokens ++ ls)
   pub fine : Fine text q
 
 -- ---- one after the other
@@ -72,10 +72,10 @@ module _ {text : List ℕ} where
   took-none f = record {
     spelt = TokensOf.none;
     numbers = NumbersFit.none;
-    variable-tokens = [];
-    label-tokens = [];
-    variable-names = NamesAre.none;
-    label-names = NamesAre.none;
+    variable_tokens = [];
+    label_tokens = [];
+    variable_names = NamesAre.none;
+    label_names = NamesAre.none;
     opens = Opens.none;
     sorted = λ u us vs ls h s. s;
     fine = f;
@@ -85,24 +85,24 @@ module _ {text : List ℕ} where
   took-on {p} {q} {o} {ts} {us} a b = record {
     spelt = tokens-on a.spelt b.spelt;
     numbers = numbers_on a.numbers b.numbers;
-    variable-tokens = a.variable-tokens ++ b.variable-tokens;
-    label-tokens = a.label-tokens ++ b.label-tokens;
-    variable-names = names-on a.variable-names b.variable-names;
-    label-names = names-on a.label-names b.label-names;
+    variable_tokens = a.variable_tokens ++ b.variable_tokens;
+    label_tokens = a.label_tokens ++ b.label_tokens;
+    variable_names = names-on a.variable_names b.variable_names;
+    label_names = names-on a.label_names b.label_names;
     opens = opens-on a.opens b.opens;
     sorted = λ u us' vs ls h s. both u us' vs ls h b.opens (b.sorted u us' vs ls h s);
     fine = b.fine;
   }
     where
-      both : (u : Token) (us' vs ls : List Token) → (u.code ≡ colonCode → ⊥) → {ws : List Token} → Opens ws
-          → Sorted q.last (ws ++ u ∷ us') (b.variable-tokens ++ vs) (b.label-tokens ++ ls)
-          → Sorted p.last ((ts ++ ws) ++ u ∷ us') ((a.variable-tokens ++ b.variable-tokens) ++ vs) ((a.label-tokens ++ b.label-tokens) ++ ls)
+      both : (u : Token) (us' vs ls : List Token) → (u.code ≡ colon_code → ⊥) → {ws : List Token} → Opens ws
+          → Sorted q.last (ws ++ u ∷ us') (b.variable_tokens ++ vs) (b.label_tokens ++ ls)
+          → Sorted p.last ((ts ++ ws) ++ u ∷ us') ((a.variable_tokens ++ b.variable_tokens) ++ vs) ((a.label_tokens ++ b.label_tokens) ++ ls)
       both u us' vs ls h Opens.none s =
-          rw (append-nil ts, append_assoc a.variable-tokens b.variable-tokens vs, append_assoc a.label-tokens b.label-tokens ls)
-          (a.sorted u us' (b.variable-tokens ++ vs) (b.label-tokens ++ ls) h s)
+          rw (append-nil ts, append_assoc a.variable_tokens b.variable_tokens vs, append_assoc a.label_tokens b.label_tokens ls)
+          (a.sorted u us' (b.variable_tokens ++ vs) (b.label_tokens ++ ls) h s)
       both u us' vs ls h (Opens.first {t = t} {ts = rest} g) s =
-          rw (append_assoc ts (t ∷ rest) (u ∷ us'), append_assoc a.variable-tokens b.variable-tokens vs, append_assoc a.label-tokens b.label-tokens ls)
-          (a.sorted t (rest ++ u ∷ us') (b.variable-tokens ++ vs) (b.label-tokens ++ ls) g s)
+          rw (append_assoc ts (t ∷ rest) (u ∷ us'), append_assoc a.variable_tokens b.variable_tokens vs, append_assoc a.label_tokens b.label_tokens ls)
+          (a.sorted t (rest ++ u ∷ us') (b.variable_tokens ++ vs) (b.label_tokens ++ ls) g s)
 
 -- these lists hold the names of this place
 pub record Later (p : Spot) (vs ls : List Named) : Type 0 where
@@ -113,7 +113,7 @@ pub later_same : (p : Spot) → Later p p.variables p.labels
 later_same p = record { variables = extends-same p.variables; labels = extends-same p.labels }
 
 pub before : {text : List ℕ} {p q : Spot} {ts : List Token} {vs ls : List Named} → Took text p q ts → Later q vs ls → Later p vs ls
-before {text} a l = record { variables = extends-on (names-extend text a.variable-names) l.variables; labels = extends-on (names-extend text a.label-names) l.labels }
+before {text} a l = record { variables = extends-on (names-extend text a.variable_names) l.variables; labels = extends-on (names-extend text a.label_names) l.labels }
 
 -- numbers below n
 pub data Below (n : ℕ) : List ℕ → Type 0 where
@@ -122,4 +122,4 @@ pub data Below (n : ℕ) : List ℕ → Type 0 where
 
 -- tokens that are neither names nor numbers nor `:` nor `.`
 abbrev pub ordinary : ℕ → Bool
-ordinary c = leb 10 c && (not (eqb c colonCode) && not (eqb c dotCode))
+ordinary c = leb 10 c && (not (eqb c colon_code) && not (eqb c dot_code))

@@ -13,11 +13,11 @@ use lib.Seq.{length-take-le, take_all}
 use Rattle.words.specs.Answer.{got, stop}
 use Rattle.words.specs.Words.{word_of, copied, cleared}
 use Rattle.tables.proofs.SearchLaws.{and_left, and_right}
-use Rattle.text.specs.Reading.{fault, textAt}
-use Rattle.text.specs.Told.{Carried, at_most, readerOf}
+use Rattle.text.specs.Reading.{fault, text_at}
+use Rattle.text.specs.Told.{Carried, at_most, reader_of}
 use Rattle.text.specs.Written.{since}
 use Rattle.text.specs.Pieces.{Lent, lent, form_of, piece_of}
-use Rattle.text.specs.Whole.{answered, sized, read, toldFrom}
+use Rattle.text.specs.Whole.{answered, sized, read, told_from}
 use Rattle.text.proofs.AcceptedSound.{accepted-sound}
 use Rattle.text.proofs.NamingLaws.{most-small, most-is, length-names}
 use Rattle.text.proofs.ToldNames.{copied-over, told_over, names-told}
@@ -45,28 +45,28 @@ module _ (text : List ℕ) (program origins names : List ℤ) where
   unsized z a = rw (z, a)
 
   module _ (fits : sized program origins names ≡ true) where
-    pub stops : (b : Lent) (s : Carried) {answer : List ℤ} → piece_of false 0 b s ≡ textAt text → (s.number ≡ 0 → ⊥)
+    pub stops : (b : Lent) (s : Carried) {answer : List ℤ} → piece_of false 0 b s ≡ text_at text → (s.number ≡ 0 → ⊥)
         → answer ≡ word_of s.number ∷ word_of s.place ∷ word_of 0 ∷ word_of 0 ∷ []
         → answered program origins names answer 0 ≡ read text program origins names
     unfolding read piece_of
-    stops b s e h a = let z : stop (fault s.number s.place) ≡ textAt text = rw (ne_eqb s.number 0 h) at e in rw (fits, ← z, a)
+    stops b s e h a = let z : stop (fault s.number s.place) ≡ text_at text = rw (ne_eqb s.number 0 h) at e in rw (fits, ← z, a)
 
-    module _ (table places : List ℕ) (row : List ℤ) (s : Carried) (e : piece_of false 0 (lent table row places) s ≡ textAt text) (on : s.number ≡ 0) (long : length row ≡ 4100) where
-      whole : got (form_of false 0 (lent table row places) s, readerOf table s) ≡ textAt text
+    module _ (table places : List ℕ) (row : List ℤ) (s : Carried) (e : piece_of false 0 (lent table row places) s ≡ text_at text) (on : s.number ≡ 0) (long : length row ≡ 4100) where
+      whole : got (form_of false 0 (lent table row places) s, reader_of table s) ≡ text_at text
       unfolding piece_of
       whole = rw (eq-eqb s.number 0 on) at e
 
       few : s.written ≤ 4096
-      unfolding form_of readerOf
-      few = since-short row s (rw long (omega arith)) (accepted-sound text (form_of false 0 (lent table row places) s) (readerOf table s) (sym whole)).limits.short
+      unfolding form_of reader_of
+      few = since-short row s (rw long (omega arith)) (accepted-sound text (form_of false 0 (lent table row places) s) (reader_of table s) (sym whole)).limits.short
 
       pub accepts : {n v l : ℕ} {words told named answer : List ℤ}
           → length places ≡ 4100
           → n ≡ at_most 4096 s.written → v ≡ at_most 64 s.variables → l ≡ at_most 32 s.labels
-          → words ≡ copied row 0 n program → told ≡ toldFrom places 0 n origins → named ≡ toldFrom table 128 (2 * l) (toldFrom table 0 (2 * v) (cleared 0 192 names))
+          → words ≡ copied row 0 n program → told ≡ told_from places 0 n origins → named ≡ told_from table 128 (2 * l) (told_from table 0 (2 * v) (cleared 0 192 names))
           → answer ≡ word_of 0 ∷ word_of (length text) ∷ word_of v ∷ word_of l ∷ []
           → answered words told named answer n ≡ read text program origins names
-      unfolding read sized form_of readerOf
+      unfolding read sized form_of reader_of
       accepts {n = n} {v = v} {l = l} long-places n-is v-is l-is w t m a =
           let n-written : n ≡ s.written = n-is ∙ most-is 4096 s.written few in
           let sizes : eqb (length program) 4096 && eqb (length origins) 4096 ≡ true = and_left (eqb (length program) 4096 && eqb (length origins) 4096) (eqb (length names) 192) fits in

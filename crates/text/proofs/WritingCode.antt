@@ -6,9 +6,9 @@ use Prim.Native.Nat.{ℕ, ◌+◌, ◌≤◌, ◌<◌}
 use borrow.Author.Tests.{lt-ltb, le-ltb}
 use lib.ListN.{length, get_or, set}
 use Rattle.text.specs.Told.{Carried, carried}
-use Rattle.text.specs.Written.{with1, wroteOne, passBy}
+use Rattle.text.specs.Written.{with1, wrote_one, pass_by}
 use Rattle.text.proofs.StateLaws.{of_row}
-use Rattle.text.proofs.RaisedLaws.{grownBy}
+use Rattle.text.proofs.RaisedLaws.{grown_by}
 
 -- the same reader, which owes k words more
 abbrev pub owing_by : ℕ → Carried → Carried
@@ -31,22 +31,22 @@ owing_by k r = record {
 }
 
 module _ (l : List ℕ) (long : length l ≡ 15) where
-  pub row-grown : (x : ℕ) → carried (set l 10 (get_or l 10 0 + x)) ≡ grownBy x (carried l)
+  pub row-grown : (x : ℕ) → carried (set l 10 (get_or l 10 0 + x)) ≡ grown_by x (carried l)
   unfolding carried
-  row-grown x = of_row (λ l. carried (set l 10 (get_or l 10 0 + x)) ≡ grownBy x (carried l)) (λ a b c d e f g h i j k m n o p. refl) l long
+  row-grown x = of_row (λ l. carried (set l 10 (get_or l 10 0 + x)) ≡ grown_by x (carried l)) (λ a b c d e f g h i j k m n o p. refl) l long
 
   pub row-owing : (x : ℕ) → carried (set l 5 (get_or l 5 0 + x)) ≡ owing_by x (carried l)
   unfolding carried
   row-owing x = of_row (λ l. carried (set l 5 (get_or l 5 0 + x)) ≡ owing_by x (carried l)) (λ a b c d e f g h i j k m n o p. refl) l long
 
-  pub row_wrote : get_or l 10 0 < 4100 → carried (set l 10 (get_or l 10 0 + 1)) ≡ wroteOne (carried l)
-  unfolding wroteOne carried
+  pub row_wrote : get_or l 10 0 < 4100 → carried (set l 10 (get_or l 10 0 + 1)) ≡ wrote_one (carried l)
+  unfolding wrote_one carried
   row_wrote h = rw (lt-ltb (get_or l 10 0) 4100 h) (row-grown 1)
 
 -- rows that are full, and others
 module _ (l : List ℕ) where
-  pub wrote_none : 4100 ≤ get_or l 10 0 → carried l ≡ wroteOne (carried l)
-  unfolding wroteOne carried
+  pub wrote_none : 4100 ≤ get_or l 10 0 → carried l ≡ wrote_one (carried l)
+  unfolding wrote_one carried
   wrote_none h = rw (le-ltb (get_or l 10 0) 4100 h)
 
   module _ {A : Type 0} (ws : List A) (w : A) where
@@ -63,5 +63,5 @@ or-false true = refl
 or-false false = refl
 
 -- nothing is passed
-pub passes_none : (r : Carried) → r ≡ passBy false r
+pub passes_none : (r : Carried) → r ≡ pass_by false r
 passes_none r = rw (← or-false r.passed)

@@ -9,9 +9,9 @@ use lib.Dec.{eqb, ltb}
 use lib.ListN.{length, set, take, drop, length-drop}
 use lib.Seq.{take-set-le}
 use Rattle.tables.proofs.SearchLaws.{cases}
-use Rattle.text.specs.Told.{Carried, readerOf, reading_of}
+use Rattle.text.specs.Told.{Carried, reader_of, reading_of}
 use Rattle.text.proofs.ToldLaws.{follows-stopped}
-use Rattle.text.specs.Written.{since, with1, wroteOne, Passes, Owes}
+use Rattle.text.specs.Written.{since, with1, wrote_one, Passes, Owes}
 
 module _ {A : Type 0} where
   take_more : (ws : List A) (n : ℕ) (w : A) → n < length ws → take (suc n) (set ws n w) ≡ take n ws ++ w ∷ []
@@ -26,8 +26,8 @@ module _ {A : Type 0} where
   drop-set (x ∷ ws) (suc from) (suc n) w h = let y : suc n - suc from ≡ n - from = omega arith in rw y (drop-set ws from n w (omega arith))
 
   -- what is written from a word on has it at its end
-  pub since-more : (from : ℕ) (ws : List A) (r : Carried) (w : A) → from ≤ r.written → r.written < 4100 → r.written < length ws → since from (with1 ws r w) (wroteOne r) ≡ since from ws r ++ w ∷ []
-  unfolding since with1 wroteOne
+  pub since-more : (from : ℕ) (ws : List A) (r : Carried) (w : A) → from ≤ r.written → r.written < 4100 → r.written < length ws → since from (with1 ws r w) (wrote_one r) ≡ since from ws r ++ w ∷ []
+  unfolding since with1 wrote_one
   since-more from ws r w a b c =
       let y : r.written + 1 - from ≡ suc (r.written - from) = omega arith in
       rw (lt-ltb r.written 4100 b, drop-set ws from r.written w a, y) (take_more (drop from ws) (r.written - from) w (rw (length-drop) (omega arith)))
@@ -56,7 +56,7 @@ pub passes : (b : Bool) (r : Carried) {s : Carried}
       end = r.end;
     }
     → Passes b r s
-unfolding reading_of readerOf
+unfolding reading_of reader_of
 passes b r e = record { reads = λ names. rw e (cases (eqb r.number 0) (λ f. rw f) (λ f. rw f)); written = rw e; depth = rw e }
 
 pub owes_more : (k : ℕ) (r : Carried) {s : Carried}
@@ -78,7 +78,7 @@ pub owes_more : (k : ℕ) (r : Carried) {s : Carried}
       end = r.end;
     }
     → Owes k r s
-unfolding reading_of readerOf
+unfolding reading_of reader_of
 owes_more k r e = λ a b. record { reads = λ names. rw e (cases (eqb r.number 0) (λ f. rw f) (λ f. rw f)); written = rw e; depth = rw e }
 
 pub owes-much : (k : ℕ) (r : Carried) → 4096 < r.owed → Owes k r r

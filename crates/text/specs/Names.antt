@@ -1,10 +1,10 @@
 -- What is claimed of the words and the names of an accepted text. Assumes nothing: these are statements.
 use Rattle.std.specs.Prelude.{ℕ, ◌-◌, ◌<◌, ◌≡◌, List, [], ◌∷◌, ◌++◌, length, get_or}
 use Rattle.words.specs.Answer.{got}
-use Rattle.program.specs.Reading.{readProgram}
+use Rattle.program.specs.Reading.{read_program}
 use Rattle.tokens.specs.declared.Token.{Token}
 use Rattle.tokens.specs.Rules.{Shared}
-use Rattle.text.specs.Reading.{Named, Reader, Form, number_in, textAt}
+use Rattle.text.specs.Reading.{Named, Reader, Form, number_in, text_at}
 use Rattle.text.specs.Claims.{Reads}
 
 -- a token as a name, and the name of number i
@@ -43,12 +43,12 @@ pub record Numbered (text : List ℕ) (ts : List Token) (ns : List Named) : Type
 -- the names of an accepted text are numbered so
 pub record Names (text : List ℕ) (f : Form) (r : Reader) : Type 0 where
   pub reads : Reads text f.words f.origins r.variables r.labels
-  pub variables : Numbered text reads.variable-tokens r.variables
-  pub labels : Numbered text reads.label-tokens r.labels
+  pub variables : Numbered text reads.variable_tokens r.variables
+  pub labels : Numbered text reads.label_tokens r.labels
 
 abbrev pub NumberedByAppearance : Type 0
-NumberedByAppearance = (text : List ℕ) (f : Form) (r : Reader) → textAt text ≡ got (f, r) → Names text f r
+NumberedByAppearance = (text : List ℕ) (f : Form) (r : Reader) → text_at text ≡ got (f, r) → Names text f r
 
 -- and its words are a program
 abbrev pub AlwaysReads : Type 0
-AlwaysReads = (text : List ℕ) (f : Form) (r : Reader) → textAt text ≡ got (f, r) → readProgram f.words ≡ got tt
+AlwaysReads = (text : List ℕ) (f : Form) (r : Reader) → text_at text ≡ got (f, r) → read_program f.words ≡ got tt

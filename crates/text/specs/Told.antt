@@ -1,12 +1,12 @@
 -- How the code's reader and its table of names are read as the definitions' reader. Assumes nothing: these are definitions.
 use Rattle.std.specs.Prelude.{◌≡◌, ℕ, zero, suc, ◌+◌, ◌-◌, ◌*◌, ◌≤◌, Bool, false, not, cond, ◌&&◌, List, [], ◌∷◌, eqb, ltb, leb, length, get_or, set}
 use Rattle.words.specs.Answer.{Answer, got, stop, ◌>>=◌}
-use Rattle.program.specs.Forms.{mostWords}
+use Rattle.program.specs.Forms.{most_words}
 use Rattle.tokens.specs.declared.Token.{Token}
-use Rattle.tokens.specs.Bytes.{sameIn}
-use Rattle.tokens.specs.Codes.{tooLong}
-use Rattle.tokens.specs.Tokens.{tokenFrom}
-use Rattle.text.specs.Reading.{Fault, fault, Named, Reader, dueAfter, peek}
+use Rattle.tokens.specs.Bytes.{same_in}
+use Rattle.tokens.specs.Codes.{too_long}
+use Rattle.tokens.specs.Tokens.{token_from}
+use Rattle.text.specs.Reading.{Fault, fault, Named, Reader, due_after, peek}
 
 -- what the code carries: number and place of a refusal (0 while it goes on), how far the text is read, the number of the name or how many brackets were read last, how many words are
 -- written, the depth of the expression read last, and the token to be judged
@@ -58,52 +58,52 @@ abbrev pub name_at : List ℕ → ℕ → Named
 name_at names i = record { place = get_or names i 0; length = get_or names (suc i) 0 }
 
 -- whether a token is a name that was met before
-unfoldable pub isName : List ℕ → Named → Token → Bool
-isName text n t = eqb n.length (t.end - t.place) && sameIn text n.place t.place n.length
+unfoldable pub is_name : List ℕ → Named → Token → Bool
+is_name text n t = eqb n.length (t.end - t.place) && same_in text n.place t.place n.length
 
 -- the first n names from a word on
-unfoldable pub namesFrom : List ℕ → ℕ → ℕ → List Named
-namesFrom names i zero = []
-namesFrom names i (suc n) = name_at names i ∷ namesFrom names (suc (suc i)) n
+unfoldable pub names_from : List ℕ → ℕ → ℕ → List Named
+names_from names i zero = []
+names_from names i (suc n) = name_at names i ∷ names_from names (suc (suc i)) n
 
 -- the table with a token's name behind the first `count`, unless it has a number below
-unfoldable pub tableWith : List ℕ → ℕ → ℕ → ℕ → Token → List ℕ
-tableWith names from count number t = cond (ltb number count) names (set (set names (from + 2 * count) t.place) (suc (from + 2 * count)) (t.end - t.place))
+unfoldable pub table_with : List ℕ → ℕ → ℕ → ℕ → Token → List ℕ
+table_with names from count number t = cond (ltb number count) names (set (set names (from + 2 * count) t.place) (suc (from + 2 * count)) (t.end - t.place))
 
 -- how many names there are with it
-unfoldable pub countWith : ℕ → ℕ → ℕ
-countWith count number = cond (ltb number count) count (suc count)
+unfoldable pub count_with : ℕ → ℕ → ℕ
+count_with count number = cond (ltb number count) count (suc count)
 
 unfoldable pub at_most : ℕ → ℕ → ℕ
 at_most most n = cond (ltb most n) most n
 
 -- ---- the reader
 
-unfoldable pub readerOf : List ℕ → Carried → Reader
-readerOf names r = record {
+unfoldable pub reader_of : List ℕ → Carried → Reader
+reader_of names r = record {
   at = r.at;
   last = r.last;
   certain = r.certain;
   owed = r.owed;
   passed = r.passed;
-  variables = namesFrom names 0 (at_most 64 r.variables);
-  labels = namesFrom names 128 (at_most 32 r.labels);
+  variables = names_from names 0 (at_most 64 r.variables);
+  labels = names_from names 128 (at_most 32 r.labels);
 }
 
 -- what follows, or the refusal that the reader carries
-abbrev pub unlessStopped : {A : Type 0} → Carried → A → Answer Fault A
-unlessStopped r a = cond (eqb r.number 0) (got a) (stop (fault r.number r.place))
+abbrev pub unless_stopped : {A : Type 0} → Carried → A → Answer Fault A
+unless_stopped r a = cond (eqb r.number 0) (got a) (stop (fault r.number r.place))
 
 unfoldable pub reading_of : List ℕ → Carried → Answer Fault Reader
-reading_of names r = unlessStopped r (readerOf names r)
+reading_of names r = unless_stopped r (reader_of names r)
 
 -- with the number of the name read last
-unfoldable pub numberedOf : List ℕ → Carried → Answer Fault (ℕ × Reader)
-numberedOf names r = unlessStopped r (r.named, readerOf names r)
+unfoldable pub numbered_of : List ℕ → Carried → Answer Fault (ℕ × Reader)
+numbered_of names r = unless_stopped r (r.named, reader_of names r)
 
 -- the same reader, stopped
-abbrev pub refusedAt : ℕ → ℕ → Carried → Carried
-refusedAt n p r = record {
+abbrev pub refused_at : ℕ → ℕ → Carried → Carried
+refused_at n p r = record {
   number = n;
   place = p;
   at = r.at;
@@ -121,12 +121,12 @@ refusedAt n p r = record {
   end = r.end;
 }
 
-unfoldable pub refusedBy : Token → Carried → Carried
-refusedBy t r = cond (eqb t.code tooLong) (refusedAt 22 t.place r) (refusedAt 20 t.place r)
+unfoldable pub refused_by : Token → Carried → Carried
+refused_by t r = cond (eqb t.code too_long) (refused_at 22 t.place r) (refused_at 20 t.place r)
 
 -- "Words are counted as soon as they are certain": there is room for k more, with those that are owed
-unfoldable pub roomWith : ℕ → Carried → Bool
-roomWith k r = not r.passed && leb (r.certain + r.owed + k) mostWords
+unfoldable pub room_with : ℕ → Carried → Bool
+room_with k r = not r.passed && leb (r.certain + r.owed + k) most_words
 
 -- the same reader behind a token, with k words more
 abbrev pub behind : Token → ℕ → Carried → Carried
@@ -148,12 +148,12 @@ behind t k r = record {
   end = r.end;
 }
 
-unfoldable pub takenBy : Token → ℕ → Carried → Carried
-takenBy t k r = cond (roomWith k r) (behind t k r) (refusedAt 22 t.place r)
+unfoldable pub taken_by : Token → ℕ → Carried → Carried
+taken_by t k r = cond (room_with k r) (behind t k r) (refused_at 22 t.place r)
 
 -- the same reader with so many variables or labels, of which the one of number n was read last
-abbrev pub namedVariable : ℕ → ℕ → Carried → Carried
-namedVariable count n r = record {
+abbrev pub named_variable : ℕ → ℕ → Carried → Carried
+named_variable count n r = record {
   number = r.number;
   place = r.place;
   at = r.at;
@@ -171,8 +171,8 @@ namedVariable count n r = record {
   end = r.end;
 }
 
-abbrev pub namedLabel : ℕ → ℕ → Carried → Carried
-namedLabel count n r = record {
+abbrev pub named_label : ℕ → ℕ → Carried → Carried
+named_label count n r = record {
   number = r.number;
   place = r.place;
   at = r.at;
@@ -191,8 +191,8 @@ namedLabel count n r = record {
 }
 
 -- the same reader, with the token that stands there
-abbrev pub lookedBy : List ℕ → Carried → Carried
-lookedBy text r = record {
+abbrev pub looked_by : List ℕ → Carried → Carried
+looked_by text r = record {
   number = r.number;
   place = r.place;
   at = r.at;
@@ -205,20 +205,20 @@ lookedBy text r = record {
   named = r.named;
   written = r.written;
   depth = r.depth;
-  code = (tokenFrom (dueAfter r.last) text r.at).code;
-  start = (tokenFrom (dueAfter r.last) text r.at).place;
-  end = (tokenFrom (dueAfter r.last) text r.at).end;
+  code = (token_from (due_after r.last) text r.at).code;
+  start = (token_from (due_after r.last) text r.at).place;
+  end = (token_from (due_after r.last) text r.at).end;
 }
 
 -- the token is taken, and the next one looked at
-unfoldable pub tookBy : List ℕ → ℕ → Carried → Carried
-tookBy text k r = cond (roomWith k r) (lookedBy text (behind (next_of r) k r)) (refusedAt 22 r.start r)
+unfoldable pub took_by : List ℕ → ℕ → Carried → Carried
+took_by text k r = cond (room_with k r) (looked_by text (behind (next_of r) k r)) (refused_at 22 r.start r)
 
 -- ---- what the functions promise
 
 -- the token to be judged, whatever the names
 abbrev pub Peeks : List ℕ → Carried → Token → Type 0
-Peeks text r t = (names : List ℕ) → t ≡ peek text (readerOf names r)
+Peeks text r t = (names : List ℕ) → t ≡ peek text (reader_of names r)
 
 -- the reader has it
 abbrev pub Ahead : List ℕ → Carried → Type 0
@@ -232,6 +232,6 @@ pub record Follows (r : Carried) (step : Reader → Answer Fault Reader) (s : Ca
 
 -- the same of a step that reads a name, with the table of names before and after it, which has its 192 words
 pub record Numbers (before : List ℕ) (r : Carried) (step : Reader → Answer Fault (ℕ × Reader)) (after : List ℕ) (s : Carried) : Type 0 where
-  pub reads : 192 ≤ length before → numberedOf after s ≡ (reading_of before r >>= step)
+  pub reads : 192 ≤ length before → numbered_of after s ≡ (reading_of before r >>= step)
   pub written : s.written ≡ r.written
   pub depth : s.depth ≡ r.depth

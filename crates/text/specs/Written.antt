@@ -1,7 +1,7 @@
 -- What is written: words, and the places that they come from, one after the other. Assumes nothing: these are definitions.
 use Rattle.std.specs.Prelude.{◌≡◌, ℕ, zero, suc, ◌+◌, ◌-◌, ◌≤◌, Bool, cond, ◌||◌, List, [], ◌∷◌, ltb, set, get_or, take, drop}
 use Rattle.words.specs.Answer.{got}
-use Rattle.program.specs.Forms.{mostWords}
+use Rattle.program.specs.Forms.{most_words}
 use Rattle.text.specs.Reading.{passing, owing}
 use Rattle.text.specs.Told.{Carried, Follows}
 
@@ -17,8 +17,8 @@ since from ws r = take (r.written - from) (drop from ws)
 unfoldable pub with1 : {A : Type 0} → List A → Carried → A → List A
 with1 ws r w = cond (ltb r.written row) (set ws r.written w) ws
 
-abbrev pub oneMore : Carried → Carried
-oneMore r = record {
+abbrev pub one_more : Carried → Carried
+one_more r = record {
   number = r.number;
   place = r.place;
   at = r.at;
@@ -36,12 +36,12 @@ oneMore r = record {
   end = r.end;
 }
 
-unfoldable pub wroteOne : Carried → Carried
-wroteOne r = cond (ltb r.written row) (oneMore r) r
+unfoldable pub wrote_one : Carried → Carried
+wrote_one r = cond (ltb r.written row) (one_more r) r
 
 -- the same reader, whose next token passes a limit where b says so, exactly
-abbrev pub passBy : Bool → Carried → Carried
-passBy b r = record {
+abbrev pub pass_by : Bool → Carried → Carried
+pass_by b r = record {
   number = r.number;
   place = r.place;
   at = r.at;
@@ -64,7 +64,7 @@ abbrev pub Passes : Bool → Carried → Carried → Type 0
 Passes b r s = Follows r (λ q. got (passing b q)) s
 
 abbrev pub Owes : ℕ → Carried → Carried → Type 0
-Owes k r s = (r.number ≡ 0 → r.owed ≤ mostWords) → k ≤ mostWords → Follows r (λ q. got (owing k q)) s
+Owes k r s = (r.number ≡ 0 → r.owed ≤ most_words) → k ≤ most_words → Follows r (λ q. got (owing k q)) s
 
 -- n words from a word on, k further up, the last of them first
 unfoldable pub raised : {A : Type 0} → A → ℕ → ℕ → ℕ → List A → List A
@@ -77,8 +77,8 @@ filled from [] ws = ws
 filled from (w ∷ gap) ws = filled (suc from) gap (set ws from w)
 
 -- the same reader, whose expression is d deep; and with n as the number that was read last
-abbrev pub deepBy : ℕ → Carried → Carried
-deepBy d r = record {
+abbrev pub deep_by : ℕ → Carried → Carried
+deep_by d r = record {
   number = r.number;
   place = r.place;
   at = r.at;
@@ -96,8 +96,8 @@ deepBy d r = record {
   end = r.end;
 }
 
-abbrev pub numberedBy : ℕ → Carried → Carried
-numberedBy n r = record {
+abbrev pub numbered_by : ℕ → Carried → Carried
+numbered_by n r = record {
   number = r.number;
   place = r.place;
   at = r.at;

@@ -1,8 +1,8 @@
 // Assignments, new and its fields.
 ghost use Rattle.std.specs.Prelude.{false, ◌<◌};
-ghost use Rattle.text.specs.Reading.{assignment as assignmentBy};
+ghost use Rattle.text.specs.Reading.{assignment as assignment_by};
 ghost use Rattle.text.specs.Told.{carried, Ahead};
-ghost use Rattle.text.specs.Pieces.{lent, Piece, Onward, behindFirst, fieldsBy, fieldsAtBy};
+ghost use Rattle.text.specs.Pieces.{lent, Piece, Onward, behind_first, fields_by, fields_at_by};
 
 use super::expressions::expression;
 use super::naming::put;
@@ -21,7 +21,7 @@ fn fields(
     from: usize,
     p: usize,
 )
-    ensures onward { Ahead text.now (carried s.old) → from < (carried s.old).written → Onward false 0 0 from (lent names.old words.old origins.old) (carried s.old) (λ f q. fieldsBy text.now p (behindFirst f) q) (lent names.new words.new origins.new) (carried s.new) }
+    ensures onward { Ahead text.now (carried s.old) → from < (carried s.old).written → Onward false 0 0 from (lent names.old words.old origins.old) (carried s.old) (λ f q. fields_by text.now p (behind_first f) q) (lent names.new words.new origins.new) (carried s.new) }
     ensures ahead { Ahead text.now (carried s.old) → Ahead text.now (carried s.new) }
 {
     let mut seen: [usize; 8] = [0; 8];
@@ -58,7 +58,7 @@ fn fields_at(
     s: &mut [usize; 15],
     from: usize,
 )
-    ensures onward { Ahead text.now (carried s.old) → from < (carried s.old).written → Onward false 0 0 from (lent names.old words.old origins.old) (carried s.old) (λ f q. fieldsAtBy text.now (behindFirst f) q) (lent names.new words.new origins.new) (carried s.new) }
+    ensures onward { Ahead text.now (carried s.old) → from < (carried s.old).written → Onward false 0 0 from (lent names.old words.old origins.old) (carried s.old) (λ f q. fields_at_by text.now (behind_first f) q) (lent names.new words.new origins.new) (carried s.new) }
     ensures ahead { Ahead text.now (carried s.old) → Ahead text.now (carried s.new) }
 {
     let p = s[START];
@@ -79,7 +79,7 @@ pub(crate) fn assignment(
     origins: &mut [usize],
     s: &mut [usize; 15],
 )
-    ensures piece { Ahead text.now (carried s.old) → Piece 0 0 (lent names.old words.old origins.old) (carried s.old) (λ q. assignmentBy text.now q) (lent names.new words.new origins.new) (carried s.new) }
+    ensures piece { Ahead text.now (carried s.old) → Piece 0 0 (lent names.old words.old origins.old) (carried s.old) (λ q. assignment_by text.now q) (lent names.new words.new origins.new) (carried s.new) }
     ensures ahead { Ahead text.now (carried s.old) → Ahead text.now (carried s.new) }
 {
     let from = s[WRITTEN];

@@ -1,9 +1,9 @@
 // Statements and blocks.
 ghost use Rattle.std.specs.Prelude.{◌≡◌, false, ◌<◌};
-ghost use Rattle.tokens.specs.Codes.{ifCode, whileCode};
-ghost use Rattle.text.specs.Reading.{statementAt, block_at};
+ghost use Rattle.tokens.specs.Codes.{if_code, while_code};
+ghost use Rattle.text.specs.Reading.{statement_at, block_at};
 ghost use Rattle.text.specs.Told.{carried, Ahead};
-ghost use Rattle.text.specs.Pieces.{lent, Piece, Onward, behindFirst, next_code, row_by};
+ghost use Rattle.text.specs.Pieces.{lent, Piece, Onward, behind_first, next_code, row_by};
 
 use super::assignments::assignment;
 use super::constraints::stated;
@@ -32,7 +32,7 @@ fn conditional(
     s: &mut [usize; 15],
     d: usize,
 )
-    ensures piece { Ahead text.now (carried s.old) → next_code text.now (carried s.old) ≡ ifCode → Piece 0 3 (lent names.old words.old origins.old) (carried s.old) (λ q. statementAt text.now (λ v. block_at text.now d v) q) (lent names.new words.new origins.new) (carried s.new) }
+    ensures piece { Ahead text.now (carried s.old) → next_code text.now (carried s.old) ≡ if_code → Piece 0 3 (lent names.old words.old origins.old) (carried s.old) (λ q. statement_at text.now (λ v. block_at text.now d v) q) (lent names.new words.new origins.new) (carried s.new) }
     ensures ahead { Ahead text.now (carried s.old) → Ahead text.now (carried s.new) }
 {
     let p = s[START];
@@ -55,7 +55,7 @@ fn repeated(
     s: &mut [usize; 15],
     d: usize,
 )
-    ensures piece { Ahead text.now (carried s.old) → next_code text.now (carried s.old) ≡ whileCode → Piece 0 3 (lent names.old words.old origins.old) (carried s.old) (λ q. statementAt text.now (λ v. block_at text.now d v) q) (lent names.new words.new origins.new) (carried s.new) }
+    ensures piece { Ahead text.now (carried s.old) → next_code text.now (carried s.old) ≡ while_code → Piece 0 3 (lent names.old words.old origins.old) (carried s.old) (λ q. statement_at text.now (λ v. block_at text.now d v) q) (lent names.new words.new origins.new) (carried s.new) }
     ensures ahead { Ahead text.now (carried s.old) → Ahead text.now (carried s.new) }
 {
     let p = s[START];
@@ -76,7 +76,7 @@ fn statement(
     s: &mut [usize; 15],
     d: usize,
 )
-    ensures piece { Ahead text.now (carried s.old) → Piece 0 3 (lent names.old words.old origins.old) (carried s.old) (λ q. statementAt text.now (λ v. block_at text.now d v) q) (lent names.new words.new origins.new) (carried s.new) }
+    ensures piece { Ahead text.now (carried s.old) → Piece 0 3 (lent names.old words.old origins.old) (carried s.old) (λ q. statement_at text.now (λ v. block_at text.now d v) q) (lent names.new words.new origins.new) (carried s.new) }
     ensures ahead { Ahead text.now (carried s.old) → Ahead text.now (carried s.new) }
 {
     if s[NUMBER] != 0 {
@@ -122,7 +122,7 @@ pub(crate) fn statements(
     p: usize,
     d: usize,
 )
-    ensures onward { Ahead text.now (carried s.old) → ((carried s.old).number ≡ 0 → from < (carried s.old).written) → Onward false 0 3 from (lent names.old words.old origins.old) (carried s.old) (λ f q. row_by text.now d p (behindFirst f) q) (lent names.new words.new origins.new) (carried s.new) }
+    ensures onward { Ahead text.now (carried s.old) → ((carried s.old).number ≡ 0 → from < (carried s.old).written) → Onward false 0 3 from (lent names.old words.old origins.old) (carried s.old) (λ f q. row_by text.now d p (behind_first f) q) (lent names.new words.new origins.new) (carried s.new) }
     ensures ahead { Ahead text.now (carried s.old) → Ahead text.now (carried s.new) }
 {
     let mut n: usize = 0;

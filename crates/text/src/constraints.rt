@@ -1,9 +1,9 @@
 // Parts, and what follows always and once.
 ghost use Rattle.std.specs.Prelude.{◌≡◌, false, List, ℕ, ◌≤◌, ◌<◌};
 ghost use Rattle.tokens.specs.declared.Token.{Token};
-ghost use Rattle.text.specs.Reading.{priority as priorityBy, part_at, constraintOn, statedOn};
+ghost use Rattle.text.specs.Reading.{priority as priority_by, part_at, constraint_on, stated_on};
 ghost use Rattle.text.specs.Told.{carried, Ahead};
-ghost use Rattle.text.specs.Pieces.{lent, Piece, Onward, behindFirst, statedFrom};
+ghost use Rattle.text.specs.Pieces.{lent, Piece, Onward, behind_first, stated_from};
 
 use super::expressions::{expression, onwards};
 use super::paths::path;
@@ -13,7 +13,7 @@ use crate::{CODE, NUMBER, PATH, REQUIRED, START, WRITTEN};
 
 // The priority that a token of this code writes, 0 for none.
 fn priority(code: usize) -> usize
-    ensures { (text : List ℕ) (t : Token) → t.code ≡ code → result ≡ priorityBy text t }
+    ensures { (text : List ℕ) (t : Token) → t.code ≡ code → result ≡ priority_by text t }
 {
     if code < tokens::WEAK {
         return 0;
@@ -58,7 +58,7 @@ fn constraint_on(
     from: usize,
     p: usize,
 )
-    ensures onward { Ahead text.now (carried s.old) → (most : ℕ) → most ≤ 3 → ((carried s.old).number ≡ 0 → from < (carried s.old).written) → Onward false most most from (lent names.old words.old origins.old) (carried s.old) (λ f q. constraintOn text.now p (behindFirst f) q) (lent names.new words.new origins.new) (carried s.new) }
+    ensures onward { Ahead text.now (carried s.old) → (most : ℕ) → most ≤ 3 → ((carried s.old).number ≡ 0 → from < (carried s.old).written) → Onward false most most from (lent names.old words.old origins.old) (carried s.old) (λ f q. constraint_on text.now p (behind_first f) q) (lent names.new words.new origins.new) (carried s.new) }
     ensures ahead { Ahead text.now (carried s.old) → Ahead text.now (carried s.new) }
 {
     let mut m: usize = 1;
@@ -91,7 +91,7 @@ fn stated_on(
 )
     requires from_bound { from < 4100 }
     requires verb_bound { verb < 4096 }
-    ensures onward { Ahead text.now (carried s.old) → from < (carried s.old).written → Onward false 0 3 from (lent names.old words.old origins.old) (carried s.old) (λ f q. statedOn text.now verb p at (behindFirst f) q) (lent names.new words.new origins.new) (carried s.new) }
+    ensures onward { Ahead text.now (carried s.old) → from < (carried s.old).written → Onward false 0 3 from (lent names.old words.old origins.old) (carried s.old) (λ f q. stated_on text.now verb p at (behind_first f) q) (lent names.new words.new origins.new) (carried s.new) }
     ensures ahead { Ahead text.now (carried s.old) → Ahead text.now (carried s.new) }
 {
     if s[NUMBER] != 0 {
@@ -133,7 +133,7 @@ pub(crate) fn stated(
     verb: usize,
 )
     requires { verb < 4096 }
-    ensures piece { Ahead text.now (carried s.old) → Piece 0 3 (lent names.old words.old origins.old) (carried s.old) (λ q. statedFrom text.now verb q) (lent names.new words.new origins.new) (carried s.new) }
+    ensures piece { Ahead text.now (carried s.old) → Piece 0 3 (lent names.old words.old origins.old) (carried s.old) (λ q. stated_from text.now verb q) (lent names.new words.new origins.new) (carried s.new) }
     ensures ahead { Ahead text.now (carried s.old) → Ahead text.now (carried s.new) }
 {
     let from = s[WRITTEN];

@@ -1,8 +1,8 @@
 // Operands, brackets and operators.
 ghost use Rattle.std.specs.Prelude.{◌≡◌, true, false, cond, ◌&&◌, List, ℕ, suc, ◌-◌, ◌≤◌, ◌<◌, ltb, leb};
-ghost use Rattle.text.specs.Reading.{levelOf, isOperator, enough, peek as peekBy, literal as literalBy, literalAt, pathOrSame, operand as operandBy, onwards as onwardsBy, climb as climbBy, expression as expressionBy};
+ghost use Rattle.text.specs.Reading.{level_of, is_operator, enough, peek as peek_by, literal as literal_by, literal_at, path_or_same, operand as operand_by, onwards as onwards_by, climb as climb_by, expression as expression_by};
 ghost use Rattle.text.specs.Told.{carried, next_of, Ahead};
-ghost use Rattle.text.specs.Pieces.{lent, Piece, Expression, Onward, Opens, numberBy, constant_by, joinedBy};
+ghost use Rattle.text.specs.Pieces.{lent, Piece, Expression, Onward, Opens, number_by, constant_by, joined_by};
 
 use super::levels::level_of;
 use super::paths::path;
@@ -25,7 +25,7 @@ const SAME: i32 = 26;
 
 // A number's two words.
 fn number(text: &[u8], words: &mut [i32], origins: &mut [usize], s: &mut [usize; 15])
-    ensures piece { Ahead text.now (carried s.old) → (names : List ℕ) → Piece 3 0 (lent names words.old origins.old) (carried s.old) (λ q. numberBy text.now q) (lent names words.new origins.new) (carried s.new) }
+    ensures piece { Ahead text.now (carried s.old) → (names : List ℕ) → Piece 3 0 (lent names words.old origins.old) (carried s.old) (λ q. number_by text.now q) (lent names words.new origins.new) (carried s.new) }
     ensures ahead { Ahead text.now (carried s.old) → Ahead text.now (carried s.new) }
 {
     let p = s[START];
@@ -60,7 +60,7 @@ pub(crate) fn constant(
 
 // nil, a truth value or a number.
 fn literal(text: &[u8], words: &mut [i32], origins: &mut [usize], s: &mut [usize; 15])
-    ensures piece { Ahead text.now (carried s.old) → (names : List ℕ) → Piece 3 0 (lent names words.old origins.old) (carried s.old) (λ q. literalAt text.now q (literalBy text.now (peekBy text.now q))) (lent names words.new origins.new) (carried s.new) }
+    ensures piece { Ahead text.now (carried s.old) → (names : List ℕ) → Piece 3 0 (lent names words.old origins.old) (carried s.old) (λ q. literal_at text.now q (literal_by text.now (peek_by text.now q))) (lent names words.new origins.new) (carried s.new) }
     ensures ahead { Ahead text.now (carried s.old) → Ahead text.now (carried s.new) }
 {
     if s[NUMBER] != 0 {
@@ -95,7 +95,7 @@ fn path_or_same(
     s: &mut [usize; 15],
     in_c: bool,
 )
-    ensures piece { Ahead text.now (carried s.old) → Piece 2 0 (lent names.old words.old origins.old) (carried s.old) (λ q. pathOrSame text.now in_c q) (lent names.new words.new origins.new) (carried s.new) }
+    ensures piece { Ahead text.now (carried s.old) → Piece 2 0 (lent names.old words.old origins.old) (carried s.old) (λ q. path_or_same text.now in_c q) (lent names.new words.new origins.new) (carried s.new) }
     ensures ahead { Ahead text.now (carried s.old) → Ahead text.now (carried s.new) }
 {
     let from = s[WRITTEN];
@@ -126,7 +126,7 @@ fn operand(
     s: &mut [usize; 15],
     in_c: bool,
 )
-    ensures piece { Ahead text.now (carried s.old) → Piece 2 0 (lent names.old words.old origins.old) (carried s.old) (λ q. operandBy text.now in_c q) (lent names.new words.new origins.new) (carried s.new) }
+    ensures piece { Ahead text.now (carried s.old) → Piece 2 0 (lent names.old words.old origins.old) (carried s.old) (λ q. operand_by text.now in_c q) (lent names.new words.new origins.new) (carried s.new) }
     ensures ahead { Ahead text.now (carried s.old) → Ahead text.now (carried s.new) }
 {
     if s[NUMBER] != 0 {
@@ -161,7 +161,7 @@ fn opened(text: &[u8], s: &mut [usize; 15])
 
 // The token is an operator that binds as tightly as low or more; inside brackets every one does.
 fn joins(code: usize, low: usize, brackets: usize) -> bool
-    ensures { result ≡ isOperator code && leb (cond (ltb 0 brackets) 1 low) (levelOf (code - 40)) }
+    ensures { result ≡ is_operator code && leb (cond (ltb 0 brackets) 1 low) (level_of (code - 40)) }
 {
     if code < tokens::PLUS {
         return false;
@@ -204,7 +204,7 @@ fn joined(
     in_c: bool,
 )
     requires { left < 4096 }
-    ensures onward { Ahead text.now (carried s.old) → isOperator (carried s.old).code ≡ true → (most : ℕ) → most ≤ 3 → Onward true most most from (lent names.old words.old origins.old) (carried s.old) (λ f q. joinedBy text.now left in_c (next_of (carried s.old)) f q) (lent names.new words.new origins.new) (carried s.new) }
+    ensures onward { Ahead text.now (carried s.old) → is_operator (carried s.old).code ≡ true → (most : ℕ) → most ≤ 3 → Onward true most most from (lent names.old words.old origins.old) (carried s.old) (λ f q. joined_by text.now left in_c (next_of (carried s.old)) f q) (lent names.new words.new origins.new) (carried s.new) }
     ensures s_bound { Ahead text.now (carried s.old) → (carried s.new).number ≡ 0 → (carried s.new).depth ≤ suc left }
     ensures ahead { Ahead text.now (carried s.old) → Ahead text.now (carried s.new) }
 {
@@ -241,7 +241,7 @@ pub(crate) fn onwards(
     brackets: usize,
 )
     requires { left < 4096 }
-    ensures onward { Ahead text.now (carried s.old) → (most : ℕ) → most ≤ 3 → Onward true most most from (lent names.old words.old origins.old) (carried s.old) (λ f q. onwardsBy text.now (λ l v. climbBy text.now left in_c l v) (enough text.now) left low brackets f q) (lent names.new words.new origins.new) (carried s.new) }
+    ensures onward { Ahead text.now (carried s.old) → (most : ℕ) → most ≤ 3 → Onward true most most from (lent names.old words.old origins.old) (carried s.old) (λ f q. onwards_by text.now (λ l v. climb_by text.now left in_c l v) (enough text.now) left low brackets f q) (lent names.new words.new origins.new) (carried s.new) }
     ensures s_bound { Ahead text.now (carried s.old) → ((carried s.old).number ≡ 0 → (carried s.old).depth ≤ suc left) → (carried s.new).number ≡ 0 → (carried s.new).depth ≤ suc left }
     ensures ahead { Ahead text.now (carried s.old) → Ahead text.now (carried s.new) }
 {
@@ -285,7 +285,7 @@ fn climb(
     low: usize,
 )
     requires { left < 4096 }
-    ensures expression { Ahead text.now (carried s.old) → Expression 2 0 (lent names.old words.old origins.old) (carried s.old) (λ q. climbBy text.now left in_c low q) (lent names.new words.new origins.new) (carried s.new) }
+    ensures expression { Ahead text.now (carried s.old) → Expression 2 0 (lent names.old words.old origins.old) (carried s.old) (λ q. climb_by text.now left in_c low q) (lent names.new words.new origins.new) (carried s.new) }
     ensures s_bound { Ahead text.now (carried s.old) → (carried s.new).number ≡ 0 → (carried s.new).depth ≤ left }
     ensures ahead { Ahead text.now (carried s.old) → Ahead text.now (carried s.new) }
 {
@@ -324,7 +324,7 @@ pub(crate) fn expression(
     s: &mut [usize; 15],
     in_c: bool,
 )
-    ensures expression { Ahead text.now (carried s.old) → Expression 2 0 (lent names.old words.old origins.old) (carried s.old) (λ q. expressionBy text.now in_c q) (lent names.new words.new origins.new) (carried s.new) }
+    ensures expression { Ahead text.now (carried s.old) → Expression 2 0 (lent names.old words.old origins.old) (carried s.old) (λ q. expression_by text.now in_c q) (lent names.new words.new origins.new) (carried s.new) }
     ensures ahead { Ahead text.now (carried s.old) → Ahead text.now (carried s.new) }
 {
     climb(

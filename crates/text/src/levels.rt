@@ -1,10 +1,10 @@
 // How tightly an operator binds.
 ghost use Rattle.std.specs.Prelude.{◌≡◌};
-ghost use Rattle.text.specs.Reading.{levelOf};
+ghost use Rattle.text.specs.Reading.{level_of};
 
 // How tightly an operator binds, by its number in document 01.
 pub fn level_of(k: usize) -> usize
-    ensures { result ≡ levelOf k }
+    ensures { result ≡ level_of k }
 {
     if k == 3 {
         return 5;

@@ -2,7 +2,7 @@
 ghost use Rattle.std.specs.Prelude.{◌≡◌, ◌&&◌, ◌<◌, ltb, get_or, set};
 ghost use Rattle.program.specs.Reading.{among};
 ghost use Rattle.text.specs.Reading.{number_in};
-ghost use Rattle.text.specs.Told.{name_at, isName, namesFrom, at_most, tableWith, countWith};
+ghost use Rattle.text.specs.Told.{name_at, is_name, names_from, at_most, table_with, count_with};
 
 use tokens::Token;
 
@@ -35,7 +35,7 @@ pub(crate) fn at_most(most: usize, n: usize) -> usize
 // Whether the token is the name whose place and length begin at the word i.
 fn is_name(text: &[u8], names: &[usize], i: usize, t: Token) -> bool
     requires { i < 32768 }
-    ensures { result ≡ isName text.now (name_at names.now i) t }
+    ensures { result ≡ is_name text.now (name_at names.now i) t }
 {
     let length = word(names, i + 1);
     if length != words::less(t.end, t.place) {
@@ -48,7 +48,7 @@ fn is_name(text: &[u8], names: &[usize], i: usize, t: Token) -> bool
 pub(crate) fn number_in(text: &[u8], names: &[usize], from: usize, count: usize, t: Token) -> usize
     requires from_bound { from < 4096 }
     requires count_bound { count < 4096 }
-    ensures { result ≡ number_in text.now (namesFrom names.now from count) t }
+    ensures { result ≡ number_in text.now (names_from names.now from count) t }
 {
     let mut i: usize = 0;
     while i < count {
@@ -64,7 +64,7 @@ pub(crate) fn number_in(text: &[u8], names: &[usize], from: usize, count: usize,
 pub(crate) fn with_name(names: &mut [usize], from: usize, count: usize, number: usize, t: Token)
     requires from_bound { from < 4096 }
     requires count_bound { count < 4096 }
-    ensures { names.new ≡ tableWith names.old from count number t }
+    ensures { names.new ≡ table_with names.old from count number t }
 {
     if number < count {
         return;
@@ -77,7 +77,7 @@ pub(crate) fn with_name(names: &mut [usize], from: usize, count: usize, number: 
 // How many names there are with the one of this number.
 pub(crate) fn count_with(count: usize, number: usize) -> usize
     requires { count < 4096 }
-    ensures { result ≡ countWith count number }
+    ensures { result ≡ count_with count number }
 {
     if number < count {
         return count;

@@ -1,5 +1,5 @@
 // An L: a variable, and labels behind it.
-ghost use Rattle.text.specs.Reading.{steps as stepsBy, path as pathBy};
+ghost use Rattle.text.specs.Reading.{steps as steps_by, path as path_by};
 ghost use Rattle.text.specs.Told.{carried, Ahead};
 ghost use Rattle.text.specs.Pieces.{lent, Piece};
 
@@ -16,7 +16,7 @@ fn steps(
     s: &mut [usize; 15],
     n: usize,
 )
-    ensures piece { Ahead text.now (carried s.old) → Piece 0 0 (lent names.old words.old origins.old) (carried s.old) (λ q. stepsBy text.now n q) (lent names.new words.new origins.new) (carried s.new) }
+    ensures piece { Ahead text.now (carried s.old) → Piece 0 0 (lent names.old words.old origins.old) (carried s.old) (λ q. steps_by text.now n q) (lent names.new words.new origins.new) (carried s.new) }
     ensures ahead { Ahead text.now (carried s.old) → Ahead text.now (carried s.new) }
 {
     if s[NUMBER] != 0 {
@@ -46,7 +46,7 @@ pub(crate) fn path(
     origins: &mut [usize],
     s: &mut [usize; 15],
 )
-    ensures piece { Ahead text.now (carried s.old) → Piece 3 0 (lent names.old words.old origins.old) (carried s.old) (λ q. pathBy text.now 2 q) (lent names.new words.new origins.new) (carried s.new) }
+    ensures piece { Ahead text.now (carried s.old) → Piece 3 0 (lent names.old words.old origins.old) (carried s.old) (λ q. path_by text.now 2 q) (lent names.new words.new origins.new) (carried s.new) }
     ensures ahead { Ahead text.now (carried s.old) → Ahead text.now (carried s.new) }
 {
     let p = s[START];

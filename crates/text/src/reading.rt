@@ -1,7 +1,7 @@
 // The token to be judged, taking it, names. Where words of a row are changed the first goes through put: that a row has its 15 words is known where it is lent as a slice.
 ghost use Rattle.std.specs.Prelude.{◌≡◌, ◌&&◌, ◌+◌, ◌<◌, eqb, leb};
-ghost use Rattle.text.specs.Reading.{dueAfter, take as takeBy, need as needBy, variable as variableBy, label as labelBy};
-ghost use Rattle.text.specs.Told.{carried, next_of, Ahead, Follows, Numbers, refusedAt, refusedBy, lookedBy, tookBy, namedVariable, namedLabel};
+ghost use Rattle.text.specs.Reading.{due_after, take as take_by, need as need_by, variable as variable_by, label as label_by};
+ghost use Rattle.text.specs.Told.{carried, next_of, Ahead, Follows, Numbers, refused_at, refused_by, looked_by, took_by, named_variable, named_label};
 
 use super::naming::{at_most, count_with, is_among, number_in, put, with_name};
 use crate::{
@@ -12,7 +12,7 @@ use tokens::Token;
 
 // Whether an operand is due behind a token of this code.
 fn due_after(code: usize) -> bool
-    ensures { result ≡ dueAfter code }
+    ensures { result ≡ due_after code }
 {
     let operator = (40 <= code) & (code <= 51);
     let verb = (tokens::ALWAYS <= code) & (code <= tokens::IF);
@@ -26,7 +26,7 @@ fn due_after(code: usize) -> bool
 
 // Finds the token to be judged.
 pub(crate) fn look(text: &[u8], s: &mut [usize; 15])
-    ensures { (carried s.new) ≡ lookedBy text.now (carried s.old) }
+    ensures { (carried s.new) ≡ looked_by text.now (carried s.old) }
 {
     let at = s[AT];
     let t = tokens::scanning::token(text, at, due_after(s[LAST]));
@@ -37,7 +37,7 @@ pub(crate) fn look(text: &[u8], s: &mut [usize; 15])
 
 // The reader is stopped at the token to be judged.
 fn refused_at(s: &mut [usize; 15], number: usize)
-    ensures { (carried s.new) ≡ refusedAt number (carried s.old).start (carried s.old) }
+    ensures { (carried s.new) ≡ refused_at number (carried s.old).start (carried s.old) }
 {
     put(s, NUMBER, number);
     s[PLACE] = s[START];
@@ -45,7 +45,7 @@ fn refused_at(s: &mut [usize; 15], number: usize)
 
 // The reader is stopped at a token that may not stand there.
 pub(crate) fn refused(s: &mut [usize; 15])
-    ensures { (carried s.new) ≡ refusedBy (next_of (carried s.old)) (carried s.old) }
+    ensures { (carried s.new) ≡ refused_by (next_of (carried s.old)) (carried s.old) }
 {
     if s[CODE] == tokens::TOO_LONG {
         refused_at(s, 22);
@@ -75,7 +75,7 @@ fn has_room(passed: usize, certain: usize, owed: usize, k: usize) -> bool
 
 // The reader goes behind the token to be judged, and finds the next one.
 fn taken(text: &[u8], s: &mut [usize; 15], k: usize)
-    ensures { (carried s.new) ≡ tookBy text.now k (carried s.old) }
+    ensures { (carried s.new) ≡ took_by text.now k (carried s.old) }
 {
     let certain = s[CERTAIN];
     let owed = s[OWED];
@@ -94,7 +94,7 @@ fn taken(text: &[u8], s: &mut [usize; 15], k: usize)
 
 // Takes the token, with k words and those that are owed.
 pub(crate) fn take(text: &[u8], s: &mut [usize; 15], k: usize)
-    ensures follows { Ahead text.now (carried s.old) → Follows (carried s.old) (λ q. takeBy text.now k q) (carried s.new) }
+    ensures follows { Ahead text.now (carried s.old) → Follows (carried s.old) (λ q. take_by text.now k q) (carried s.new) }
     ensures ahead { Ahead text.now (carried s.old) → Ahead text.now (carried s.new) }
 {
     if s[NUMBER] != 0 {
@@ -105,7 +105,7 @@ pub(crate) fn take(text: &[u8], s: &mut [usize; 15], k: usize)
 
 // Takes the token where its code is c.
 pub(crate) fn need(text: &[u8], s: &mut [usize; 15], c: usize, k: usize)
-    ensures follows { Ahead text.now (carried s.old) → Follows (carried s.old) (λ q. needBy text.now c k q) (carried s.new) }
+    ensures follows { Ahead text.now (carried s.old) → Follows (carried s.old) (λ q. need_by text.now c k q) (carried s.new) }
     ensures ahead { Ahead text.now (carried s.old) → Ahead text.now (carried s.new) }
 {
     if s[NUMBER] != 0 {
@@ -120,7 +120,7 @@ pub(crate) fn need(text: &[u8], s: &mut [usize; 15], c: usize, k: usize)
 
 // Takes a variable's name.
 pub(crate) fn variable(text: &[u8], names: &mut [usize], s: &mut [usize; 15], k: usize)
-    ensures numbers { Ahead text.now (carried s.old) → Numbers names.old (carried s.old) (λ q. variableBy text.now k q) names.new (carried s.new) }
+    ensures numbers { Ahead text.now (carried s.old) → Numbers names.old (carried s.old) (λ q. variable_by text.now k q) names.new (carried s.new) }
     ensures ahead { Ahead text.now (carried s.old) → Ahead text.now (carried s.new) }
 {
     if s[NUMBER] != 0 {
@@ -152,7 +152,7 @@ pub(crate) fn variable(text: &[u8], names: &mut [usize], s: &mut [usize; 15], k:
 
 // Takes a label, which is none of those in seen.
 pub(crate) fn label(text: &[u8], names: &mut [usize], s: &mut [usize; 15], seen: &[usize])
-    ensures numbers { Ahead text.now (carried s.old) → Numbers names.old (carried s.old) (λ q. labelBy text.now seen.now q) names.new (carried s.new) }
+    ensures numbers { Ahead text.now (carried s.old) → Numbers names.old (carried s.old) (λ q. label_by text.now seen.now q) names.new (carried s.new) }
     ensures ahead { Ahead text.now (carried s.old) → Ahead text.now (carried s.new) }
 {
     if s[NUMBER] != 0 {

@@ -1,9 +1,9 @@
 // A text: its words, the places that they come from and its names, or a refusal.
 ghost use Rattle.std.specs.Prelude.{◌≡◌, [], ◌∷◌, ◌*◌, ◌≤◌, ◌<◌};
 ghost use Rattle.words.specs.Words.{word_of, cleared};
-ghost use Rattle.text.specs.Told.{carried, lookedBy};
-ghost use Rattle.text.specs.Pieces.{lent, firstCarried, Whole};
-ghost use Rattle.text.specs.Whole.{answered, toldFrom, sized, read as read_by};
+ghost use Rattle.text.specs.Told.{carried, looked_by};
+ghost use Rattle.text.specs.Pieces.{lent, first_carried, Whole};
+ghost use Rattle.text.specs.Whole.{answered, told_from, sized, read as read_by};
 
 use super::blocks::statements;
 use super::naming::{at_most, word};
@@ -13,7 +13,7 @@ use crate::{CODE, NAMED_LABELS, NAMED_VARIABLES, NUMBER, PLACE, WRITTEN};
 
 // The reader before the first token, for which the outermost n is certain.
 fn begin(text: &[u8], s: &mut [usize; 15])
-    ensures { (carried s.new) ≡ lookedBy text.now firstCarried }
+    ensures { (carried s.new) ≡ looked_by text.now first_carried }
 {
     *s = [0, 0, 0, tokens::SEMICOLON, 1, 0, 0, 0, 0, 0, 0, 1, 0, 0, 0];
     look(text, s);
@@ -51,7 +51,7 @@ fn text_at(
 fn tell(out: &mut [i32], places: &[usize], at: usize, n: usize)
     requires at_bound { at < 8192 }
     requires n_bound { n < 8192 }
-    ensures { out.new ≡ toldFrom places.now at n out.old }
+    ensures { out.new ≡ told_from places.now at n out.old }
 {
     let mut i: usize = 0;
     while i < n {
@@ -64,7 +64,7 @@ fn tell(out: &mut [i32], places: &[usize], at: usize, n: usize)
 fn tell_names(out: &mut [i32], names: &[usize], variables: usize, labels: usize)
     requires variables_bound { variables ≤ 64 }
     requires labels_bound { labels ≤ 32 }
-    ensures { out.new ≡ toldFrom names.now 128 (2 * labels) (toldFrom names.now 0 (2 * variables) (cleared 0 192 out.old)) }
+    ensures { out.new ≡ told_from names.now 128 (2 * labels) (told_from names.now 0 (2 * variables) (cleared 0 192 out.old)) }
 {
     words::clear(out, 0, crate::NAME_WORDS);
     tell(out, names, 0, 2 * variables);

@@ -2,7 +2,7 @@
 ghost use Rattle.std.specs.Prelude.{◌≡◌, List, ℕ, ◌-◌, ◌<◌, pos, length, set};
 ghost use Rattle.text.specs.Reading.{everywhere};
 ghost use Rattle.text.specs.Told.{carried, Ahead};
-ghost use Rattle.text.specs.Written.{with1, wroteOne, passBy, Owes, deepBy, numberedBy, raised, filled};
+ghost use Rattle.text.specs.Written.{with1, wrote_one, pass_by, Owes, deep_by, numbered_by, raised, filled};
 ghost use Rattle.text.specs.Pieces.{Inserts};
 
 use super::naming::{put, word};
@@ -12,7 +12,7 @@ use crate::{DEPTH, NAMED, OWED, PASSED, WRITTEN};
 pub(crate) fn write(words: &mut [i32], origins: &mut [usize], s: &mut [usize; 15], w: i32, p: usize)
     ensures words_after { words.new ≡ with1 words.old (carried s.old) w }
     ensures origins_after { origins.new ≡ with1 origins.old (carried s.old) p }
-    ensures s_after { (carried s.new) ≡ wroteOne (carried s.old) }
+    ensures s_after { (carried s.new) ≡ wrote_one (carried s.old) }
 {
     let at = s[WRITTEN];
     if crate::ROW <= at {
@@ -25,7 +25,7 @@ pub(crate) fn write(words: &mut [i32], origins: &mut [usize], s: &mut [usize; 15
 
 // The next token passes a limit where b says so.
 pub(crate) fn pass(s: &mut [usize; 15], b: bool)
-    ensures { (carried s.new) ≡ passBy b (carried s.old) }
+    ensures { (carried s.new) ≡ pass_by b (carried s.old) }
 {
     if b {
         put(s, PASSED, 1);
@@ -58,14 +58,14 @@ pub(crate) fn put_word(words: &mut [i32], origins: &mut [usize], i: usize, w: i3
 
 // The expression read last is d deep.
 pub(crate) fn deepen(s: &mut [usize; 15], d: usize)
-    ensures { (carried s.new) ≡ deepBy d (carried s.old) }
+    ensures { (carried s.new) ≡ deep_by d (carried s.old) }
 {
     put(s, DEPTH, d);
 }
 
 // The number that was read last is n.
 pub(crate) fn count(s: &mut [usize; 15], n: usize)
-    ensures { (carried s.new) ≡ numberedBy n (carried s.old) }
+    ensures { (carried s.new) ≡ numbered_by n (carried s.old) }
 {
     put(s, NAMED, n);
 }

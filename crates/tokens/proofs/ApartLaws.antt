@@ -7,8 +7,8 @@ use native.Mathlib.Omega.{arith}
 use borrow.Author.Tests.{eqb-true, ne_eqb, le-ltb, le-leb, lt-leb, not-true}
 use lib.Dec.{eqb, ltb, leb}
 use lib.ListN.{get_or, drop}
-use Rattle.tokens.specs.Bytes.{between, isWhite, isDigit, isNamed}
-use Rattle.tokens.specs.Spelling.{Row, row, keywords, laterKeywords, pairs, singles}
+use Rattle.tokens.specs.Bytes.{between, is_white, is_digit, is_named}
+use Rattle.tokens.specs.Spelling.{Row, row, keywords, later_keywords, pairs, singles}
 use Rattle.tokens.specs.Rules.{All, In}
 use Rattle.tokens.proofs.ByteLaws.{cases, true≢false, and_first, and_second, between-low, between-most}
 use Rattle.tokens.proofs.SpellingLaws.{every, in-every}
@@ -23,132 +23,132 @@ pub between-high : (low high b : ℕ) → high < b → between low high b ≡ fa
 unfolding between
 between-high low high b h = cases (ltb b low) (λ e. rw e) (λ e. rw (e, lt-leb b high h))
 
-pub white-space : isWhite 32 ≡ true
-unfolding isWhite
+pub white-space : is_white 32 ≡ true
+unfolding is_white
 white-space = refl
 
-pub white-line : isWhite 10 ≡ true
-unfolding isWhite
+pub white-line : is_white 10 ≡ true
+unfolding is_white
 white-line = refl
 
-pub minus-no-white : isWhite 45 ≡ false
-unfolding isWhite
+pub minus-no-white : is_white 45 ≡ false
+unfolding is_white
 minus-no-white = refl
 
 -- white space is below every letter and digit
-pub white_low : (b : ℕ) → isWhite b ≡ true → b ≤ 32
-unfolding isWhite
+pub white_low : (b : ℕ) → is_white b ≡ true → b ≤ 32
+unfolding is_white
 white_low b e =
     cases (eqb b 32) (λ x. omega (arith, eqb-true b 32 x))
     (λ x. cases (eqb b 9) (λ y. omega (arith, eqb-true b 9 y))
     (λ y. cases (eqb b 10) (λ z. omega (arith, eqb-true b 10 z))
     (λ z. omega (arith, eqb-true b 13 (rw (x, y, z) at e)))))
 
-pub high-no-white : (b : ℕ) → 32 < b → isWhite b ≡ false
-high-no-white b h = cases (isWhite b) (λ e. let z : ⊥ = omega (arith, white_low b e) in absurd z) (λ e. e)
+pub high-no-white : (b : ℕ) → 32 < b → is_white b ≡ false
+high-no-white b h = cases (is_white b) (λ e. let z : ⊥ = omega (arith, white_low b e) in absurd z) (λ e. e)
 
-pub white-no-digit : (b : ℕ) → isWhite b ≡ true → isDigit b ≡ false
+pub white-no-digit : (b : ℕ) → is_white b ≡ true → is_digit b ≡ false
 white-no-digit b e = between-low 48 57 b (omega (arith, white_low b e))
 
-pub white-unnamed : (b : ℕ) → isWhite b ≡ true → isNamed b ≡ false
-unfolding isNamed
+pub white-unnamed : (b : ℕ) → is_white b ≡ true → is_named b ≡ false
+unfolding is_named
 white-unnamed b e =
     let h : b ≤ 32 = white_low b e in
     rw (between-low 97 122 b (omega arith), between-low 65 90 b (omega arith), between-low 48 57 b (omega arith), ne_eqb b 95 (λ z. omega arith))
 
-pub digit-named : (b : ℕ) → isDigit b ≡ true → isNamed b ≡ true
-unfolding isNamed
+pub digit-named : (b : ℕ) → is_digit b ≡ true → is_named b ≡ true
+unfolding is_named
 digit-named b e =
     let h : b ≤ 57 = between-most 48 57 b e in
     rw (between-low 97 122 b (omega arith), between-low 65 90 b (omega arith), e)
 
-pub unnamed-no-digit : (b : ℕ) → isNamed b ≡ false → isDigit b ≡ false
-unnamed-no-digit b e = cases (isDigit b) (λ d. true≢false (sym (digit-named b d) ∙ e)) (λ d. d)
+pub unnamed-no-digit : (b : ℕ) → is_named b ≡ false → is_digit b ≡ false
+unnamed-no-digit b e = cases (is_digit b) (λ d. true≢false (sym (digit-named b d) ∙ e)) (λ d. d)
 
 -- marks that may follow a name directly
-pub unnamed-41 : isNamed 41 ≡ false
-unfolding isNamed between
+pub unnamed-41 : is_named 41 ≡ false
+unfolding is_named between
 unnamed-41 = refl
 
-pub unnamed-44 : isNamed 44 ≡ false
-unfolding isNamed between
+pub unnamed-44 : is_named 44 ≡ false
+unfolding is_named between
 unnamed-44 = refl
 
-pub unnamed-46 : isNamed 46 ≡ false
-unfolding isNamed between
+pub unnamed-46 : is_named 46 ≡ false
+unfolding is_named between
 unnamed-46 = refl
 
-pub unnamed-58 : isNamed 58 ≡ false
-unfolding isNamed between
+pub unnamed-58 : is_named 58 ≡ false
+unfolding is_named between
 unnamed-58 = refl
 
-pub unnamed-59 : isNamed 59 ≡ false
-unfolding isNamed between
+pub unnamed-59 : is_named 59 ≡ false
+unfolding is_named between
 unnamed-59 = refl
 
-pub unnamed-125 : isNamed 125 ≡ false
-unfolding isNamed between
+pub unnamed-125 : is_named 125 ≡ false
+unfolding is_named between
 unnamed-125 = refl
 
 -- ---- rows
 
 -- no keyword has a digit behind its first letter
 abbrev second : Row → Bool
-second r = not (isDigit (get_or r.spelling 1 0))
+second r = not (is_digit (get_or r.spelling 1 0))
 
 keywords-second : every second keywords ≡ true
-unfolding keywords laterKeywords between
+unfolding keywords later_keywords between
 keywords-second = refl
 
-pub keyword-second : {s : List ℕ} {n : ℕ} → In (row s n) keywords → isDigit (get_or s 1 0) ≡ false
-keyword-second {s} {n} i = not-true (isDigit (get_or s 1 0)) (in-every second (row s n) keywords keywords-second i)
+pub keyword-second : {s : List ℕ} {n : ℕ} → In (row s n) keywords → is_digit (get_or s 1 0) ≡ false
+keyword-second {s} {n} i = not-true (is_digit (get_or s 1 0)) (in-every second (row s n) keywords keywords-second i)
 
 -- and all of its bytes behind the first are of a name
-abbrev allNamed : List ℕ → Bool
-allNamed [] = true
-allNamed (b ∷ s) = isNamed b && allNamed s
+abbrev all_named : List ℕ → Bool
+all_named [] = true
+all_named (b ∷ s) = is_named b && all_named s
 
-all_named : (s : List ℕ) → allNamed s ≡ true → All isNamed s
-all_named [] e = All.none
-all_named (b ∷ s) e = All.more (and_first (isNamed b) (allNamed s) e) (all_named s (and_second (isNamed b) (allNamed s) e))
+all_named_lem : (s : List ℕ) → all_named s ≡ true → All is_named s
+all_named_lem [] e = All.none
+all_named_lem (b ∷ s) e = All.more (and_first (is_named b) (all_named s) e) (all_named_lem s (and_second (is_named b) (all_named s) e))
 
 abbrev tail-named : Row → Bool
-tail-named r = allNamed (drop 1 r.spelling)
+tail-named r = all_named (drop 1 r.spelling)
 
 keywords-named : every tail-named keywords ≡ true
-unfolding keywords laterKeywords isNamed between
+unfolding keywords later_keywords is_named between
 keywords-named = refl
 
-pub keyword-tail : {b n : ℕ} {s : List ℕ} → In (row (b ∷ s) n) keywords → All isNamed s
-keyword-tail {b} {n} {s} i = all_named s (in-every tail-named (row (b ∷ s) n) keywords keywords-named i)
+pub keyword-tail : {b n : ℕ} {s : List ℕ} → In (row (b ∷ s) n) keywords → All is_named s
+keyword-tail {b} {n} {s} i = all_named_lem s (in-every tail-named (row (b ∷ s) n) keywords keywords-named i)
 
 -- no mark begins with white space, or has it behind its first byte
 abbrev dark : Row → Bool
-dark r = not (isWhite (get_or r.spelling 0 0))
+dark r = not (is_white (get_or r.spelling 0 0))
 
 pairs-dark : every dark pairs ≡ true
-unfolding pairs isWhite
+unfolding pairs is_white
 pairs-dark = refl
 
 singles-dark : every dark singles ≡ true
-unfolding singles isWhite
+unfolding singles is_white
 singles-dark = refl
 
-pub pair-no-white : {s : List ℕ} {n : ℕ} → In (row s n) pairs → isWhite (get_or s 0 0) ≡ false
-pair-no-white {s} {n} i = not-true (isWhite (get_or s 0 0)) (in-every dark (row s n) pairs pairs-dark i)
+pub pair-no-white : {s : List ℕ} {n : ℕ} → In (row s n) pairs → is_white (get_or s 0 0) ≡ false
+pair-no-white {s} {n} i = not-true (is_white (get_or s 0 0)) (in-every dark (row s n) pairs pairs-dark i)
 
-pub single-no-white : {s : List ℕ} {n : ℕ} → In (row s n) singles → isWhite (get_or s 0 0) ≡ false
-single-no-white {s} {n} i = not-true (isWhite (get_or s 0 0)) (in-every dark (row s n) singles singles-dark i)
+pub single-no-white : {s : List ℕ} {n : ℕ} → In (row s n) singles → is_white (get_or s 0 0) ≡ false
+single-no-white {s} {n} i = not-true (is_white (get_or s 0 0)) (in-every dark (row s n) singles singles-dark i)
 
 abbrev dark-behind : Row → Bool
-dark-behind r = not (isWhite (get_or r.spelling 1 0))
+dark-behind r = not (is_white (get_or r.spelling 1 0))
 
 pairs-dark-behind : every dark-behind pairs ≡ true
-unfolding pairs isWhite
+unfolding pairs is_white
 pairs-dark-behind = refl
 
-pub pair-second : {b c n : ℕ} → In (row (b ∷ c ∷ []) n) pairs → isWhite c ≡ false
-pair-second {b} {c} {n} i = not-true (isWhite c) (in-every dark-behind (row (b ∷ c ∷ []) n) pairs pairs-dark-behind i)
+pub pair-second : {b c n : ℕ} → In (row (b ∷ c ∷ []) n) pairs → is_white c ≡ false
+pair-second {b} {c} {n} i = not-true (is_white c) (in-every dark-behind (row (b ∷ c ∷ []) n) pairs pairs-dark-behind i)
 
 -- `, . ; { } ( )`, whose codes run from 32 to 38, begin no mark of two bytes, and are no `-`
 abbrev joins : ℕ → Bool

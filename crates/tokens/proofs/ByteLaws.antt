@@ -9,7 +9,7 @@ use lib.Dec.{ltb, eqb}
 use lib.ListN.{length, get_or, take, drop, drop_of_length-le}
 use lib.Seq.{length-take-le, take_all}
 use Rattle.words.proofs.Laws.{drop-next}
-use Rattle.tokens.specs.Bytes.{between, run, spelt, sameIn}
+use Rattle.tokens.specs.Bytes.{between, run, spelt, same_in}
 use Rattle.tokens.specs.Rules.{Shared}
 use Rattle.tokens.specs.Claims.{Shares}
 
@@ -145,12 +145,12 @@ module _ {w s : List ℕ} {i : ℕ} (inv : Spelling w s i) where
 -- ---- two parts of a text
 
 module _ (text : List ℕ) (a b n : ℕ) {x : List ℕ} (e : x ≡ take n (drop a text)) where
-  pub same-short : length x < n → false ≡ sameIn text a b n
-  unfolding sameIn
+  pub same-short : length x < n → false ≡ same_in text a b n
+  unfolding same_in
   same-short h = rw (← e, lt-ltb (length x) n h)
 
-  pub same_whole : n ≤ length x → {y : List ℕ} → y ≡ take n (drop b text) → {r : Bool} → r ≡ spelt x y → r ≡ sameIn text a b n
-  unfolding sameIn
+  pub same_whole : n ≤ length x → {y : List ℕ} → y ≡ take n (drop b text) → {r : Bool} → r ≡ spelt x y → r ≡ same_in text a b n
+  unfolding same_in
   same_whole h k q = rw (← e, ← k, le-ltb (length x) n h) q
 
 -- n bytes of x are there
@@ -163,14 +163,14 @@ long n x h =
 pub shares : Shares
 shares text a b n = (there, back)
   where
-    there : sameIn text a b n ≡ true → Shared text a b n
+    there : same_in text a b n ≡ true → Shared text a b n
     there e =
         cases (ltb (length (take n (drop a text))) n)
         (λ t. true≢false (sym e ∙ sym (same-short text a b n refl (ltb-true (length (take n (drop a text))) n t))))
         (λ t. let h : n ≤ length (take n (drop a text)) = ltb-false (length (take n (drop a text))) n t in
         record { there = long n (drop a text) h; same = spelt-same (take n (drop a text)) (take n (drop b text)) (same_whole text a b n refl h refl refl ∙ e) })
 
-    back : Shared text a b n → sameIn text a b n ≡ true
+    back : Shared text a b n → same_in text a b n ≡ true
     back s =
         let h : length (take n (drop a text)) ≡ n = length-take-le n (drop a text) s.there in
         sym (same_whole text a b n refl (omega arith) refl refl) ∙ rw (← s.same) (spelt-self (take n (drop a text)))

@@ -12,26 +12,26 @@ use Rattle.words.specs.declared.Ranged.TheVariants.{Within, Outside}
 use Rattle.words.specs.Words.{word_of}
 use Rattle.words.specs.Range.{ranged}
 use Rattle.words.proofs.Laws.{word-is, ranged-is}
-use Rattle.tokens.specs.Numbers.{digitOf, digitsFrom, capped, integerOf, value_of}
+use Rattle.tokens.specs.Numbers.{digit_of, digits_from, capped, integer_of, value_of}
 use Rattle.tokens.proofs.ByteLaws.{cases}
 use Rattle.words.proofs.Laws.{drop-next}
 
 -- ---- a digit
 
 module _ (b : ℕ) where
-  pub digit_low : b < 48 → digitOf b ≡ 0
-  unfolding digitOf
+  pub digit_low : b < 48 → digit_of b ≡ 0
+  unfolding digit_of
   digit_low h = rw (lt-ltb b 48 h)
 
-  pub digit-high : 57 < b → digitOf b ≡ 0
-  unfolding digitOf
+  pub digit-high : 57 < b → digit_of b ≡ 0
+  unfolding digit_of
   digit-high h = rw (le-ltb b 48 (omega arith), lt-ltb 57 b h)
 
-  pub digit-is : 48 ≤ b → b ≤ 57 → digitOf b ≡ b - 48
-  unfolding digitOf
+  pub digit-is : 48 ≤ b → b ≤ 57 → digit_of b ≡ b - 48
+  unfolding digit_of
   digit-is h k = rw (le-ltb b 48 h, le-ltb 57 b k)
 
-  pub digit-small : digitOf b ≤ 9
+  pub digit-small : digit_of b ≤ 9
   digit-small =
       cases (ltb b 48) (λ e. rw (digit_low (ltb-true b 48 e)) (omega arith))
       (λ e. cases (ltb 57 b) (λ f. rw (digit-high (ltb-true 57 b f)) (omega arith))
@@ -39,17 +39,17 @@ module _ (b : ℕ) where
 
 -- ---- digits in a row
 
-pub digits-none : (n : ℕ) → digitsFrom n [] ≡ n
-unfolding digitsFrom
+pub digits-none : (n : ℕ) → digits_from n [] ≡ n
+unfolding digits_from
 digits-none n = refl
 
-pub digits_more : (n b : ℕ) (s : List ℕ) → digitsFrom n (b ∷ s) ≡ digitsFrom (10 * n + digitOf b) s
-unfolding digitsFrom
+pub digits_more : (n b : ℕ) (s : List ℕ) → digits_from n (b ∷ s) ≡ digits_from (10 * n + digit_of b) s
+unfolding digits_from
 digits_more n b s = refl
 
-pub digits-grow : (n : ℕ) (s : List ℕ) → n ≤ digitsFrom n s
+pub digits-grow : (n : ℕ) (s : List ℕ) → n ≤ digits_from n s
 digits-grow n [] = rw (digits-none n) (omega arith)
-digits-grow n (b ∷ s) = rw (digits_more n b s) (omega (arith, digits-grow (10 * n + digitOf b) s))
+digits-grow n (b ∷ s) = rw (digits_more n b s) (omega (arith, digits-grow (10 * n + digit_of b) s))
 
 pub capped_small : (n : ℕ) → n ≤ 2147483648 → capped n ≡ n
 unfolding capped
@@ -63,26 +63,26 @@ capped-great n h = rw (lt-ltb 2147483648 n h)
 pub record Counting (s : List ℕ) (n i : ℕ) : Type 0 where
   pub inside : i ≤ length s
   pub small : n ≤ 2147483648
-  pub rest : digitsFrom n (drop i s) ≡ digitsFrom 0 s
+  pub rest : digits_from n (drop i s) ≡ digits_from 0 s
 
 pub counting-starts : {s : List ℕ} → Counting s 0 0
 counting-starts = record { inside = omega arith; small = omega arith; rest = refl }
 
 module _ {s : List ℕ} {n i : ℕ} (inv : Counting s n i) where
-  module _ (more : i < length s) {d : ℕ} (e : d ≡ digitOf (get_or s i 0)) where
-    at : digitsFrom (10 * n + d) (drop (i + 1) s) ≡ digitsFrom 0 s
+  module _ (more : i < length s) {d : ℕ} (e : d ≡ digit_of (get_or s i 0)) where
+    at : digits_from (10 * n + d) (drop (i + 1) s) ≡ digits_from 0 s
     at = rw e (sym (digits_more n (get_or s i 0) (drop (i + 1) s)) ∙ rw (drop-next s i more) at inv.rest)
 
-    pub counting-passes : 2147483648 < 10 * n + d → 2147483649 ≡ capped (digitsFrom 0 s)
-    counting-passes h = sym (capped-great (digitsFrom 0 s) (omega (arith, at, digits-grow (10 * n + d) (drop (i + 1) s))))
+    pub counting-passes : 2147483648 < 10 * n + d → 2147483649 ≡ capped (digits_from 0 s)
+    counting-passes h = sym (capped-great (digits_from 0 s) (omega (arith, at, digits-grow (10 * n + d) (drop (i + 1) s))))
 
     pub counting-goes-on : 10 * n + d ≤ 2147483648 → Counting s (10 * n + d) (i + 1)
     counting-goes-on h = record { inside = omega arith; small = h; rest = at }
 
-  pub counting-ends : length s ≤ i → n ≡ capped (digitsFrom 0 s)
+  pub counting-ends : length s ≤ i → n ≡ capped (digits_from 0 s)
   counting-ends h =
-      let e : n ≡ digitsFrom 0 s = sym (digits-none n) ∙ rw (drop_of_length-le s {i = i} h) at inv.rest in
-      e ∙ sym (capped_small (digitsFrom 0 s) (omega (arith, inv.small)))
+      let e : n ≡ digits_from 0 s = sym (digits-none n) ∙ rw (drop_of_length-le s {i = i} h) at inv.rest in
+      e ∙ sym (capped_small (digits_from 0 s) (omega (arith, inv.small)))
 
 -- ---- with its sign
 
@@ -123,15 +123,15 @@ capped-negative n =
 
 -- the whole number, as the code reads it
 module _ (s : List ℕ) {n : ℕ} {r : Ranged} where
-  pub value-negative : get_or s 0 0 ≡ 45 → {q : List ℕ} → q ≡ drop 1 s → n ≡ capped (digitsFrom 0 q) → r ≡ ranged (neg_ℤ (pos n)) → r ≡ value_of s
-  unfolding value_of integerOf
-  value-negative h k e g = rw (eq-eqb (get_or s 0 0) 45 h) (g ∙ ap (λ m. ranged (neg_ℤ (pos m))) (e ∙ ap (λ q. capped (digitsFrom 0 q)) k) ∙ capped-negative (digitsFrom 0 (drop 1 s)))
+  pub value-negative : get_or s 0 0 ≡ 45 → {q : List ℕ} → q ≡ drop 1 s → n ≡ capped (digits_from 0 q) → r ≡ ranged (neg_ℤ (pos n)) → r ≡ value_of s
+  unfolding value_of integer_of
+  value-negative h k e g = rw (eq-eqb (get_or s 0 0) 45 h) (g ∙ ap (λ m. ranged (neg_ℤ (pos m))) (e ∙ ap (λ q. capped (digits_from 0 q)) k) ∙ capped-negative (digits_from 0 (drop 1 s)))
 
-  pub value-positive : (get_or s 0 0 ≡ 45 → ⊥) → n ≡ capped (digitsFrom 0 s) → r ≡ ranged (pos n) → r ≡ value_of s
-  unfolding value_of integerOf
-  value-positive h e g = rw (ne_eqb (get_or s 0 0) 45 h) (g ∙ ap (λ m. ranged (pos m)) e ∙ capped-positive (digitsFrom 0 s))
+  pub value-positive : (get_or s 0 0 ≡ 45 → ⊥) → n ≡ capped (digits_from 0 s) → r ≡ ranged (pos n) → r ≡ value_of s
+  unfolding value_of integer_of
+  value-positive h e g = rw (ne_eqb (get_or s 0 0) 45 h) (g ∙ ap (λ m. ranged (pos m)) e ∙ capped-positive (digits_from 0 s))
 
 -- what a number comes to: its integer, if that fits 32 bits
-pub value-is : (s : List ℕ) → value_of s ≡ ranged (integerOf s)
+pub value-is : (s : List ℕ) → value_of s ≡ ranged (integer_of s)
 unfolding value_of
 value-is s = refl

@@ -5,8 +5,8 @@ use mathlib.Core.List.{List, [], ◌∷◌, ◌++◌, append_assoc}
 use Prim.Native.Nat.{ℕ, suc, ◌+◌}
 use borrow.Author.Tests.{eqb-true}
 use lib.ListN.{length}
-use Rattle.tokens.specs.Bytes.{run, isNamed}
-use Rattle.tokens.specs.Rules.{All, Over, Tail, isQuestion}
+use Rattle.tokens.specs.Bytes.{run, is_named}
+use Rattle.tokens.specs.Rules.{All, Over, Tail, is_question}
 use Rattle.tokens.proofs.ByteLaws.{cases, run_none, run-here, run_on}
 
 -- how long the run is
@@ -39,13 +39,13 @@ pub record TailSplit (s : List ℕ) : Type 0 where
   pub is : s ≡ front ++ back
   pub tail : Tail front back
 
-by-question : (a s : List ℕ) → All isNamed a → Over isNamed s → TailSplit (a ++ s)
+by-question : (a s : List ℕ) → All is_named a → Over is_named s → TailSplit (a ++ s)
 by-question a [] all over = record { front = a; back = []; is = refl; tail = Tail.plain all over Over.ended }
 by-question a (b ∷ s) all over =
-    cases (isQuestion b)
+    cases (is_question b)
     (λ e. let h : b ≡ 63 = eqb-true b 63 e in
     record { front = a ++ 63 ∷ []; back = s; is = rw h (sym (append_assoc a (63 ∷ []) s)); tail = Tail.asked all })
     (λ e. record { front = a; back = b ∷ s; is = refl; tail = Tail.plain all over (Over.other e) })
 
 pub tail-split : (s : List ℕ) → TailSplit s
-tail-split s = let r : Split isNamed s = split isNamed s in subst TailSplit (sym r.is) (by-question r.front r.back r.all r.over)
+tail-split s = let r : Split is_named s = split is_named s in subst TailSplit (sym r.is) (by-question r.front r.back r.all r.over)

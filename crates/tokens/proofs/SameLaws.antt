@@ -7,11 +7,11 @@ use native.Mathlib.Omega.{arith}
 use borrow.Author.Tests.{le-ltb}
 use lib.ListN.{length, take, drop, length-drop}
 use lib.Seq.{length-take-le}
-use Rattle.tokens.specs.Bytes.{sameIn}
+use Rattle.tokens.specs.Bytes.{same_in}
 use Rattle.tokens.proofs.ByteLaws.{spelt-self}
 
-pub same-itself : (text : List ℕ) (p n : ℕ) → p + n ≤ length text → sameIn text p p n ≡ true
-unfolding sameIn
+pub same-itself : (text : List ℕ) (p n : ℕ) → p + n ≤ length text → same_in text p p n ≡ true
+unfolding same_in
 same-itself text p n h =
     let l : n ≤ length (drop p text) = rw length-drop (omega arith) in
     let m : length (take n (drop p text)) ≡ n = length-take-le n (drop p text) l in

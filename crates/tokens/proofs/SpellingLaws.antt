@@ -6,9 +6,9 @@ use Prim.Native.Nat.{ℕ, zero, suc, ◌<◌}
 use borrow.Author.Tests.{eqb-true, ne_eqb, ltb-true, not-true}
 use lib.Dec.{eqb, ltb}
 use lib.ListN.{get_or, drop}
-use Rattle.tokens.specs.Bytes.{between, isLower, isDigit, spelt}
-use Rattle.tokens.specs.Codes.{nameCode, noToken}
-use Rattle.tokens.specs.Spelling.{Row, row, code_of, keywords, laterKeywords, pairs, singles}
+use Rattle.tokens.specs.Bytes.{between, is_lower, is_digit, spelt}
+use Rattle.tokens.specs.Codes.{name_code, no_token}
+use Rattle.tokens.specs.Spelling.{Row, row, code_of, keywords, later_keywords, pairs, singles}
 use Rattle.tokens.specs.Rules.{In}
 use Rattle.tokens.proofs.ByteLaws.{cases, true≢false, and_first, and_second, and-false, spelt-self, spelt-same}
 
@@ -79,11 +79,11 @@ abbrev first : Row → ℕ
 first r = get_or r.spelling 0 0
 
 abbrev lower : Row → Bool
-lower r = isLower (first r)
+lower r = is_lower (first r)
 
 -- it begins with neither a letter nor a digit
 abbrev apart : Row → Bool
-apart r = not (isLower (first r)) && not (isDigit (first r))
+apart r = not (is_lower (first r)) && not (is_digit (first r))
 
 abbrev plain : Row → Bool
 plain r = not (eqb (first r) 45)
@@ -93,7 +93,7 @@ abbrev great : Row → Bool
 great r = ltb 9 r.code
 
 keywords-great : every great keywords ≡ true
-unfolding keywords laterKeywords
+unfolding keywords later_keywords
 keywords-great = refl
 
 pairs-great : every great pairs ≡ true
@@ -104,15 +104,15 @@ singles-great : every great singles ≡ true
 unfolding singles
 singles-great = refl
 
-keywords-own : every (own nameCode keywords) keywords ≡ true
-unfolding keywords laterKeywords code_of spelt
+keywords-own : every (own name_code keywords) keywords ≡ true
+unfolding keywords later_keywords code_of spelt
 keywords-own = refl
 
 keywords-lower : every lower keywords ≡ true
-unfolding keywords laterKeywords between
+unfolding keywords later_keywords between
 keywords-lower = refl
 
-pairs-own : every (own noToken pairs) pairs ≡ true
+pairs-own : every (own no_token pairs) pairs ≡ true
 unfolding pairs code_of spelt
 pairs-own = refl
 
@@ -124,7 +124,7 @@ pairs-plain : every plain pairs ≡ true
 unfolding pairs
 pairs-plain = refl
 
-singles-own : every (own noToken singles) singles ≡ true
+singles-own : every (own no_token singles) singles ≡ true
 unfolding singles code_of spelt
 singles-own = refl
 
@@ -133,43 +133,43 @@ unfolding singles between
 singles-apart = refl
 
 module _ {s : List ℕ} {n : ℕ} (i : In (row s n) keywords) where
-  pub keyword-code : code_of nameCode keywords s ≡ n
-  keyword-code = eqb-true (code_of nameCode keywords s) n (in-every (own nameCode keywords) (row s n) keywords keywords-own i)
+  pub keyword-code : code_of name_code keywords s ≡ n
+  keyword-code = eqb-true (code_of name_code keywords s) n (in-every (own name_code keywords) (row s n) keywords keywords-own i)
 
   pub keyword-great : 9 < n
   keyword-great = ltb-true 9 n (in-every great (row s n) keywords keywords-great i)
 
-  pub keyword-lower : isLower (get_or s 0 0) ≡ true
+  pub keyword-lower : is_lower (get_or s 0 0) ≡ true
   keyword-lower = in-every lower (row s n) keywords keywords-lower i
 
 module _ {s : List ℕ} {n : ℕ} (i : In (row s n) pairs) where
-  pub pair_code : code_of noToken pairs s ≡ n
-  pair_code = eqb-true (code_of noToken pairs s) n (in-every (own noToken pairs) (row s n) pairs pairs-own i)
+  pub pair_code : code_of no_token pairs s ≡ n
+  pair_code = eqb-true (code_of no_token pairs s) n (in-every (own no_token pairs) (row s n) pairs pairs-own i)
 
   pub pair-great : 9 < n
   pair-great = ltb-true 9 n (in-every great (row s n) pairs pairs-great i)
 
-  pub pair-no-letter : isLower (get_or s 0 0) ≡ false
-  pair-no-letter = not-true (isLower (get_or s 0 0)) (and_first (not (isLower (get_or s 0 0))) (not (isDigit (get_or s 0 0))) (in-every apart (row s n) pairs pairs-apart i))
+  pub pair-no-letter : is_lower (get_or s 0 0) ≡ false
+  pair-no-letter = not-true (is_lower (get_or s 0 0)) (and_first (not (is_lower (get_or s 0 0))) (not (is_digit (get_or s 0 0))) (in-every apart (row s n) pairs pairs-apart i))
 
-  pub pair-no-digit : isDigit (get_or s 0 0) ≡ false
-  pair-no-digit = not-true (isDigit (get_or s 0 0)) (and_second (not (isLower (get_or s 0 0))) (not (isDigit (get_or s 0 0))) (in-every apart (row s n) pairs pairs-apart i))
+  pub pair-no-digit : is_digit (get_or s 0 0) ≡ false
+  pair-no-digit = not-true (is_digit (get_or s 0 0)) (and_second (not (is_lower (get_or s 0 0))) (not (is_digit (get_or s 0 0))) (in-every apart (row s n) pairs pairs-apart i))
 
   pub pair-no-sign : eqb (get_or s 0 0) 45 ≡ false
   pair-no-sign = not-true (eqb (get_or s 0 0) 45) (in-every plain (row s n) pairs pairs-plain i)
 
 module _ {s : List ℕ} {n : ℕ} (i : In (row s n) singles) where
-  pub single-code : code_of noToken singles s ≡ n
-  single-code = eqb-true (code_of noToken singles s) n (in-every (own noToken singles) (row s n) singles singles-own i)
+  pub single-code : code_of no_token singles s ≡ n
+  single-code = eqb-true (code_of no_token singles s) n (in-every (own no_token singles) (row s n) singles singles-own i)
 
   pub single-great : 9 < n
   single-great = ltb-true 9 n (in-every great (row s n) singles singles-great i)
 
-  pub single-no-letter : isLower (get_or s 0 0) ≡ false
-  single-no-letter = not-true (isLower (get_or s 0 0)) (and_first (not (isLower (get_or s 0 0))) (not (isDigit (get_or s 0 0))) (in-every apart (row s n) singles singles-apart i))
+  pub single-no-letter : is_lower (get_or s 0 0) ≡ false
+  single-no-letter = not-true (is_lower (get_or s 0 0)) (and_first (not (is_lower (get_or s 0 0))) (not (is_digit (get_or s 0 0))) (in-every apart (row s n) singles singles-apart i))
 
-  pub single-no-digit : isDigit (get_or s 0 0) ≡ false
-  single-no-digit = not-true (isDigit (get_or s 0 0)) (and_second (not (isLower (get_or s 0 0))) (not (isDigit (get_or s 0 0))) (in-every apart (row s n) singles singles-apart i))
+  pub single-no-digit : is_digit (get_or s 0 0) ≡ false
+  single-no-digit = not-true (is_digit (get_or s 0 0)) (and_second (not (is_lower (get_or s 0 0))) (not (is_digit (get_or s 0 0))) (in-every apart (row s n) singles singles-apart i))
 
 -- `-` is a mark
 pub minus-there : In (row (45 ∷ []) 42) singles
@@ -182,7 +182,7 @@ and-not : (a b : Bool) → (a ≡ true → b ≡ false) → (a && b) ≡ false
 and-not true b f = f refl
 and-not false b f = refl
 
-pub pair-other : (b c : ℕ) → (c ≡ 61 → ⊥) → (b ≡ 47 → c ≡ 92 → ⊥) → 3 ≡ code_of noToken pairs (b ∷ c ∷ [])
+pub pair-other : (b c : ℕ) → (c ≡ 61 → ⊥) → (b ≡ 47 → c ≡ 92 → ⊥) → 3 ≡ code_of no_token pairs (b ∷ c ∷ [])
 unfolding pairs code_of spelt
 pair-other b c h k =
     rw (

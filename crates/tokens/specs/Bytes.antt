@@ -9,27 +9,27 @@ unfoldable pub between : ℕ → ℕ → ℕ → Bool
 between low high b = cond (ltb b low) false (leb b high)
 
 -- "Space, tab, newline and carriage return."
-unfoldable pub isWhite : ℕ → Bool
-isWhite b = cond (eqb b 32) true (cond (eqb b 9) true (cond (eqb b 10) true (eqb b 13)))
+unfoldable pub is_white : ℕ → Bool
+is_white b = cond (eqb b 32) true (cond (eqb b 9) true (cond (eqb b 10) true (eqb b 13)))
 
-abbrev pub isLower : ℕ → Bool
-isLower b = between 97 122 b
+abbrev pub is_lower : ℕ → Bool
+is_lower b = between 97 122 b
 
-abbrev pub isUpper : ℕ → Bool
-isUpper b = between 65 90 b
+abbrev pub is_upper : ℕ → Bool
+is_upper b = between 65 90 b
 
-abbrev pub isDigit : ℕ → Bool
-isDigit b = between 48 57 b
+abbrev pub is_digit : ℕ → Bool
+is_digit b = between 48 57 b
 
 -- "letters, digits and `_`"
-unfoldable pub isNamed : ℕ → Bool
-isNamed b = cond (isLower b) true (cond (isUpper b) true (cond (isDigit b) true (eqb b 95)))
+unfoldable pub is_named : ℕ → Bool
+is_named b = cond (is_lower b) true (cond (is_upper b) true (cond (is_digit b) true (eqb b 95)))
 
 abbrev pub is_of : Class → ℕ → Bool
-is_of White b = isWhite b
-is_of Lower b = isLower b
-is_of Named b = isNamed b
-is_of Digit b = isDigit b
+is_of White b = is_white b
+is_of Lower b = is_lower b
+is_of Named b = is_named b
+is_of Digit b = is_digit b
 
 -- ---- runs and parts
 
@@ -40,7 +40,7 @@ run p (b ∷ s) = cond (p b) (suc (run p s)) 0
 
 -- the bytes behind white space
 unfoldable pub trimmed : List ℕ → List ℕ
-trimmed s = drop (run isWhite s) s
+trimmed s = drop (run is_white s) s
 
 -- the bytes from place on to the one before end
 abbrev pub part : List ℕ → ℕ → ℕ → List ℕ
@@ -54,5 +54,5 @@ spelt (x ∷ w) [] = false
 spelt (x ∷ w) (b ∷ s) = eqb b x && spelt w s
 
 -- the n bytes from a on and the n bytes from b on are there and the same
-unfoldable pub sameIn : List ℕ → ℕ → ℕ → ℕ → Bool
-sameIn text a b n = cond (ltb (length (take n (drop a text))) n) false (spelt (take n (drop a text)) (take n (drop b text)))
+unfoldable pub same_in : List ℕ → ℕ → ℕ → ℕ → Bool
+same_in text a b n = cond (ltb (length (take n (drop a text))) n) false (spelt (take n (drop a text)) (take n (drop b text)))

@@ -2,131 +2,131 @@
 use Rattle.std.specs.Prelude.{ℕ}
 
 -- the end of the text, a name, a number, a byte that begins no token, and what goes on past the 64 KiB
-abbrev pub endCode : ℕ
-endCode = 0
+abbrev pub end_code : ℕ
+end_code = 0
 
-abbrev pub nameCode : ℕ
-nameCode = 1
+abbrev pub name_code : ℕ
+name_code = 1
 
-abbrev pub numberCode : ℕ
-numberCode = 2
+abbrev pub number_code : ℕ
+number_code = 2
 
-abbrev pub noToken : ℕ
-noToken = 3
+abbrev pub no_token : ℕ
+no_token = 3
 
-abbrev pub tooLong : ℕ
-tooLong = 4
+abbrev pub too_long : ℕ
+too_long = 4
 
 -- the keywords, of which the last two are operators
-abbrev pub newCode : ℕ
-newCode = 10
+abbrev pub new_code : ℕ
+new_code = 10
 
-abbrev pub skipCode : ℕ
-skipCode = 11
+abbrev pub skip_code : ℕ
+skip_code = 11
 
-abbrev pub alwaysCode : ℕ
-alwaysCode = 12
+abbrev pub always_code : ℕ
+always_code = 12
 
-abbrev pub onceCode : ℕ
-onceCode = 13
+abbrev pub once_code : ℕ
+once_code = 13
 
-abbrev pub weakCode : ℕ
-weakCode = 14
+abbrev pub weak_code : ℕ
+weak_code = 14
 
-abbrev pub mediumCode : ℕ
-mediumCode = 15
+abbrev pub medium_code : ℕ
+medium_code = 15
 
-abbrev pub requiredCode : ℕ
-requiredCode = 16
+abbrev pub required_code : ℕ
+required_code = 16
 
-abbrev pub ifCode : ℕ
-ifCode = 17
+abbrev pub if_code : ℕ
+if_code = 17
 
-abbrev pub thenCode : ℕ
-thenCode = 18
+abbrev pub then_code : ℕ
+then_code = 18
 
-abbrev pub elseCode : ℕ
-elseCode = 19
+abbrev pub else_code : ℕ
+else_code = 19
 
-abbrev pub whileCode : ℕ
-whileCode = 20
+abbrev pub while_code : ℕ
+while_code = 20
 
-abbrev pub doCode : ℕ
-doCode = 21
+abbrev pub do_code : ℕ
+do_code = 21
 
-abbrev pub trueCode : ℕ
-trueCode = 22
+abbrev pub true_code : ℕ
+true_code = 22
 
-abbrev pub falseCode : ℕ
-falseCode = 23
+abbrev pub false_code : ℕ
+false_code = 23
 
-abbrev pub nilCode : ℕ
-nilCode = 24
+abbrev pub nil_code : ℕ
+nil_code = 24
 
-abbrev pub andCode : ℕ
-andCode = 50
+abbrev pub and_code : ℕ
+and_code = 50
 
-abbrev pub orCode : ℕ
-orCode = 51
+abbrev pub or_code : ℕ
+or_code = 51
 
 -- `:= : , . ; { } ( ) == /\`
-abbrev pub becomesCode : ℕ
-becomesCode = 30
+abbrev pub becomes_code : ℕ
+becomes_code = 30
 
-abbrev pub colonCode : ℕ
-colonCode = 31
+abbrev pub colon_code : ℕ
+colon_code = 31
 
-abbrev pub commaCode : ℕ
-commaCode = 32
+abbrev pub comma_code : ℕ
+comma_code = 32
 
-abbrev pub dotCode : ℕ
-dotCode = 33
+abbrev pub dot_code : ℕ
+dot_code = 33
 
-abbrev pub semicolonCode : ℕ
-semicolonCode = 34
+abbrev pub semicolon_code : ℕ
+semicolon_code = 34
 
-abbrev pub openBraceCode : ℕ
-openBraceCode = 35
+abbrev pub open_brace_code : ℕ
+open_brace_code = 35
 
-abbrev pub closeBraceCode : ℕ
-closeBraceCode = 36
+abbrev pub close_brace_code : ℕ
+close_brace_code = 36
 
-abbrev pub openBracketCode : ℕ
-openBracketCode = 37
+abbrev pub open_bracket_code : ℕ
+open_bracket_code = 37
 
-abbrev pub closeBracketCode : ℕ
-closeBracketCode = 38
+abbrev pub close_bracket_code : ℕ
+close_bracket_code = 38
 
-abbrev pub identicalCode : ℕ
-identicalCode = 39
+abbrev pub identical_code : ℕ
+identical_code = 39
 
-abbrev pub besideCode : ℕ
-besideCode = 40
+abbrev pub beside_code : ℕ
+beside_code = 40
 
 -- `+ - * < <= = != >= >`: 40 and the operator's number in document 01
-abbrev pub plusCode : ℕ
-plusCode = 41
+abbrev pub plus_code : ℕ
+plus_code = 41
 
-abbrev pub minusCode : ℕ
-minusCode = 42
+abbrev pub minus_code : ℕ
+minus_code = 42
 
-abbrev pub timesCode : ℕ
-timesCode = 43
+abbrev pub times_code : ℕ
+times_code = 43
 
-abbrev pub belowCode : ℕ
-belowCode = 44
+abbrev pub below_code : ℕ
+below_code = 44
 
-abbrev pub atMostCode : ℕ
-atMostCode = 45
+abbrev pub at_most_code : ℕ
+at_most_code = 45
 
-abbrev pub equalCode : ℕ
-equalCode = 46
+abbrev pub equal_code : ℕ
+equal_code = 46
 
-abbrev pub unequalCode : ℕ
-unequalCode = 47
+abbrev pub unequal_code : ℕ
+unequal_code = 47
 
-abbrev pub atLeastCode : ℕ
-atLeastCode = 48
+abbrev pub at_least_code : ℕ
+at_least_code = 48
 
-abbrev pub aboveCode : ℕ
-aboveCode = 49
+abbrev pub above_code : ℕ
+above_code = 49

@@ -4,21 +4,21 @@ use Rattle.words.specs.declared.Ranged.{Ranged}
 use Rattle.words.specs.Range.{ranged}
 
 -- the digit that a byte is; 0 where it is none
-unfoldable pub digitOf : ℕ → ℕ
-digitOf b = cond (ltb b 48) 0 (cond (ltb 57 b) 0 (b - 48))
+unfoldable pub digit_of : ℕ → ℕ
+digit_of b = cond (ltb b 48) 0 (cond (ltb 57 b) 0 (b - 48))
 
 -- the number n with the digits of a text behind it
-unfoldable pub digitsFrom : ℕ → List ℕ → ℕ
-digitsFrom n [] = n
-digitsFrom n (b ∷ s) = digitsFrom (10 * n + digitOf b) s
+unfoldable pub digits_from : ℕ → List ℕ → ℕ
+digits_from n [] = n
+digits_from n (b ∷ s) = digits_from (10 * n + digit_of b) s
 
 -- what is greater than every word without its sign, as the first such number
 unfoldable pub capped : ℕ → ℕ
 capped n = cond (ltb 2147483648 n) 2147483649 n
 
-unfoldable pub integerOf : List ℕ → ℤ
-integerOf s = cond (eqb (get_or s 0 0) 45) (neg_ℤ (pos (digitsFrom 0 (drop 1 s)))) (pos (digitsFrom 0 s))
+unfoldable pub integer_of : List ℕ → ℤ
+integer_of s = cond (eqb (get_or s 0 0) 45) (neg_ℤ (pos (digits_from 0 (drop 1 s)))) (pos (digits_from 0 s))
 
 -- "a number outside 32 bits (its sign counts)"
 unfoldable pub value_of : List ℕ → Ranged
-value_of s = ranged (integerOf s)
+value_of s = ranged (integer_of s)

@@ -1,6 +1,6 @@
 // Classes, runs and parts of bytes.
 ghost use Rattle.std.specs.Prelude.{◌≡◌, get_or};
-ghost use Rattle.tokens.specs.Bytes.{between, isWhite, isNamed, is_of, run, trimmed, spelt, sameIn};
+ghost use Rattle.tokens.specs.Bytes.{between, is_white, is_named, is_of, run, trimmed, spelt, same_in};
 
 use crate::Class;
 use words::{bytes_from, bytes_to};
@@ -22,7 +22,7 @@ fn is_between(low: u8, high: u8, b: u8) -> bool
 }
 
 fn is_white(b: u8) -> bool
-    ensures { result ≡ isWhite b }
+    ensures { result ≡ is_white b }
 {
     if b == b' ' {
         return true;
@@ -38,7 +38,7 @@ fn is_white(b: u8) -> bool
 
 // Letters, digits and `_`.
 fn is_named(b: u8) -> bool
-    ensures { result ≡ isNamed b }
+    ensures { result ≡ is_named b }
 {
     if is_between(b'a', b'z', b) {
         return true;
@@ -103,7 +103,7 @@ pub fn spells(s: &[u8], word: &[u8]) -> bool
 
 // The n bytes from a on and the n bytes from b on are there and the same.
 pub fn same(text: &[u8], a: usize, b: usize, n: usize) -> bool
-    ensures { result ≡ sameIn text.now a b n }
+    ensures { result ≡ same_in text.now a b n }
 {
     let first = bytes_to(bytes_from(text, a), n);
     if first.len() < n {

@@ -2,7 +2,7 @@
 ghost use Rattle.std.specs.Prelude.{◌≡◌, pos, neg_ℤ};
 ghost use Rattle.words.specs.Range.{ranged};
 ghost use Rattle.tokens.specs.Bytes.{part};
-ghost use Rattle.tokens.specs.Numbers.{digitOf, digitsFrom, capped, value_of};
+ghost use Rattle.tokens.specs.Numbers.{digit_of, digits_from, capped, value_of};
 
 use super::bytes::byte;
 use words::{Ranged, bytes_from, bytes_to};
@@ -14,7 +14,7 @@ const TOO_GREAT: usize = 2147483649;
 
 // The digit that a byte is; 0 where it is none.
 fn digit(b: u8) -> usize
-    ensures { result ≡ digitOf b }
+    ensures { result ≡ digit_of b }
 {
     if b < 48 {
         return 0;
@@ -27,7 +27,7 @@ fn digit(b: u8) -> usize
 
 // The number of a row of digits, TOO_GREAT where it passes GREATEST.
 fn digits(s: &[u8]) -> usize
-    ensures { result ≡ capped (digitsFrom 0 s.now) }
+    ensures { result ≡ capped (digits_from 0 s.now) }
 {
     let mut n: usize = 0;
     let mut i: usize = 0;

@@ -1,6 +1,6 @@
 // The token that begins at a byte.
 ghost use Rattle.std.specs.Prelude.{◌≡◌, get_or, drop};
-ghost use Rattle.tokens.specs.Tokens.{nameLength, name_at, singleAt, markAt, signs, tokenAt, tokenFrom};
+ghost use Rattle.tokens.specs.Tokens.{name_length, name_at, single_at, mark_at, signs, token_at, token_from};
 
 use super::bytes::{behind_white, byte, is_of, run};
 use super::spelling::{keyword, pair, single};
@@ -9,7 +9,7 @@ use words::{bytes_from, bytes_to};
 
 // How many bytes a name has, with its `?`.
 fn name_length(s: &[u8]) -> usize
-    ensures { result ≡ nameLength s.now }
+    ensures { result ≡ name_length s.now }
 {
     let n = run(s, Class::Named);
     if byte(s, n) == b'?' {
@@ -30,7 +30,7 @@ fn name(s: &[u8]) -> Piece
 }
 
 fn single_mark(b: u8) -> Piece
-    ensures { result ≡ singleAt b }
+    ensures { result ≡ single_at b }
 {
     Piece {
         code: single(b),
@@ -40,7 +40,7 @@ fn single_mark(b: u8) -> Piece
 
 // A mark, the longest that fits.
 fn mark(s: &[u8]) -> Piece
-    ensures { result ≡ markAt (get_or s.now 0 0) (drop 1 s.now) }
+    ensures { result ≡ mark_at (get_or s.now 0 0) (drop 1 s.now) }
 {
     let b = byte(s, 0);
     if s.len() < 2 {
@@ -71,7 +71,7 @@ fn is_signed(s: &[u8], due: bool) -> bool
 
 // The token that the bytes begin with.
 fn first(s: &[u8], due: bool) -> Piece
-    ensures { result ≡ tokenAt due s.now }
+    ensures { result ≡ token_at due s.now }
 {
     if s.len() == 0 {
         return Piece {
@@ -99,7 +99,7 @@ fn first(s: &[u8], due: bool) -> Piece
 
 // The first token from a byte on. Where an operand is due, a `-` before a digit belongs to the number.
 pub fn token(text: &[u8], at: usize, due: bool) -> Token
-    ensures { result ≡ tokenFrom due text.now at }
+    ensures { result ≡ token_from due text.now at }
 {
     let rest = behind_white(bytes_from(text, at));
     let piece = first(rest, due);

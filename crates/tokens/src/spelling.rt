@@ -1,13 +1,13 @@
 // The codes of keywords and marks, by their spelling.
 ghost use Rattle.std.specs.Prelude.{◌≡◌, ◌∷◌, []};
-ghost use Rattle.tokens.specs.Codes.{nameCode, noToken};
-ghost use Rattle.tokens.specs.Spelling.{code_of, keywords, laterKeywords, pairs, singles};
+ghost use Rattle.tokens.specs.Codes.{name_code, no_token};
+ghost use Rattle.tokens.specs.Spelling.{code_of, keywords, later_keywords, pairs, singles};
 
 use super::bytes::spells;
 
 // The code of a keyword, NAME where the word is none.
 pub fn keyword(word: &[u8]) -> usize
-    ensures { result ≡ code_of nameCode keywords word.now }
+    ensures { result ≡ code_of name_code keywords word.now }
 {
     if spells(word, b"new") {
         return crate::NEW;
@@ -37,7 +37,7 @@ pub fn keyword(word: &[u8]) -> usize
 }
 
 fn later_keyword(word: &[u8]) -> usize
-    ensures { result ≡ code_of nameCode laterKeywords word.now }
+    ensures { result ≡ code_of name_code later_keywords word.now }
 {
     if spells(word, b"then") {
         return crate::THEN;
@@ -71,7 +71,7 @@ fn later_keyword(word: &[u8]) -> usize
 
 // The code of a mark of two bytes of which the second is `=`.
 fn with_equals(b: u8) -> usize
-    ensures { result ≡ code_of noToken pairs (b ∷ 61 ∷ []) }
+    ensures { result ≡ code_of no_token pairs (b ∷ 61 ∷ []) }
 {
     match b {
         b':' => crate::BECOMES,
@@ -85,7 +85,7 @@ fn with_equals(b: u8) -> usize
 
 // The code of a mark of two bytes, NO_TOKEN where they are none.
 pub fn pair(b: u8, c: u8) -> usize
-    ensures { result ≡ code_of noToken pairs (b ∷ c ∷ []) }
+    ensures { result ≡ code_of no_token pairs (b ∷ c ∷ []) }
 {
     if c == b'=' {
         return with_equals(b);
@@ -101,7 +101,7 @@ pub fn pair(b: u8, c: u8) -> usize
 
 // The code of a mark of one byte, NO_TOKEN where it is none.
 pub fn single(b: u8) -> usize
-    ensures { result ≡ code_of noToken singles (b ∷ []) }
+    ensures { result ≡ code_of no_token singles (b ∷ []) }
 {
     match b {
         b':' => crate::COLON,

@@ -1,30 +1,30 @@
 -- The program of a sheet, typed: the text's reading, the program's text with default names, and a newline. Assumes nothing: these are definitions.
 use Rattle.std.specs.Prelude.{ℕ, cond, List, [], ◌∷◌, ◌++◌, eqb, ℤ, pos, take, replicate}
-use Rattle.words.specs.Words.{numberAt}
-use Rattle.tokens.specs.Tokens.{mostBytes}
+use Rattle.words.specs.Words.{number_at}
+use Rattle.tokens.specs.Tokens.{most_bytes}
 use Rattle.lister.specs.declared.Input.{Input}
 use Rattle.lister.specs.declared.Input.TheVariants.{Reads, Unfit}
-use Rattle.lister.specs.Reading.{Given, inputIn}
-use Rattle.lister.specs.Listing.{namedLine, outcomeName, placeName, unfitText}
+use Rattle.lister.specs.Reading.{Given, input_in}
+use Rattle.lister.specs.Listing.{named_line, outcome_name, place_name, unfit_text}
 use Rattle.printing.specs.Whole.{Answered, write}
 
 -- `outcome=` and `place=`, each on its line
-abbrev pub refusedText : ℕ → ℕ → List ℕ
-refusedText outcome place = namedLine outcomeName outcome ++ namedLine placeName place
+abbrev pub refused_text : ℕ → ℕ → List ℕ
+refused_text outcome place = named_line outcome_name outcome ++ named_line place_name place
 
 -- what was written and a newline, or the refusal
-abbrev pub answeredText : Answered → List ℕ
-answeredText a = cond (eqb (numberAt a.answer 0) 0) (take a.bytes a.text ++ 10 ∷ []) (refusedText (numberAt a.answer 0) (numberAt a.answer 1))
+abbrev pub answered_text : Answered → List ℕ
+answered_text a = cond (eqb (number_at a.answer 0) 0) (take a.bytes a.text ++ 10 ∷ []) (refused_text (number_at a.answer 0) (number_at a.answer 1))
 
 -- no name is given, and there is room for the longest text
-unfoldable pub programTyped : List ℤ → List ℕ
-programTyped p = answeredText (write p [] (replicate 192 (pos 0)) (replicate mostBytes 0))
+unfoldable pub program_typed : List ℤ → List ℕ
+program_typed p = answered_text (write p [] (replicate 192 (pos 0)) (replicate most_bytes 0))
 
 -- the program of a text that reads is typed; of another its first unfit line is told
-abbrev pub typedBy : Given → Input → List ℕ
-typedBy g (Reads n m budget) = programTyped g.program
-typedBy g (Unfit line) = unfitText line
+abbrev pub typed_by : Given → Input → List ℕ
+typed_by g (Reads n m budget) = program_typed g.program
+typed_by g (Unfit line) = unfit_text line
 
 -- the whole output for a text
-unfoldable pub typedTo : List ℕ → List ℕ
-typedTo t = typedBy (inputIn t) (inputIn t).answer
+unfoldable pub typed_to : List ℕ → List ℕ
+typed_to t = typed_by (input_in t) (input_in t).answer

@@ -1,13 +1,13 @@
 // The program of a sheet in the papers' notation: the text of the sheet's three lines comes in, the program's text goes out. Nothing here asks anything of its caller.
 ghost use Rattle.lister.specs.Bytes.{Puts};
 ghost use Rattle.lister.specs.Listing.{Listed};
-ghost use Rattle.typed.specs.Typing.{refusedText, programTyped, typedTo};
+ghost use Rattle.typed.specs.Typing.{refused_text, program_typed, typed_to};
 
 use lister::Input;
 
 // A refusal: its number and its place.
 fn put_refusal(out: &mut [u8], outcome: usize, place: usize) -> usize
-    ensures { Puts out.old 0 (refusedText outcome place) out.new result }
+    ensures { Puts out.old 0 (refused_text outcome place) out.new result }
 {
     let to = lister::listing::put_named(out, 0, b"outcome=", outcome);
     lister::listing::put_named(out, to, b"place=", place)
@@ -15,7 +15,7 @@ fn put_refusal(out: &mut [u8], outcome: usize, place: usize) -> usize
 
 // A program with default names, and a newline; or its refusal.
 fn type_program(program: &[i32], out: &mut [u8]) -> usize
-    ensures { Puts out.old 0 (programTyped program.now) out.new result }
+    ensures { Puts out.old 0 (program_typed program.now) out.new result }
 {
     let names = [0i32; text::NAME_WORDS];
     let nothing = [0u8; 0];
@@ -32,7 +32,7 @@ fn type_program(program: &[i32], out: &mut [u8]) -> usize
 
 // The whole output for a text: how many bytes were written. TYPED_BYTES are enough for every output.
 pub fn typed_text(text: &[u8], out: &mut [u8]) -> usize
-    ensures { Listed (typedTo text.now) out.old out.new result }
+    ensures { Listed (typed_to text.now) out.old out.new result }
 {
     let mut program = [0i32; lister::MOST_NUMBERS];
     let mut proposals = [0i32; lister::MOST_NUMBERS];

@@ -14,7 +14,7 @@ use lib.Dec.{eqb}
 use lib.ListN.{length, get_or, set, replicate, length-set, length-replicate, get_or-replicate, get_or-eq_default}
 use lib.Pow.{pow-lt, pow_pos, pow-add, shl_exact, shl-shr, shr_lt, shr-shr}
 use lib.Seq.{get_or-set_same, get_or-set_other, set_out}
-use Rattle.words.specs.Bits.{marked, withMark, firstMarked, nextMarked, markedFrom}
+use Rattle.words.specs.Bits.{marked, with_mark, first_marked, next_marked, marked_from}
 
 -- ---- a mark is set
 
@@ -22,12 +22,12 @@ use Rattle.words.specs.Bits.{marked, withMark, firstMarked, nextMarked, markedFr
 pub one_shifted : (k : ℕ) → k < 64 → 1 * 2 ^ k % 18446744073709551616 ≡ 2 ^ k
 one_shifted k h = shl_exact {a = 1} 1 k 64 (omega arith) (omega arith) ∙ one-mul (2 ^ k)
 
-pub mark-past : (s : List ℕ) (l : ℕ) → length s ≤ l / 64 → s ≡ withMark s l
-unfolding withMark
+pub mark-past : (s : List ℕ) (l : ℕ) → length s ≤ l / 64 → s ≡ with_mark s l
+unfolding with_mark
 mark-past s l h = sym (set_out s (l / 64) (bit_or (get_or s (l / 64) 0) (2 ^ (l % 64))) h)
 
-pub mark-length : (s : List ℕ) (l : ℕ) → length (withMark s l) ≡ length s
-unfolding withMark
+pub mark-length : (s : List ℕ) (l : ℕ) → length (with_mark s l) ≡ length s
+unfolding with_mark
 mark-length s l = length-set s (l / 64) (bit_or (get_or s (l / 64) 0) (2 ^ (l % 64)))
 
 -- the bit a of a power of two is set where that is its exponent
@@ -53,8 +53,8 @@ or-one (suc zero) h = refl
 or-one (suc (suc d)) h = let z : ⊥ = omega arith in absurd z
 
 -- the other marks stay
-pub mark-is : (s : List ℕ) (l k : ℕ) → k < 64 * length s → marked (withMark s l) k ≡ (eqb k l || marked s k)
-unfolding marked withMark
+pub mark-is : (s : List ℕ) (l k : ℕ) → k < 64 * length s → marked (with_mark s l) k ≡ (eqb k l || marked s k)
+unfolding marked with_mark
 mark-is s l k h = go (ℕ_discrete (k / 64) (l / 64)) (ℕ_discrete (k % 64) (l % 64))
   where
     new : ℕ
@@ -101,55 +101,55 @@ marked-past s l h = sym (past-marked s l (omega arith))
 -- ---- the first mark of n numbers
 
 module _ (s : List ℕ) where
-  first-here : (l n : ℕ) → marked s l ≡ true → firstMarked s l (suc n) ≡ l
-  unfolding firstMarked
+  first-here : (l n : ℕ) → marked s l ≡ true → first_marked s l (suc n) ≡ l
+  unfolding first_marked
   first-here l n h = rw h
 
-  first_on : (l n : ℕ) → marked s l ≡ false → firstMarked s l (suc n) ≡ firstMarked s (suc l) n
-  unfolding firstMarked
+  first_on : (l n : ℕ) → marked s l ≡ false → first_marked s l (suc n) ≡ first_marked s (suc l) n
+  unfolding first_marked
   first_on l n h = rw h
 
-  first-least : (l n : ℕ) → l ≤ firstMarked s l n
-  unfolding firstMarked
+  first-least : (l n : ℕ) → l ≤ first_marked s l n
+  unfolding first_marked
   first-least l zero = le_refl l
   first-least l (suc n) = go (marked s l) (first-least (suc l) n)
     where
-      go : (b : Bool) → suc l ≤ firstMarked s (suc l) n → l ≤ cond b l (firstMarked s (suc l) n)
+      go : (b : Bool) → suc l ≤ first_marked s (suc l) n → l ≤ cond b l (first_marked s (suc l) n)
       go true h = le_refl l
       go false h = omega arith
 
-  first-most : (l n : ℕ) → firstMarked s l n ≤ l + n
-  unfolding firstMarked
+  first-most : (l n : ℕ) → first_marked s l n ≤ l + n
+  unfolding first_marked
   first-most l zero = omega arith
   first-most l (suc n) = go (marked s l) (first-most (suc l) n)
     where
-      go : (b : Bool) → firstMarked s (suc l) n ≤ suc l + n → cond b l (firstMarked s (suc l) n) ≤ l + suc n
+      go : (b : Bool) → first_marked s (suc l) n ≤ suc l + n → cond b l (first_marked s (suc l) n) ≤ l + suc n
       go true h = omega arith
       go false h = omega arith
 
-  first-marked : (l n : ℕ) → firstMarked s l n < l + n → marked s (firstMarked s l n) ≡ true
-  unfolding firstMarked
+  first-marked : (l n : ℕ) → first_marked s l n < l + n → marked s (first_marked s l n) ≡ true
+  unfolding first_marked
   first-marked l zero h = let z : ⊥ = omega arith in absurd z
   first-marked l (suc n) h = go (marked s l) refl (first-marked (suc l) n) h
     where
-      go : (b : Bool) → marked s l ≡ b → (firstMarked s (suc l) n < suc l + n → marked s (firstMarked s (suc l) n) ≡ true)
-          → cond b l (firstMarked s (suc l) n) < l + suc n → marked s (cond b l (firstMarked s (suc l) n)) ≡ true
+      go : (b : Bool) → marked s l ≡ b → (first_marked s (suc l) n < suc l + n → marked s (first_marked s (suc l) n) ≡ true)
+          → cond b l (first_marked s (suc l) n) < l + suc n → marked s (cond b l (first_marked s (suc l) n)) ≡ true
       go true e r g = e
       go false e r g = r (omega arith)
 
   -- no mark is passed over
-  first-from : (l n : ℕ) → markedFrom s (firstMarked s l n) (l + n - firstMarked s l n) ≡ markedFrom s l n
-  unfolding firstMarked markedFrom
+  first-from : (l n : ℕ) → marked_from s (first_marked s l n) (l + n - first_marked s l n) ≡ marked_from s l n
+  unfolding first_marked marked_from
   first-from l zero = let e : l + 0 - l ≡ 0 = omega arith in rw e
   first-from l (suc n) = go (marked s l) refl (first-from (suc l) n)
     where
-      go : (b : Bool) → marked s l ≡ b → markedFrom s (firstMarked s (suc l) n) (suc l + n - firstMarked s (suc l) n) ≡ markedFrom s (suc l) n
-          → markedFrom s (cond b l (firstMarked s (suc l) n)) (l + suc n - cond b l (firstMarked s (suc l) n)) ≡ cond b (l ∷ markedFrom s (suc l) n) (markedFrom s (suc l) n)
+      go : (b : Bool) → marked s l ≡ b → marked_from s (first_marked s (suc l) n) (suc l + n - first_marked s (suc l) n) ≡ marked_from s (suc l) n
+          → marked_from s (cond b l (first_marked s (suc l) n)) (l + suc n - cond b l (first_marked s (suc l) n)) ≡ cond b (l ∷ marked_from s (suc l) n) (marked_from s (suc l) n)
       go true e r = let q : l + suc n - l ≡ suc n = omega arith in rw (q, e)
       go false e r = let q : l + suc n ≡ suc l + n = omega arith in rw q r
 
   -- numbers with no mark are passed over
-  first-skip : (l j n : ℕ) → ((k : ℕ) → k < j → marked s (l + k) ≡ false) → firstMarked s l (j + n) ≡ firstMarked s (l + j) n
+  first-skip : (l j n : ℕ) → ((k : ℕ) → k < j → marked s (l + k) ≡ false) → first_marked s l (j + n) ≡ first_marked s (l + j) n
   first-skip l zero n h = let e : l + 0 ≡ l = omega arith in let q : 0 + n ≡ n = omega arith in rw (e, q)
   first-skip l (suc j) n h =
       let e : l + suc j ≡ suc l + j = omega arith in
@@ -160,34 +160,34 @@ module _ (s : List ℕ) where
 
   -- ---- the first mark to the end
 
-  pub next-least : (l : ℕ) → l ≤ nextMarked s l
+  pub next-least : (l : ℕ) → l ≤ next_marked s l
   next-least l = first-least l (64 * length s - l)
 
-  pub next-most : (l : ℕ) → l ≤ 64 * length s → nextMarked s l ≤ 64 * length s
+  pub next-most : (l : ℕ) → l ≤ 64 * length s → next_marked s l ≤ 64 * length s
   next-most l h = omega (arith, first-most l (64 * length s - l))
 
-  pub next-marked : (l : ℕ) → nextMarked s l < 64 * length s → marked s (nextMarked s l) ≡ true
+  pub next-marked : (l : ℕ) → next_marked s l < 64 * length s → marked s (next_marked s l) ≡ true
   next-marked l h = first-marked l (64 * length s - l) (omega arith)
 
-  pub next-from : (l : ℕ) → l ≤ 64 * length s → markedFrom s (nextMarked s l) (64 * length s - nextMarked s l) ≡ markedFrom s l (64 * length s - l)
+  pub next-from : (l : ℕ) → l ≤ 64 * length s → marked_from s (next_marked s l) (64 * length s - next_marked s l) ≡ marked_from s l (64 * length s - l)
   next-from l h =
       let e : l + (64 * length s - l) ≡ 64 * length s = omega arith in
-      ap (λ (x : ℕ). markedFrom s (nextMarked s l) (x - nextMarked s l)) (sym e) ∙ first-from l (64 * length s - l)
+      ap (λ (x : ℕ). marked_from s (next_marked s l) (x - next_marked s l)) (sym e) ∙ first-from l (64 * length s - l)
 
   -- ---- the marked numbers
 
-  pub from_zero : (l : ℕ) → markedFrom s l zero ≡ []
-  unfolding markedFrom
+  pub from_zero : (l : ℕ) → marked_from s l zero ≡ []
+  unfolding marked_from
   from_zero l = refl
 
-  pub from_suc : (l n : ℕ) → markedFrom s l (suc n) ≡ cond (marked s l) (l ∷ markedFrom s (suc l) n) (markedFrom s (suc l) n)
-  unfolding markedFrom
+  pub from_suc : (l n : ℕ) → marked_from s l (suc n) ≡ cond (marked s l) (l ∷ marked_from s (suc l) n) (marked_from s (suc l) n)
+  unfolding marked_from
   from_suc l n = refl
 
-  pub from-none : (l e : ℕ) → e ≤ l → markedFrom s l (e - l) ≡ []
+  pub from-none : (l e : ℕ) → e ≤ l → marked_from s l (e - l) ≡ []
   from-none l e h = let q : e - l ≡ 0 = omega arith in rw q (from_zero l)
 
-  pub from_more : (l e : ℕ) → l < e → marked s l ≡ true → markedFrom s l (e - l) ≡ l ∷ markedFrom s (l + 1) (e - (l + 1))
+  pub from_more : (l e : ℕ) → l < e → marked s l ≡ true → marked_from s l (e - l) ≡ l ∷ marked_from s (l + 1) (e - (l + 1))
   from_more l e h m =
       let q : e - l ≡ suc (e - (l + 1)) = omega arith in
       rw (q, add-one l, from_suc l (e - suc l), m)
@@ -239,8 +239,8 @@ module _ (s : List ℕ) where
       let a : (l + j) / 64 ≡ l / 64 = omega arith in
       let b : (l + j) % 64 ≡ l % 64 + j = omega arith in rw (a, b, shr-shr (get_or s (l / 64) 0) (l % 64) j)
 
-  pub next_past : (l : ℕ) → length s ≤ l / 64 → l ≡ nextMarked s l
-  unfolding firstMarked
+  pub next_past : (l : ℕ) → length s ≤ l / 64 → l ≡ next_marked s l
+  unfolding first_marked
   next_past l h = let e : 64 * length s - l ≡ 0 = omega arith in rw e
 
   module _ (l : ℕ) (inside : l / 64 < length s) where
@@ -251,24 +251,24 @@ module _ (s : List ℕ) where
         trailing_lt 64 (64 - l % 64) (get_or s (l / 64) 0 / 2 ^ (l % 64)) (omega arith) (shr_lt (64 - l % 64) (l % 64) (rw e w)) n
 
     pub next-in : get_or s (l / 64) 0 < 2 ^ 64 → (get_or s (l / 64) 0 / 2 ^ (l % 64) ≡ 0 → ⊥)
-        → l + count_trailing_zeros 64 (get_or s (l / 64) 0 / 2 ^ (l % 64)) ≡ nextMarked s l
+        → l + count_trailing_zeros 64 (get_or s (l / 64) 0 / 2 ^ (l % 64)) ≡ next_marked s l
     next-in w n = go (count_trailing_zeros 64 (get_or s (l / 64) 0 / 2 ^ (l % 64))) (rest_lt w n) (trailing_below 64 (get_or s (l / 64) 0 / 2 ^ (l % 64))) (trailing_at 64 (get_or s (l / 64) 0 / 2 ^ (l % 64)))
       where
         go : (t : ℕ) → t < 64 - l % 64 → ((j : ℕ) → j < t → get_or s (l / 64) 0 / 2 ^ (l % 64) / 2 ^ j % 2 ≡ 0)
-            → (t < 64 → get_or s (l / 64) 0 / 2 ^ (l % 64) / 2 ^ t % 2 ≡ 1) → l + t ≡ nextMarked s l
+            → (t < 64 → get_or s (l / 64) 0 / 2 ^ (l % 64) / 2 ^ t % 2 ≡ 1) → l + t ≡ next_marked s l
         go t h below here =
             let e : 64 * length s - l ≡ t + suc (64 * length s - l - suc t) = omega arith in
             rw e (sym (first-skip s l t (suc (64 * length s - l - suc t)) (λ k g. marked-in l k (omega arith) ∙ ap (λ (x : ℕ). eqb x 1) (below k g))
             ∙ first-here s (l + t) (64 * length s - l - suc t) (marked-in l t (omega arith) ∙ ap (λ (x : ℕ). eqb x 1) (here (omega arith)))))
 
     -- where the rest of the word has no bit, the next word is as good a start
-    pub next-on : get_or s (l / 64) 0 / 2 ^ (l % 64) ≡ 0 → nextMarked s (64 * (l / 64 + 1)) ≡ nextMarked s l
+    pub next-on : get_or s (l / 64) 0 / 2 ^ (l % 64) ≡ 0 → next_marked s (64 * (l / 64 + 1)) ≡ next_marked s l
     next-on z =
         let e : 64 * length s - l ≡ 64 - l % 64 + (64 * length s - 64 * (l / 64 + 1)) = omega arith in
         let q : l + (64 - l % 64) ≡ 64 * (l / 64 + 1) = omega arith in
-        sym (ap (firstMarked s l) e
+        sym (ap (first_marked s l) e
         ∙ first-skip s l (64 - l % 64) (64 * length s - 64 * (l / 64 + 1)) (λ k g. marked-in l k (omega arith) ∙ ap (λ (x : ℕ). eqb (x / 2 ^ k % 2) 1) z ∙ none_in k)
-        ∙ ap (λ (x : ℕ). firstMarked s x (64 * length s - 64 * (l / 64 + 1))) q)
+        ∙ ap (λ (x : ℕ). first_marked s x (64 * length s - 64 * (l / 64 + 1))) q)
 
   -- the same for a whole word
   module _ (i : ℕ) (inside : i < length s) where
@@ -281,8 +281,8 @@ module _ (s : List ℕ) where
     pub word_lt : get_or s i 0 < 2 ^ 64 → (get_or s i 0 ≡ 0 → ⊥) → count_trailing_zeros 64 (get_or s i 0) < 64
     word_lt w n = trailing_lt 64 64 (get_or s i 0) (omega arith) w n
 
-    pub word_in : get_or s i 0 < 2 ^ 64 → (get_or s i 0 ≡ 0 → ⊥) → 64 * i + count_trailing_zeros 64 (get_or s i 0) ≡ nextMarked s (64 * i)
+    pub word_in : get_or s i 0 < 2 ^ 64 → (get_or s i 0 ≡ 0 → ⊥) → 64 * i + count_trailing_zeros 64 (get_or s i 0) ≡ next_marked s (64 * i)
     word_in w n = rw all at (next-in (64 * i) (omega arith) (rw whole w) (λ z. n (sym all ∙ z)))
 
-    pub word_on : get_or s i 0 ≡ 0 → nextMarked s (64 * (i + 1)) ≡ nextMarked s (64 * i)
+    pub word_on : get_or s i 0 ≡ 0 → next_marked s (64 * (i + 1)) ≡ next_marked s (64 * i)
     word_on z = rw whole at (next-on (64 * i) (omega arith) (all ∙ z))

@@ -12,7 +12,7 @@ use lib.Signed.{mag, lt_z, non_neg}
 use mir.Syntax.{w32, w64}
 use mir.Val.{Fits, SFits, to_z, of_z}
 use mir.Facts.{to_z-of_z, sfits_widen}
-use Rattle.words.specs.Words.{eqZ, number_of, numberAt}
+use Rattle.words.specs.Words.{eq_z, number_of, number_at}
 use Rattle.words.specs.Range.{fits, ranged}
 use Rattle.words.specs.declared.Ranged.TheVariants.{Within, Outside}
 use Rattle.words.proofs.Laws.{number_in}
@@ -97,7 +97,7 @@ bits-differ : (a b : ℕ) (t : Bool) → eqb a b ≡ t → a < 2 ^ 31 → b < 2 
 bits-differ a b true e f g = let k : a ≡ b = eqb-true a b e in eq-eqb (2 ^ 32 - suc a) (2 ^ 32 - suc b) (omega arith)
 bits-differ a b false e f g = ne_eqb (2 ^ 32 - suc a) (2 ^ 32 - suc b) (λ q. eqb-false a b e (omega arith))
 
-pub same_bits : (a b : ℤ) → SFits w32 a → SFits w32 b → eqb (of_z w32 a) (of_z w32 b) ≡ eqZ a b
+pub same_bits : (a b : ℤ) → SFits w32 a → SFits w32 b → eqb (of_z w32 a) (of_z w32 b) ≡ eq_z a b
 same_bits (pos a) (pos b) f g = refl
 same_bits (pos a) (negsuc b) f g = ne_eqb a (2 ^ 32 - suc b) (λ q. omega (arith, f.sfits, g.sfits))
 same_bits (negsuc a) (pos b) f g = ne_eqb (2 ^ 32 - suc a) b (λ q. omega (arith, f.sfits, g.sfits))
@@ -127,5 +127,5 @@ module _ (z : ℤ) (f : SFits w32 z) where
       is (negsuc n) h = cc
 
 -- an element that was read and is passed on is `to_z w32 (of_z w32 z)`
-pub number_read : (p : List ℤ) (k : ℕ) → k < length p → mag (get_or p k (pos 0)) < 2147483648 → number_of (to_z w32 (of_z w32 (get_or p k (pos 0)))) ≡ numberAt p k
+pub number_read : (p : List ℤ) (k : ℕ) → k < length p → mag (get_or p k (pos 0)) < 2147483648 → number_of (to_z w32 (of_z w32 (get_or p k (pos 0)))) ≡ number_at p k
 number_read p k h m = rw (back32 (get_or p k (pos 0)) (record { sfits = m })) (number_in p k (pos 0) h)

@@ -7,19 +7,19 @@ unfoldable pub marked : List ℕ → ℕ → Bool
 marked s l = eqb (get_or s (l / 64) 0 / 2 ^ (l % 64) % 2) 1
 
 -- the marks with that of l; past the end they stay as they are
-unfoldable pub withMark : List ℕ → ℕ → List ℕ
-withMark s l = set s (l / 64) (bit_or (get_or s (l / 64) 0) (2 ^ (l % 64)))
+unfoldable pub with_mark : List ℕ → ℕ → List ℕ
+with_mark s l = set s (l / 64) (bit_or (get_or s (l / 64) 0) (2 ^ (l % 64)))
 
 -- the first marked number of n from l on; the one after them where none is
-unfoldable pub firstMarked : List ℕ → ℕ → ℕ → ℕ
-firstMarked s l zero = l
-firstMarked s l (suc n) = cond (marked s l) l (firstMarked s (suc l) n)
+unfoldable pub first_marked : List ℕ → ℕ → ℕ → ℕ
+first_marked s l zero = l
+first_marked s l (suc n) = cond (marked s l) l (first_marked s (suc l) n)
 
 -- the first marked number from l on; where none is, the first past the end
-abbrev pub nextMarked : List ℕ → ℕ → ℕ
-nextMarked s l = firstMarked s l (64 * length s - l)
+abbrev pub next_marked : List ℕ → ℕ → ℕ
+next_marked s l = first_marked s l (64 * length s - l)
 
 -- the marked numbers of n from l on, the least first
-unfoldable pub markedFrom : List ℕ → ℕ → ℕ → List ℕ
-markedFrom s l zero = []
-markedFrom s l (suc n) = cond (marked s l) (l ∷ markedFrom s (suc l) n) (markedFrom s (suc l) n)
+unfoldable pub marked_from : List ℕ → ℕ → ℕ → List ℕ
+marked_from s l zero = []
+marked_from s l (suc n) = cond (marked s l) (l ∷ marked_from s (suc l) n) (marked_from s (suc l) n)

@@ -3,12 +3,12 @@ pub mod bits; // bits.rt: a mark of one bit for each number
 
 ghost use Rattle.std.specs.Prelude.{◌≡◌, [], ◌∷◌, ◌-◌, pos, ◌+ℤ◌, ◌-ℤ◌, ◌*ℤ◌, drop, set, take};
 ghost use Rattle.std.specs.Int.Signed.{lt_z, le_z};
-ghost use Rattle.words.specs.Words.{wordAt, number_of, numberAt, word_of, last_of, copied, cleared, eqZ};
+ghost use Rattle.words.specs.Words.{word_at, number_of, number_at, word_of, last_of, copied, cleared, eq_z};
 ghost use Rattle.words.specs.Range.{ranged};
 
 // The word at i, 0 past the end.
 pub fn word_at(s: &[i32], i: usize) -> i32
-    ensures { result ≡ wordAt s.now i }
+    ensures { result ≡ word_at s.now i }
 {
     if i < s.len() { s[i] } else { 0 }
 }
@@ -22,7 +22,7 @@ pub fn number(w: i32) -> usize
 
 // The word at i as a number; past the end the same as for a negative word.
 pub fn number_at(s: &[i32], i: usize) -> usize
-    ensures { result ≡ numberAt s.now i }
+    ensures { result ≡ number_at s.now i }
 {
     if i < s.len() {
         number(s[i])
@@ -177,7 +177,7 @@ pub fn at_most(a: i32, b: i32) -> bool
 }
 
 pub fn same(a: i32, b: i32) -> bool
-    ensures { result ≡ eqZ a b }
+    ensures { result ≡ eq_z a b }
 {
     a == b
 }

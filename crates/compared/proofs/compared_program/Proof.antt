@@ -1,6 +1,6 @@
 use mathlib.Core.Path.{sym, ap, ◌∙◌}
 use native.Mathlib.Omega.{arith}
-use Rattle.compared.specs.Compared.{verdictNumber}
+use Rattle.compared.specs.Compared.{verdict_number}
 use Rattle.compared.proofs.Laws.{capped-most}
 use borrow.Author.Rules.{rules}
 use Rattle.compared.proofs.compared_program.Statement.{statement}
@@ -32,11 +32,11 @@ add-result c = rw c.cap.ensures (omega (arith, capped-most c.before.before.place
 
 -- src/lib.rt:19:1
 returns : tie.Need-returns
-returns c = ap verdictNumber (sym c.enum_told.given.1 ∙ c.before.before.read-program.ensures)
+returns c = ap verdict_number (sym c.enum_told.given.1 ∙ c.before.before.read-program.ensures)
 
 -- src/lib.rt:19:1
 returns-2 : tie.Need-returns-2
-returns-2 c = rw c.cap.ensures (ap verdictNumber (sym c.before.before.place.given.1 ∙ c.before.before.before.before.read-program.ensures))
+returns-2 c = rw c.cap.ensures (ap verdict_number (sym c.before.before.place.given.1 ∙ c.before.before.before.before.read-program.ensures))
 
 pub compared-program-spec : {M : Type 1} → statement M
 compared-program-spec =

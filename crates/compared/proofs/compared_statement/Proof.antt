@@ -1,6 +1,6 @@
 use mathlib.Core.Path.{sym, ap, ◌∙◌}
 use native.Mathlib.Omega.{arith}
-use Rattle.compared.specs.Compared.{spotNumber}
+use Rattle.compared.specs.Compared.{spot_number}
 use Rattle.compared.proofs.Laws.{capped-most}
 use borrow.Author.Rules.{rules}
 use Rattle.compared.proofs.compared_statement.Statement.{statement}
@@ -44,11 +44,11 @@ enum_told c = search rules
 
 -- src/lib.rt:30:1
 returns : tie.Need-returns
-returns c = rw (c.before.cap.ensures, c.cap2.ensures) (ap spotNumber (sym c.before.before.before.verb.given.1 ∙ c.before.before.before.before.before.statement-at.ensures))
+returns c = rw (c.before.cap.ensures, c.cap2.ensures) (ap spot_number (sym c.before.before.before.verb.given.1 ∙ c.before.before.before.before.before.statement-at.ensures))
 
 -- src/lib.rt:30:1
 returns-2 : tie.Need-returns-2
-returns-2 c = ap spotNumber (sym c.enum_told.given.1 ∙ c.before.before.statement-at.ensures)
+returns-2 c = ap spot_number (sym c.enum_told.given.1 ∙ c.before.before.statement-at.ensures)
 
 pub compared-statement-spec : {M : Type 1} → statement M
 compared-statement-spec =

@@ -2,7 +2,7 @@ use mathlib.Core.Path.{◌≡◌}
 use borrow.Author.Tests.{ne_eqb}
 use Rattle.words.specs.Words.{number_of}
 use Rattle.words.proofs.Signed.{back32}
-use Rattle.fit.specs.Fit.{cellFits}
+use Rattle.fit.specs.Fit.{cell_fits}
 use Rattle.fit.proofs.CellFits.{admits-is}
 use borrow.Author.Rules.{rules}
 use Rattle.fit.proofs.cell_fits.Statement.{statement}
@@ -44,7 +44,7 @@ below-requires c κs = search rules
 
 -- src/lib.rt:36:1
 returns : tie.Need-returns
-unfolding cellFits
+unfolding cell_fits
 returns c =
     let b = back32 c.before.before.before.before.before.args.c.kind (record { sfits = c.before.before.before.before.struct_told.given.0.1 }) in
     let p = back32 c.before.before.before.before.before.args.c.payload (record { sfits = c.before.before.before.before.struct_told.given.1.0.1 }) in
@@ -53,7 +53,7 @@ returns c =
 
 -- src/lib.rt:36:1
 returns-2 : tie.Need-returns-2
-unfolding cellFits
+unfolding cell_fits
 returns-2 c =
     let b = back32 c.before.before.before.before.before.args.c.kind (record { sfits = c.before.before.before.before.struct_told.given.0.1 }) in
     let p = back32 c.before.before.before.before.before.args.c.payload (record { sfits = c.before.before.before.before.struct_told.given.1.0.1 }) in
@@ -62,7 +62,7 @@ returns-2 c =
 
 -- src/lib.rt:36:1
 returns-3 : tie.Need-returns-3
-unfolding cellFits
+unfolding cell_fits
 returns-3 c =
     let b = back32 c.before.before.before.before.before.before.args.c.kind (record { sfits = c.before.before.before.before.before.struct_told.given.0.1 }) in
     let p = back32 c.before.before.before.before.before.before.args.c.payload (record { sfits = c.before.before.before.before.before.struct_told.given.1.0.1 }) in
@@ -71,7 +71,7 @@ returns-3 c =
 
 -- src/lib.rt:36:1
 returns-4 : tie.Need-returns-4
-unfolding cellFits
+unfolding cell_fits
 returns-4 c =
     let b = back32 c.before.before.before.before.args.c.kind (record { sfits = c.before.before.before.struct_told.given.0.1 }) in
     let v : number_of c.before.before.before.before.args.c.kind ≡ 3 = cc in
@@ -79,7 +79,7 @@ returns-4 c =
 
 -- src/lib.rt:36:1
 returns-5 : tie.Need-returns-5
-unfolding cellFits
+unfolding cell_fits
 returns-5 c =
     let b = back32 c.before.before.before.before.before.before.args.c.kind (record { sfits = c.before.before.before.before.before.struct_told.given.0.1 }) in
     let p = back32 c.before.before.before.before.before.before.args.c.payload (record { sfits = c.before.before.before.before.before.struct_told.given.1.0.1 }) in
@@ -89,7 +89,7 @@ returns-5 c =
 
 -- src/lib.rt:36:1
 returns-6 : tie.Need-returns-6
-unfolding cellFits
+unfolding cell_fits
 returns-6 c =
     let b = back32 c.before.before.before.before.args.c.kind (record { sfits = c.before.before.before.struct_told.given.0.1 }) in
     let v : number_of c.before.before.before.before.args.c.kind ≡ c.before.before.number.result = cc in

@@ -1,4 +1,4 @@
-use Rattle.fit.specs.Fit.{constraintsFit}
+use Rattle.fit.specs.Fit.{constraints_fit}
 use Rattle.tables.proofs.LoopLaws.{refused, passed}
 use borrow.Author.Rules.{rules}
 use Rattle.fit.proofs.constraints_fit.Statement.{statement}
@@ -13,7 +13,7 @@ sort-fits-requires c κs = search rules
 
 -- src/lib.rt:219:9
 returns : tie.Need-returns
-unfolding constraintsFit
+unfolding constraints_fit
 returns c = rw (refused c.if1.true c.before.sort-fits.ensures)
 
 -- src/lib.rt:221:5
@@ -22,7 +22,7 @@ sort-fits-requires-2 c κs = search rules
 
 -- src/lib.rt:215:1
 returns-2 : tie.Need-returns-2
-unfolding constraintsFit
+unfolding constraints_fit
 returns-2 c = rw (passed c.before.if1.false c.before.before.sort-fits.ensures) c.sort-fits2.ensures
 
 pub constraints-fit-spec : {M : Type 1} → statement M

@@ -2,10 +2,10 @@ use borrow.Author.Rules.{rules}
 use mathlib.Core.Path.{◌≡◌, sym, ◌∙◌}
 use lib.IntN.{pos}
 use Prim.Native.Nat.{◌-◌, ◌*◌}
-use Rattle.words.specs.Words.{wordAt}
+use Rattle.words.specs.Words.{word_at}
 use Rattle.words.proofs.Signed.{back32}
 use Rattle.tables.specs.Cells.{pair_at}
-use Rattle.fit.specs.Fit.{cellFits, environmentFits}
+use Rattle.fit.specs.Fit.{cell_fits, environment_fits}
 use Rattle.tables.proofs.SearchLaws.{Checking, checking-starts, checking-fails, checking-goes-on, checking-ends}
 use Rattle.tables.proofs.LoopLaws.{refused, passed}
 use Rattle.fit.proofs.RestLaws.{clear-cells}
@@ -19,7 +19,7 @@ use Rattle.tables.proofs.cells.is_clear.Reads as is-clear-reads
 use Rattle.words.proofs.word_at.Reads as word-at-reads
 
 abbrev invariant-loop : tie.invariant-loop
-invariant-loop environment heap x₀ x = Checking (λ y. cellFits (wordAt heap 0) (pair_at environment (2 * y))) 64 x
+invariant-loop environment heap x₀ x = Checking (λ y. cell_fits (word_at heap 0) (pair_at environment (2 * y))) 64 x
 
 abbrev decreases-loop : tie.decreases-loop
 decreases-loop environment heap x₀ x = 64 - x
@@ -30,7 +30,7 @@ is-clear-requires c κs = search rules
 
 -- src/lib.rt:56:9
 returns : tie.Need-returns invariant-loop decreases-loop
-returns c = sym (clear-cells (wordAt c.before.before.args.heap.now 0) c.before.before.args.environment.now (sym c.before.is-clear.ensures ∙ c.if1.true))
+returns c = sym (clear-cells (word_at c.before.before.args.heap.now 0) c.before.before.args.environment.now (sym c.before.is-clear.ensures ∙ c.if1.true))
 
 -- src/lib.rt:59:5
 loop-holds : tie.Need-loop-init invariant-loop decreases-loop
@@ -54,10 +54,10 @@ cell-fits-requires c κs = search rules
 
 -- src/lib.rt:61:13
 returns-2 : tie.Need-returns-2 invariant-loop decreases-loop
-unfolding environmentFits
+unfolding environment_fits
 returns-2 c =
     let b = back32 c.before.before.before.word_at.result (record { sfits = c.before.before.before.word_at.type-inv }) in
-    let e : c.before.cell-fits.result ≡ cellFits (wordAt c.before.before.before.before.before.before.before.before.args.heap.now 0) (pair_at c.before.before.before.before.before.before.before.before.args.environment.now (2 * c.before.before.before.before.before.loop.x)) = cc in
+    let e : c.before.cell-fits.result ≡ cell_fits (word_at c.before.before.before.before.before.before.before.before.args.heap.now 0) (pair_at c.before.before.before.before.before.before.before.before.args.environment.now (2 * c.before.before.before.before.before.loop.x)) = cc in
     checking-fails c.before.before.before.before.before.loop.invariant c.before.before.before.before.loop-test.true (refused c.if2.true e)
 
 -- src/lib.rt:63:9
@@ -72,12 +72,12 @@ loop-less c = search rules
 loop-again : tie.Need-loop-preserved invariant-loop decreases-loop
 loop-again c =
     let b = back32 c.before.before.before.word_at.result (record { sfits = c.before.before.before.word_at.type-inv }) in
-    let e : c.before.cell-fits.result ≡ cellFits (wordAt c.before.before.before.before.before.before.before.before.args.heap.now 0) (pair_at c.before.before.before.before.before.before.before.before.args.environment.now (2 * c.before.before.before.before.before.loop.x)) = cc in
+    let e : c.before.cell-fits.result ≡ cell_fits (word_at c.before.before.before.before.before.before.before.before.args.heap.now 0) (pair_at c.before.before.before.before.before.before.before.before.args.environment.now (2 * c.before.before.before.before.before.loop.x)) = cc in
     checking-goes-on c.before.before.before.before.before.loop.invariant c.before.before.before.before.loop-test.true (passed c.if2.false e)
 
 -- src/lib.rt:52:1
 returns-3 : tie.Need-returns-3 invariant-loop decreases-loop
-unfolding environmentFits
+unfolding environment_fits
 returns-3 c = checking-ends c.before.loop.invariant c.loop-test.false
 
 pub environment-fits-spec : {M : Type 1} → statement M

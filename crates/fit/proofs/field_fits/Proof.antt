@@ -6,7 +6,7 @@ use Rattle.words.proofs.Signed.{back32}
 use Rattle.tables.specs.declared.Cell.{Cell}
 use Rattle.tables.specs.Records.{field_at}
 use Rattle.tables.proofs.LoopLaws.{refused, passed}
-use Rattle.fit.specs.Fit.{fieldFits}
+use Rattle.fit.specs.Fit.{field_fits}
 use Rattle.fit.proofs.field_fits.Statement.{statement}
 use Rattle.fit.proofs.field_fits.Tie as tie
 use Rattle.fit.proofs.field_fits.Reads as reads
@@ -23,7 +23,7 @@ label-fits-requires c κs = search rules
 
 -- src/lib.rt:78:9
 returns : tie.Need-returns
-unfolding fieldFits
+unfolding field_fits
 returns c = rw (refused c.if1.true c.before.label-fits.ensures)
 
 -- src/lib.rt:80:9
@@ -36,7 +36,7 @@ number-requires c κs = search rules
 
 -- src/lib.rt:82:9
 returns-2 : tie.Need-returns-2
-unfolding fieldFits
+unfolding field_fits
 returns-2 c =
     let b = back32 c.before.before.before.field-at.result.kind (record { sfits = c.before.before.struct_told.given.0.1 }) in
     let k : c.before.before.before.field-at.result.kind ≡ (field_at c.before.before.before.before.before.before.args.heap.now c.before.before.before.before.before.before.args.r c.before.before.before.before.before.before.args.f).kind = ap (λ (x : Cell). x.kind) c.before.before.before.field-at.ensures in
@@ -53,7 +53,7 @@ cell-fits-requires c κs = search rules
 
 -- src/lib.rt:73:1
 returns-3 : tie.Need-returns-3
-unfolding fieldFits
+unfolding field_fits
 returns-3 c =
     let b = back32 c.before.before.before.before.before.field-at.result.kind (record { sfits = c.before.before.before.before.struct_told.given.0.1 }) in
     let w = back32 c.before.word_at.result (record { sfits = c.before.word_at.type-inv }) in

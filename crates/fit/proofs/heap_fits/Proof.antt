@@ -3,10 +3,10 @@ use mathlib.Core.Path.{◌≡◌, sym, ◌∙◌}
 use native.Mathlib.Omega.{arith}
 use Prim.Native.Nat.{◌-◌, ◌≤◌}
 use borrow.Author.Tests.{le-leb, lt-leb}
-use Rattle.tables.specs.Records.{recordCount}
+use Rattle.tables.specs.Records.{record_count}
 use Rattle.tables.proofs.SearchLaws.{Checking, checking-starts, checking-goes-on, checking-ends, every-stops}
 use Rattle.tables.proofs.LoopLaws.{refused, passed}
-use Rattle.fit.specs.Fit.{recordFits, numberFits, heapFits}
+use Rattle.fit.specs.Fit.{record_fits, number_fits, heap_fits}
 use Rattle.fit.proofs.RestLaws.{number-refused, heap-rest}
 use Rattle.fit.proofs.heap_fits.Statement.{statement}
 use Rattle.fit.proofs.heap_fits.Tie as tie
@@ -17,7 +17,7 @@ use Rattle.tables.proofs.records.are_blank_from.Reads as are-blank-from-reads
 use Rattle.tables.proofs.records.record_count.Reads as record-count-reads
 
 abbrev invariant-loop : tie.invariant-loop
-invariant-loop heap n r₀ r = ((n ≡ recordCount heap) × (n ≤ 64)) × Checking (recordFits heap) n r
+invariant-loop heap n r₀ r = ((n ≡ record_count heap) × (n ≤ 64)) × Checking (record_fits heap) n r
 
 abbrev decreases-loop : tie.decreases-loop
 decreases-loop heap n r₀ r = n - r
@@ -28,7 +28,7 @@ record-count-requires c κs = search rules
 
 -- src/lib.rt:120:9
 returns : tie.Need-returns invariant-loop decreases-loop
-unfolding heapFits
+unfolding heap_fits
 returns c = rw (lt-leb _ 64 (rw c.before.record-count.ensures at c.if1.true))
 
 -- src/lib.rt:123:5
@@ -41,10 +41,10 @@ record-fits-requires c κs = search rules
 
 -- src/lib.rt:125:13
 returns-2 : tie.Need-returns-2 invariant-loop decreases-loop
-unfolding heapFits
+unfolding heap_fits
 returns-2 c =
     rw (sym c.before.before.before.loop.invariant.0.0, le-leb _ 64 c.before.before.before.loop.invariant.0.1)
-    (sym (every-stops (numberFits c.before.before.before.before.before.before.args.heap.now c.before.before.before.before.before.record-count.result) 64 c.before.before.before.loop.r (omega (arith, c.before.before.loop-test.true, c.before.before.before.loop.invariant.0.1))
+    (sym (every-stops (number_fits c.before.before.before.before.before.before.args.heap.now c.before.before.before.before.before.record-count.result) 64 c.before.before.before.loop.r (omega (arith, c.before.before.loop-test.true, c.before.before.before.loop.invariant.0.1))
     (number-refused c.before.before.before.before.before.before.args.heap.now c.before.before.before.before.before.record-count.result c.before.before.before.loop.r c.before.before.loop-test.true (refused c.if2.true c.before.record-fits.ensures))))
 
 -- src/lib.rt:127:9
@@ -65,7 +65,7 @@ are-blank-from-requires c κs = search rules
 
 -- src/lib.rt:115:1
 returns-3 : tie.Need-returns-3 invariant-loop decreases-loop
-unfolding heapFits
+unfolding heap_fits
 returns-3 c =
     rw (sym c.before.before.loop.invariant.0.0, le-leb _ 64 c.before.before.loop.invariant.0.1)
     (c.are-blank-from.ensures ∙ heap-rest c.before.before.before.before.before.args.heap.now c.before.before.before.before.record-count.result c.before.before.loop.invariant.0.1 (sym (checking-ends c.before.before.loop.invariant.1 c.before.loop-test.false)))

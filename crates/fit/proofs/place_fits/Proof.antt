@@ -1,6 +1,6 @@
 use borrow.Author.Rules.{rules}
 use borrow.Author.Tests.{lt-ltb, le-ltb}
-use Rattle.fit.specs.Fit.{placeFits}
+use Rattle.fit.specs.Fit.{place_fits}
 use Rattle.fit.proofs.place_fits.Statement.{statement}
 use Rattle.fit.proofs.place_fits.Tie as tie
 use Rattle.fit.proofs.place_fits.Reads as reads
@@ -14,7 +14,7 @@ field-fits-requires c κs = search rules
 
 -- src/lib.rt:92:9
 returns : tie.Need-returns
-unfolding placeFits
+unfolding place_fits
 returns c = rw (lt-ltb c.before.before.args.f c.before.before.args.n c.before.if1.true) c.field_fits.ensures
 
 -- src/lib.rt:94:5
@@ -23,7 +23,7 @@ is-blank-requires c κs = search rules
 
 -- src/lib.rt:88:1
 returns-2 : tie.Need-returns-2
-unfolding placeFits
+unfolding place_fits
 returns-2 c = rw (le-ltb c.before.before.args.f c.before.before.args.n c.before.if1.false) c.is-blank.ensures
 
 pub place-fits-spec : {M : Type 1} → statement M

@@ -5,8 +5,8 @@ use native.Mathlib.Omega.{arith}
 use Prim.Native.Nat.{◌-◌, ◌+◌, ◌*◌, ◌≤◌, ◌<◌}
 use lib.Dec.{eqb}
 use borrow.Author.Tests.{lt-ltb, le-ltb}
-use Rattle.tables.specs.Kept.{positionAt}
-use Rattle.fit.specs.Fit.{positionFits}
+use Rattle.tables.specs.Kept.{position_at}
+use Rattle.fit.specs.Fit.{position_fits}
 use Rattle.tables.proofs.SearchLaws.{Checking, checking-starts, checking-fails, checking-goes-on, checking-ends}
 use Rattle.tables.proofs.LoopLaws.{met, apart}
 use Rattle.fit.proofs.position_fits.Statement.{statement}
@@ -17,7 +17,7 @@ use Rattle.tables.proofs.kept.position_at.Reads as position-at-reads
 
 abbrev invariant-loop : tie.invariant-loop
 invariant-loop constraints s i position j₀ j =
-    ((position ≡ positionAt constraints s i) × (position < 2147483648)) × Checking (λ k. not (eqb (positionAt constraints s k) (positionAt constraints s i))) i j
+    ((position ≡ position_at constraints s i) × (position < 2147483648)) × Checking (λ k. not (eqb (position_at constraints s k) (position_at constraints s i))) i j
 
 abbrev decreases-loop : tie.decreases-loop
 decreases-loop constraints s i position j₀ j = i - j
@@ -28,7 +28,7 @@ position-at-requires c κs = search rules
 
 -- src/lib.rt:184:9
 returns : tie.Need-returns invariant-loop decreases-loop
-unfolding positionFits
+unfolding position_fits
 returns c = rw (le-ltb _ 2147483648 (rw c.before.position_at.ensures at c.if1.true))
 
 -- src/lib.rt:187:5
@@ -41,7 +41,7 @@ position-at-requires-2 c κs = search rules
 
 -- src/lib.rt:189:13
 returns-2 : tie.Need-returns-2 invariant-loop decreases-loop
-unfolding positionFits
+unfolding position_fits
 returns-2 c =
     rw (lt-ltb _ 2147483648 (rw c.before.before.before.loop.invariant.0.0 at c.before.before.before.loop.invariant.0.1))
     (checking-fails c.before.before.before.loop.invariant.1 c.before.before.loop-test.true (met c.if2.true c.before.position-at2.ensures c.before.before.before.loop.invariant.0.0))
@@ -60,7 +60,7 @@ loop-again c = (c.before.before.before.loop.invariant.0, checking-goes-on c.befo
 
 -- src/lib.rt:179:1
 returns-3 : tie.Need-returns-3 invariant-loop decreases-loop
-unfolding positionFits
+unfolding position_fits
 returns-3 c = rw (lt-ltb _ 2147483648 (rw c.before.loop.invariant.0.0 at c.before.loop.invariant.0.1)) (checking-ends c.before.loop.invariant.1 c.loop-test.false)
 
 pub position-fits-spec : {M : Type 1} → statement M

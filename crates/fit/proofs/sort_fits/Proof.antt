@@ -3,10 +3,10 @@ use mathlib.Core.Path.{◌≡◌, sym, ◌∙◌}
 use native.Mathlib.Omega.{arith}
 use Prim.Native.Nat.{◌-◌, ◌≤◌}
 use borrow.Author.Tests.{le-leb, lt-leb}
-use Rattle.tables.specs.Kept.{mostKept, keptNumber}
+use Rattle.tables.specs.Kept.{most_kept, kept_number}
 use Rattle.tables.proofs.SearchLaws.{Checking, checking-starts, checking-goes-on, checking-ends, every-stops}
 use Rattle.tables.proofs.LoopLaws.{refused, passed}
-use Rattle.fit.specs.Fit.{positionFits, roomFits, sortFits}
+use Rattle.fit.specs.Fit.{position_fits, room_fits, sort_fits}
 use Rattle.fit.proofs.RestLaws.{room-refused, sort-rest}
 use Rattle.fit.proofs.sort_fits.Statement.{statement}
 use Rattle.fit.proofs.sort_fits.Tie as tie
@@ -18,7 +18,7 @@ use Rattle.tables.proofs.kept.count_at.Reads as count-at-reads
 use Rattle.tables.proofs.kept.most_kept.Reads as most-kept-reads
 
 abbrev invariant-loop : tie.invariant-loop
-invariant-loop constraints s n i₀ i = ((n ≡ keptNumber constraints s) × (n ≤ mostKept s)) × Checking (positionFits constraints s) n i
+invariant-loop constraints s n i₀ i = ((n ≡ kept_number constraints s) × (n ≤ most_kept s)) × Checking (position_fits constraints s) n i
 
 abbrev decreases-loop : tie.decreases-loop
 decreases-loop constraints s n i₀ i = n - i
@@ -33,7 +33,7 @@ most-kept-requires c κs = search rules
 
 -- src/lib.rt:155:9
 returns : tie.Need-returns invariant-loop decreases-loop
-unfolding sortFits
+unfolding sort_fits
 returns c = rw (lt-leb _ _ (rw (c.before.before.count_at.ensures, c.before.most-kept.ensures) at c.if1.true))
 
 -- src/lib.rt:158:5
@@ -46,10 +46,10 @@ position-fits-requires c κs = search rules
 
 -- src/lib.rt:160:13
 returns-2 : tie.Need-returns-2 invariant-loop decreases-loop
-unfolding sortFits
+unfolding sort_fits
 returns-2 c =
     rw (sym c.before.before.before.loop.invariant.0.0, le-leb _ _ c.before.before.before.loop.invariant.0.1)
-    (sym (every-stops (roomFits c.before.before.before.before.before.before.before.args.constraints.now c.before.before.before.before.before.before.before.args.s c.before.before.before.before.before.before.count_at.result) (mostKept c.before.before.before.before.before.before.before.args.s) c.before.before.before.loop.i (omega (arith, c.before.before.loop-test.true, c.before.before.before.loop.invariant.0.1))
+    (sym (every-stops (room_fits c.before.before.before.before.before.before.before.args.constraints.now c.before.before.before.before.before.before.before.args.s c.before.before.before.before.before.before.count_at.result) (most_kept c.before.before.before.before.before.before.before.args.s) c.before.before.before.loop.i (omega (arith, c.before.before.loop-test.true, c.before.before.before.loop.invariant.0.1))
     (room-refused c.before.before.before.before.before.before.before.args.constraints.now c.before.before.before.before.before.before.before.args.s c.before.before.before.before.before.before.count_at.result c.before.before.before.loop.i c.before.before.loop-test.true (refused c.if2.true c.before.position-fits.ensures))))
 
 -- src/lib.rt:162:9
@@ -70,7 +70,7 @@ are-blank-from-requires c κs = search rules
 
 -- src/lib.rt:150:1
 returns-3 : tie.Need-returns-3 invariant-loop decreases-loop
-unfolding sortFits
+unfolding sort_fits
 returns-3 c =
     rw (sym c.before.before.loop.invariant.0.0, le-leb _ _ c.before.before.loop.invariant.0.1)
     (c.are-blank-from.ensures ∙ sort-rest c.before.before.before.before.before.before.args.constraints.now c.before.before.before.before.before.before.args.s c.before.before.before.before.before.count_at.result c.before.before.loop.invariant.0.1 (sym (checking-ends c.before.before.loop.invariant.1 c.before.loop-test.false)))

@@ -49,7 +49,7 @@ use Rattle.rules.specs.State.{State}
 use Rattle.phases.specs.Told.{tables}
 use Rattle.lent.specs.declared.Tally.{Tally}
 use Rattle.lent.specs.Tallied.{carries}
-use Rattle.lent.specs.Lending.{oneStatement, Steps}
+use Rattle.lent.specs.Lending.{one_statement, Steps}
 use Rattle.lent.specs.contracts.Tally as T
 use Rattle.lent.proofs.Tally.TheLaws as T'
 use Rattle.lent.specs.contracts.step as step
@@ -104,7 +104,7 @@ module _ {M : Type 1} {𝓤 : Ura M} (𝓛 : Logic 𝓤) (at_mem : Memory → SP
   S = tables e.now h.now c.now
 
   abbrev Said : List ℤ → List ℤ → List ℤ → Tally → Type 0
-  Said es hs cs r = Steps s.now S (tables es hs cs) t r (oneStatement p.now n w.now (carries s.now S t))
+  Said es hs cs r = Steps s.now S (tables es hs cs) t r (one_statement p.now n w.now (carries s.now S t))
 
   abbrev Post : Val → SProp 𝓤
   Post = (walk_of 𝓛 stepped-on.ended stayed (stepped-on.clauses 𝓛 at_mem run)).post (((κp, (κe, (κh, (κc, (κs, (κw, tt)))))), (qp, (qe, (qh, (qc, (qs, (qw, tt)))))), tt, x, at), tt)

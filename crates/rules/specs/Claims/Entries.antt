@@ -18,7 +18,7 @@ use Rattle.rules.specs.Rules.Proposals.{Each}
 use Rattle.rules.specs.Rules.Statements.{asking, Gives, Steps}
 use Rattle.rules.specs.Rules.Runs.{statements, Runs}
 use Rattle.rules.specs.Rules.Kept.{Stands}
-use Rattle.rules.specs.Rules.Answers.{Unstarted, Answered, firstTally, given}
+use Rattle.rules.specs.Rules.Answers.{Unstarted, Answered, first_tally, given}
 use Rattle.rules.specs.Rules.Entries.{Entry, Sets, Listed}
 use Rattle.rules.specs.Claims.Room.{Stays}
 
@@ -51,13 +51,13 @@ AsAProgram = (program : List ℤ) (budget d : ℕ) (xs : List (List ℤ)) (r : L
 abbrev pub program_of : List (List ℤ) → List ℤ
 program_of xs = pos (length xs) ∷ row_of xs
 
-abbrev pub tallyIn : Ended → Tally
-tallyIn e = record { state = e.state; unread = e.unread; steps = e.steps; accepted = e.accepted; tests = e.tests }
+abbrev pub tally_in : Ended → Tally
+tally_in e = record { state = e.state; unread = e.unread; steps = e.steps; accepted = e.accepted; tests = e.tests }
 
 -- a run of that program and the list over it, from the same state, give the same outcome, tables, steps, accepted proposals and unread words
 abbrev pub AsItsProgram : Type 0
 AsItsProgram = (xs : List (List ℤ)) (ws : List ℤ) (budget : ℤ) (S : State) (a b : Ended) → Each Entry xs
-    → Answered (program_of xs) ws budget S a → Listed (program_of xs) (words_of xs) ws budget S b → (a.outcome ≡ b.outcome) × (tallyIn a ≡ tallyIn b)
+    → Answered (program_of xs) ws budget S a → Listed (program_of xs) (words_of xs) ws budget S b → (a.outcome ≡ b.outcome) × (tally_in a ≡ tally_in b)
 
 -- ---- demand 1: what every answer of the call keeps to
 
@@ -70,7 +70,7 @@ pub data Went (program : List ℤ) : ℕ → List ℤ → State → List ℤ →
 pub record Kept (program entries ws : List ℤ) (budget : ℤ) (S : State) (e : Ended) : Type 0 where
   -- "Refusals: those of 01, and 23"; 10, 11 and 14 are other statements', 8 and 9 other expressions'
   pub known : OneOf e.outcome (0 ∷ 1 ∷ 2 ∷ 3 ∷ 4 ∷ 5 ∷ 6 ∷ 7 ∷ 12 ∷ 13 ∷ 15 ∷ 16 ∷ 17 ∷ 18 ∷ 19 ∷ 23 ∷ [])
-  pub early : 1 ≤ e.outcome → e.outcome ≤ 4 → Unstarted program budget S e.outcome e.place × (e ≡ given e.outcome e.place (firstTally S ws))
+  pub early : 1 ≤ e.outcome → e.outcome ≤ 4 → Unstarted program budget S e.outcome e.place × (e ≡ given e.outcome e.place (first_tally S ws))
   -- the place is the index, or the number of all: so many entries went through, each with a proposal and a step
   pub went : (1 ≤ e.outcome → 5 ≤ e.outcome) → (e.accepted ≡ e.place) × Went program e.place entries S ws e.state e.unread
   -- a refused one too costs a step, but for 5 and 23

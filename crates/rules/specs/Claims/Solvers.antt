@@ -14,7 +14,7 @@ use Rattle.rules.specs.Rules.Identities.{Phase}
 use Rattle.rules.specs.Rules.Statements.{Keeps, asking, Gives, Refused}
 use Rattle.rules.specs.Rules.Kept.{Stands}
 use Rattle.rules.specs.Rules.Answers.{Unstarted, Passes}
-use Rattle.rules.specs.Rules.Solvers.{Named, Accepts, Asks, turning, TurnsDown, accepted, turnedDown, Asked}
+use Rattle.rules.specs.Rules.Solvers.{Named, Accepts, Asks, turning, TurnsDown, accepted, turned_down, Asked}
 use Rattle.rules.specs.Claims.Answers.{Inside}
 use Rattle.rules.specs.Claims.Room.{Stays}
 
@@ -31,7 +31,7 @@ Alone program S p ws = (l : Left) × Accepts program S p ws l
 pub record OneOfTwo (program : List ℤ) (word : ℤ) (first second : List ℤ) (S : State) (p : List ℤ) (e : Given) : Type 0 where
   pub either : (e.outcome ≡ 0) ↔ (Alone program S p first ⊎ Alone program S p second)
   pub by_first : (l : Left) → Accepts program S p first l → e ≡ accepted word 1 first l.state
-  pub by-second : (l : Left) → (Alone program S p first → ⊥) → Accepts program S p second l → e ≡ accepted word 2 second l.state
+  pub by_second : (l : Left) → (Alone program S p first → ⊥) → Accepts program S p second l → e ≡ accepted word 2 second l.state
 
 abbrev pub SolversAlone : Type 0
 SolversAlone = (program : List ℤ) (word : ℤ) (first second : List ℤ) (S : State) (p : List ℤ) (e : Given)
@@ -50,14 +50,14 @@ pub record Kept (program : List ℤ) (word : ℤ) (first second : List ℤ) (S :
   pub known : OneOf e.outcome (0 ∷ 1 ∷ 2 ∷ 3 ∷ 4 ∷ 6 ∷ 7 ∷ 8 ∷ 9 ∷ 10 ∷ 12 ∷ 13 ∷ 14 ∷ 15 ∷ 16 ∷ 17 ∷ 18 ∷ 19 ∷ [])
   pub accepts : e.outcome ≡ 0 → (e.place ≡ word) × (OneOf e.solver (1 ∷ 2 ∷ []) × (e.words ≡ slice_of e.solver first second))
   -- refused: no solver, no word, and every word of the tables as before
-  pub refuses : 1 ≤ e.outcome → e ≡ turnedDown S e.outcome e.place
+  pub refuses : 1 ≤ e.outcome → e ≡ turned_down S e.outcome e.place
   -- "as a part of whichever slice they came from", "the empty start of the first slice"
   pub part : e.words ≡ take (length e.words) (slice_of e.solver first second)
   -- 1 to 4: the first thing that is wrong, as in a run; or 2 for a word that names no statement
   pub early : 1 ≤ e.outcome → e.outcome ≤ 4
       → ((k : ℕ) × ((e.place ≡ pos k) × Unstarted program (pos 0) S e.outcome k)) ⊎ ((e.outcome ≡ 2) × ((e.place ≡ word) × ((p : List ℤ) → Named program word p → ⊥)))
   -- from 5 on the place is a run's: the statement's word, but for 7, 8, 9 and 15
-  pub at-statement : 5 ≤ e.outcome → (OneOf e.outcome (7 ∷ 8 ∷ 9 ∷ 15 ∷ []) → ⊥) → e.place ≡ word
+  pub at_statement : 5 ≤ e.outcome → (OneOf e.outcome (7 ∷ 8 ∷ 9 ∷ 15 ∷ []) → ⊥) → e.place ≡ word
   pub inside : OneOf e.outcome (7 ∷ 8 ∷ 9 ∷ 15 ∷ []) → (p : List ℤ) × (Named program word p × ((k : ℕ) × ((e.place ≡ pos k) × Inside program S p k e.outcome)))
 
 abbrev pub SolversAnswers : Type 0

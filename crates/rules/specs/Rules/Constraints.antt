@@ -5,9 +5,9 @@ use Rattle.std.proofs.Math.Option.{Option, none as nothing, some}
 use Rattle.tables.specs.declared.Value.TheVariants.{Bool as Truth}
 use Rattle.tables.specs.declared.Sort.TheVariants.{Values}
 use Rattle.tables.specs.Cells.{Cells}
-use Rattle.program.specs.Forms.{expressionDepth, mostParts, required}
+use Rattle.program.specs.Forms.{expression_depth, most_parts, required}
 use Rattle.rules.specs.State.{Fault, positions}
-use Rattle.rules.specs.Evaluation.{isBool}
+use Rattle.rules.specs.Evaluation.{is_bool}
 use Rattle.rules.specs.Constraints.{Part}
 use Rattle.rules.specs.Rules.Expressions.{Within, KindWithin, Untested}
 
@@ -15,15 +15,15 @@ use Rattle.rules.specs.Rules.Expressions.{Within, KindWithin, Untested}
 
 -- where its value is not true, it is false, or its arithmetic leaves 32 bits
 pub data PartIs (S : Cells) : List ℤ → Part → List ℤ → Type 0 where
-  part : {priority : ℕ} {b : Bool} {p q : List ℤ} → 1 ≤ priority → priority ≤ required → KindWithin S expressionDepth p isBool q
-      → (b ≡ true) ↔ Within S expressionDepth p (Truth true) q → PartIs S (pos priority ∷ p) (record { priority = priority; satisfied = b }) q
+  part : {priority : ℕ} {b : Bool} {p q : List ℤ} → 1 ≤ priority → priority ≤ required → KindWithin S expression_depth p is_bool q
+      → (b ≡ true) ↔ Within S expression_depth p (Truth true) q → PartIs S (pos priority ∷ p) (record { priority = priority; satisfied = b }) q
 
 pub data PartsAre (S : Cells) : ℕ → List ℤ → List Part → List ℤ → Type 0 where
   none : {p : List ℤ} → PartsAre S 0 p [] p
   one : {m : ℕ} {x : Part} {xs : List Part} {p q r : List ℤ} → PartIs S p x q → PartsAre S m q xs r → PartsAre S (suc m) p (x ∷ xs) r
 
 pub data ConstraintIs (S : Cells) : List ℤ → List Part → Type 0 where
-  constraint : {m : ℕ} {xs : List Part} {p q : List ℤ} → 1 ≤ m → m ≤ mostParts → PartsAre S m p xs q → ConstraintIs S (pos m ∷ p) xs
+  constraint : {m : ℕ} {xs : List Part} {p q : List ℤ} → 1 ≤ m → m ≤ most_parts → PartsAre S m p xs q → ConstraintIs S (pos m ∷ p) xs
 
 -- ---- the parts that count for a statement: those of the kept value constraints, and of its own C, if it has one
 
@@ -33,8 +33,8 @@ pub data KeptAre (program : List ℤ) (S : Cells) : List ℕ → List Part → T
       → ConstraintIs S (drop (position + 1) program) xs → KeptAre program S more ys → KeptAre program S (position ∷ more) (xs ++ ys)
 
 pub data CountedAre (program kept : List ℤ) (S : Cells) : Option (List ℤ) → List Part → Type 0 where
-  kept-only : {xs : List Part} → KeptAre program S (positions kept Values) xs → CountedAre program kept S nothing xs
-  with-own : {p : List ℤ} {xs ys : List Part} → KeptAre program S (positions kept Values) xs → ConstraintIs S p ys → CountedAre program kept S (some p) (xs ++ ys)
+  kept_only : {xs : List Part} → KeptAre program S (positions kept Values) xs → CountedAre program kept S nothing xs
+  with_own : {p : List ℤ} {xs ys : List Part} → KeptAre program S (positions kept Values) xs → ConstraintIs S p ys → CountedAre program kept S (some p) (xs ++ ys)
 
 -- ---- refusals: the C at p does not read, 7 or 8 as met; 8 of a part that is no boolean stands at its priority
 
@@ -46,7 +46,7 @@ pub data PartsMeet (S : Cells) : ℕ → List ℤ → Fault → Type 0 where
   later : {m : ℕ} {f : Fault} {x : Part} {p q : List ℤ} → PartIs S p x q → PartsMeet S m q f → PartsMeet S (suc m) p f
 
 pub data ConstraintMeets (S : Cells) : List ℤ → Fault → Type 0 where
-  constraint : {m : ℕ} {f : Fault} {p : List ℤ} → 1 ≤ m → m ≤ mostParts → PartsMeet S m p f → ConstraintMeets S (pos m ∷ p) f
+  constraint : {m : ℕ} {f : Fault} {p : List ℤ} → 1 ≤ m → m ≤ most_parts → PartsMeet S m p f → ConstraintMeets S (pos m ∷ p) f
 
 -- the value constraint at a position reads
 abbrev pub Reads : List ℤ → Cells → ℕ → Type 0

@@ -1,4 +1,4 @@
--- The identity phase (01, "What a statement does"; 000, Definitions 1 to 5, stayPrefix): what is tied, what is frozen, what is updated.
+-- The identity phase (01, "What a statement does"; 000, Definitions 1 to 5, stay_prefix): what is tied, what is frozen, what is updated.
 -- Assumes nothing: these are definitions.
 use Rattle.std.specs.Prelude.{ℕ, ◌+◌, ◌≡◌, ◌≢◌, ◌⊎◌, ℤ, length, drop}
 use mathlib.Core.List.{List, [], ◌∷◌, ◌++◌, Memᴰ as OneOf}
@@ -8,7 +8,7 @@ use Rattle.tables.specs.declared.Slot.TheVariants.{Has}
 use Rattle.tables.specs.declared.Sort.TheVariants.{Identities}
 use Rattle.tables.specs.Values.{cell_of}
 use Rattle.tables.specs.Cells.{Cells, cell_at}
-use Rattle.tables.specs.Records.{recordCount, countAt, labelAt}
+use Rattle.tables.specs.Records.{record_count, count_at, label_at}
 use Rattle.rules.specs.State.{Fault, refused, slot_at, positions}
 use Rattle.rules.specs.Paths.{Way}
 use Rattle.rules.specs.Identities.{Tie}
@@ -25,10 +25,10 @@ pub data Same (S : Cells) : List ℤ → Type 0 where
 
 -- "An identity: paths 7, 8, 11"; 7 and 8 stand at the first side at fault (02, W2), 11 at the statement's word
 pub data Unsame (S : Cells) (word : List ℤ) : List ℤ → Fault → Type 0 where
-  one-lost : {p : List ℤ} → Lost S p → Unsame S word p (refused 7 p)
-  other-lost : {v : Value} {p q : List ℤ} → Holds S p v q → Lost S q → Unsame S word p (refused 7 q)
+  one_lost : {p : List ℤ} → Lost S p → Unsame S word p (refused 7 p)
+  other_lost : {v : Value} {p q : List ℤ} → Holds S p v q → Lost S q → Unsame S word p (refused 7 q)
   one_plain : {v w : Value} {p q r : List ℤ} → Holds S p v q → Holds S q w r → (Node v → ⊥) → Unsame S word p (refused 8 p)
-  other-plain : {v w : Value} {p q r : List ℤ} → Holds S p v q → Holds S q w r → Node v → (Node w → ⊥) → Unsame S word p (refused 8 q)
+  other_plain : {v w : Value} {p q r : List ℤ} → Holds S p v q → Holds S q w r → Node v → (Node w → ⊥) → Unsame S word p (refused 8 q)
   differ : {v w : Value} {p q r : List ℤ} → Holds S p v q → Holds S q w r → Node v → Node w → cell_of v ≢ cell_of w → Unsame S word p (refused 11 word)
 
 -- the kept identities at these positions: the two cells that each names, and the prefix cells of both sides
@@ -47,8 +47,8 @@ pub data Tied (ts : List Tie) : ℕ → ℕ → Type 0 where
 
 -- "frozen are the prefix cells of the target and of both sides of every kept identity"
 pub data Frozen (prefix : List ℕ) (ts : List Tie) (l : ℕ) : Type 0 where
-  of-target : OneOf l prefix → Frozen prefix ts l
-  of-side : (t : Tie) → OneOf t ts → OneOf l t.prefix → Frozen prefix ts l
+  of_target : OneOf l prefix → Frozen prefix ts l
+  of_side : (t : Tie) → OneOf t ts → OneOf l t.prefix → Frozen prefix ts l
 
 -- "an identity names the target"
 abbrev pub IsNamed : List Tie → ℕ → Type 0
@@ -58,11 +58,11 @@ IsNamed ts l = (t : Tie) × (OneOf t ts × ((t.one ≡ l) ⊎ (t.two ≡ l)))
 pub record Update (ts : List Tie) (target : ℕ) (v : Value) (now after : Cells) : Type 0 where
   pub class : (l : ℕ) → Tied ts target l → cell_at after l ≡ cell_of v
   pub others : (l : ℕ) → (Tied ts target l → ⊥) → cell_at after l ≡ cell_at now l
-  pub records : recordCount after.heap ≡ recordCount now.heap
-  pub counts : (r : ℕ) → countAt after.heap r ≡ countAt now.heap r
-  pub labels : (r f : ℕ) → labelAt after.heap r f ≡ labelAt now.heap r f
-  pub environment-length : length after.environment ≡ length now.environment
-  pub heap-length : length after.heap ≡ length now.heap
+  pub records : record_count after.heap ≡ record_count now.heap
+  pub counts : (r : ℕ) → count_at after.heap r ≡ count_at now.heap r
+  pub labels : (r f : ℕ) → label_at after.heap r f ≡ label_at now.heap r f
+  pub environment_length : length after.environment ≡ length now.environment
+  pub heap_length : length after.heap ≡ length now.heap
 
 -- the phase: paths are followed in `before`, `now` is written, and Z is left; "If an identity names the target, the new value must be a reference or nil";
 -- the update is relevant: nothing that is frozen changed

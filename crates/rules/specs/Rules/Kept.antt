@@ -2,10 +2,10 @@
 use Rattle.std.specs.Prelude.{ℕ, ◌+◌, ◌≡◌, true, List, map, ◌++◌, ℤ, length, drop}
 use Rattle.tables.specs.declared.Sort.{Sort}
 use Rattle.tables.specs.declared.Sort.TheVariants.{Values, Identities}
-use Rattle.tables.specs.Sizes.{constraintsWords}
+use Rattle.tables.specs.Sizes.{constraints_words}
 use Rattle.tables.specs.Cells.{Cells}
 use Rattle.fit.specs.Fit.{Fit}
-use Rattle.program.specs.Where.{statementAt, constraintsStand}
+use Rattle.program.specs.Where.{statement_at, constraints_stand}
 use Rattle.program.specs.declared.Spot.TheVariants.{At}
 use Rattle.rules.specs.State.{State, positions}
 use Rattle.rules.specs.Constraints.{Part}
@@ -19,16 +19,16 @@ KeptStands program S (Values, position) = (parts : List Part) × (ConstraintIs S
 KeptStands program S (Identities, position) = Same S (drop (position + 1) program)
 
 -- "values before identities, in kept order"
-abbrev pub inOrder : List ℤ → List (Sort × ℕ)
-inOrder kept = map (λ k. (Values, k)) (positions kept Values) ++ map (λ k. (Identities, k)) (positions kept Identities)
+abbrev pub in_order : List ℤ → List (Sort × ℕ)
+in_order kept = map (λ k. (Values, k)) (positions kept Values) ++ map (λ k. (Identities, k)) (positions kept Identities)
 
 -- the tables are fit, every kept position is that of an always-statement of its sort, and every kept constraint holds
 pub record Stands (program : List ℤ) (S : State) : Type 0 where
   pub fit : Fit S.cells
-  pub long : length S.kept ≡ constraintsWords
-  pub positions-stand : constraintsStand program S.kept ≡ true
-  pub constraints : Each (KeptStands program S.cells) (inOrder S.kept)
+  pub long : length S.kept ≡ constraints_words
+  pub positions-stand : constraints_stand program S.kept ≡ true
+  pub constraints : Each (KeptStands program S.cells) (in_order S.kept)
 
 -- p is the part of the program that begins at a statement of it
 pub data AtStatement (program : List ℤ) : List ℤ → Type 0 where
-  at : (k : ℕ) {verb nest : ℕ} → statementAt program k ≡ At verb nest → AtStatement program (drop k program)
+  at : (k : ℕ) {verb nest : ℕ} → statement_at program k ≡ At verb nest → AtStatement program (drop k program)

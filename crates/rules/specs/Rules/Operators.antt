@@ -5,16 +5,16 @@ use Rattle.std.specs.Int.Signed.{lt_z, le_z}
 use Rattle.words.specs.Range.{fits}
 use Rattle.tables.specs.declared.Value.{Value}
 use Rattle.tables.specs.declared.Value.TheVariants.{Bool as Truth, Int}
-use Rattle.rules.specs.Evaluation.{Kind, isBool, isInt, isRef, kind_of}
+use Rattle.rules.specs.Evaluation.{Kind, is_bool, is_int, is_ref, kind_of}
 
 -- T-OP: the operator takes operands of the first two kinds, and gives the third: "Operators 1 to 5, 8 and 9 want integers, 10 and 11 booleans";
 -- 02, W4: "operators 6 and 7 want two integers, two booleans or two nils"
 pub data Gives : ℕ → Kind → Kind → Kind → Type 0 where
-  number : {o : ℕ} → 1 ≤ o → o ≤ 3 → Gives o isInt isInt isInt
-  order : {o : ℕ} → 4 ≤ o → o ≤ 5 → Gives o isInt isInt isBool
-  equality : {o : ℕ} {k : Kind} → 6 ≤ o → o ≤ 7 → k ≢ isRef → Gives o k k isBool
-  reverse : {o : ℕ} → 8 ≤ o → o ≤ 9 → Gives o isInt isInt isBool
-  logic : {o : ℕ} → 10 ≤ o → o ≤ 11 → Gives o isBool isBool isBool
+  number : {o : ℕ} → 1 ≤ o → o ≤ 3 → Gives o is_int is_int is_int
+  order : {o : ℕ} → 4 ≤ o → o ≤ 5 → Gives o is_int is_int is_bool
+  equality : {o : ℕ} {k : Kind} → 6 ≤ o → o ≤ 7 → k ≢ is_ref → Gives o k k is_bool
+  reverse : {o : ℕ} → 8 ≤ o → o ≤ 9 → Gives o is_int is_int is_bool
+  logic : {o : ℕ} → 10 ≤ o → o ≤ 11 → Gives o is_bool is_bool is_bool
 
 -- E-OP: the operator makes the third value of the first two; "each result of 1 to 3 must fit 32 bits signed"
 pub data Makes : ℕ → Value → Value → Value → Type 0 where
@@ -24,8 +24,8 @@ pub data Makes : ℕ → Value → Value → Value → Type 0 where
   less : {m n : ℤ} → Makes 4 (Int m) (Int n) (Truth (lt_z m n))
   at_most : {m n : ℤ} → Makes 5 (Int m) (Int n) (Truth (le_z m n))
   -- two of one kind, and no references
-  equal : {a b : Value} {t : Bool} → kind_of a ≡ kind_of b → kind_of a ≢ isRef → (t ≡ true) ↔ (a ≡ b) → Makes 6 a b (Truth t)
-  unequal : {a b : Value} {t : Bool} → kind_of a ≡ kind_of b → kind_of a ≢ isRef → (t ≡ true) ↔ (a ≢ b) → Makes 7 a b (Truth t)
+  equal : {a b : Value} {t : Bool} → kind_of a ≡ kind_of b → kind_of a ≢ is_ref → (t ≡ true) ↔ (a ≡ b) → Makes 6 a b (Truth t)
+  unequal : {a b : Value} {t : Bool} → kind_of a ≡ kind_of b → kind_of a ≢ is_ref → (t ≡ true) ↔ (a ≢ b) → Makes 7 a b (Truth t)
   at_least : {m n : ℤ} → Makes 8 (Int m) (Int n) (Truth (le_z n m))
   more : {m n : ℤ} → Makes 9 (Int m) (Int n) (Truth (lt_z n m))
   both : {a b : Bool} → Makes 10 (Truth a) (Truth b) (Truth (a && b))

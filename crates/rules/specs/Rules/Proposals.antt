@@ -4,7 +4,7 @@ use Rattle.std.specs.Prelude.{ℕ, suc, ◌≤◌, ◌<◌, ◌≡◌, true, fal
 use Rattle.std.proofs.Math.Option.{Option, some}
 use Rattle.tables.specs.Sizes.{locations}
 use Rattle.tables.specs.Values.{cell}
-use Rattle.tables.specs.Cells.{Cells, cell_at, putCell}
+use Rattle.tables.specs.Cells.{Cells, cell_at, put_cell}
 use Rattle.program.specs.Forms.{required}
 use Rattle.rules.specs.State.{Fault, refused}
 use Rattle.rules.specs.Constraints.{Part}
@@ -29,8 +29,8 @@ pub data Formed : List ℤ → List Entry → List ℤ → Type 0 where
 
 -- the entries' payloads put in S, one after the other, leave Z
 pub data Puts : Cells → List Entry → Cells → Type 0 where
-  no-entry : {S : Cells} → Puts S [] S
-  entry : {S Z : Cells} {e : Entry} {es : List Entry} → Puts (putCell S e.location (cell (cell_at S e.location).kind e.payload)) es Z → Puts S (e ∷ es) Z
+  no_entry : {S : Cells} → Puts S [] S
+  entry : {S Z : Cells} {e : Entry} {es : List Entry} → Puts (put_cell S e.location (cell (cell_at S e.location).kind e.payload)) es Z → Puts S (e ∷ es) Z
 
 -- ---- an entry, a part
 
@@ -66,15 +66,15 @@ pub record Settles (program kept : List ℤ) (asked : Asked) (S : Cells) (ws : L
 
 pub data Fails (program kept : List ℤ) (asked : Asked) (S : Cells) (before : List Part) (ws : List ℤ) : ℕ → Type 0 where
   no_words : ws ≡ [] → Fails program kept asked S before ws 6
-  not-formed : (ws ≡ [] → ⊥) → ((es : List Entry) (rest : List ℤ) → Formed ws es rest → ⊥) → Fails program kept asked S before ws 16
-  not-allowed : {es : List Entry} {rest : List ℤ} → Formed ws es rest → (Each (Allowed S asked.target) es → ⊥) → Fails program kept asked S before ws 17
-  not-needed : {es : List Entry} {rest : List ℤ} → Formed ws es rest → Each (Allowed S asked.target) es → (Needed before es → ⊥) → Fails program kept asked S before ws 18
-  not-met : {es : List Entry} {rest : List ℤ} {Z : Cells} {after : List Part} → Formed ws es rest → Each (Allowed S asked.target) es → Needed before es
+  not_formed : (ws ≡ [] → ⊥) → ((es : List Entry) (rest : List ℤ) → Formed ws es rest → ⊥) → Fails program kept asked S before ws 16
+  not_allowed : {es : List Entry} {rest : List ℤ} → Formed ws es rest → (Each (Allowed S asked.target) es → ⊥) → Fails program kept asked S before ws 17
+  not_needed : {es : List Entry} {rest : List ℤ} → Formed ws es rest → Each (Allowed S asked.target) es → (Needed before es → ⊥) → Fails program kept asked S before ws 18
+  not_met : {es : List Entry} {rest : List ℤ} {Z : Cells} {after : List Part} → Formed ws es rest → Each (Allowed S asked.target) es → Needed before es
       → Puts S es Z → CountedAre program kept Z asked.own after → (Each Met after → ⊥) → Fails program kept asked S before ws 19
 
 -- `word` is the part at the statement's word
 pub data Unsettled (program kept : List ℤ) (asked : Asked) (word : List ℤ) (S : Cells) (ws : List ℤ) : Fault → Type 0 where
   uncounted : {f : Fault} → Uncounted program kept S asked.own f → Unsettled program kept asked word S ws f
   no_room : {before : List Part} → CountedAre program kept S asked.own before → asked.room ≡ false → Unsettled program kept asked word S ws (refused 14 word)
-  turned_down : {n : ℕ} {before : List Part}
+  turned-down : {n : ℕ} {before : List Part}
       → CountedAre program kept S asked.own before → asked.room ≡ true → Fails program kept asked S before ws n → Unsettled program kept asked word S ws (refused n word)

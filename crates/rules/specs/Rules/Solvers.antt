@@ -2,7 +2,7 @@
 use Rattle.std.specs.Prelude.{◌≡◌, ◌≢◌, ℕ, ◌≤◌, ℤ, pos, drop}
 use mathlib.Core.List.{List, [], ◌∷◌, Memᴰ as OneOf}
 use Rattle.program.specs.Grammar.{Program}
-use Rattle.program.specs.Where.{statementAt}
+use Rattle.program.specs.Where.{statement_at}
 use Rattle.program.specs.declared.Spot.TheVariants.{At}
 use Rattle.rules.specs.State.{State, Fault, refused}
 use Rattle.rules.specs.Proposals.{Entry}
@@ -14,7 +14,7 @@ use Rattle.rules.specs.Rules.Answers.{Measured, Unstarted, Passes}
 
 -- "one of statements 1 to 4, named by its word": p is the part of the program that begins at it
 pub data Named (program : List ℤ) : ℤ → List ℤ → Type 0 where
-  named : {k verb nest : ℕ} → 1 ≤ verb → verb ≤ 4 → statementAt program k ≡ At verb nest → Named program (pos k) (drop k program)
+  named : {k verb nest : ℕ} → 1 ≤ verb → verb ≤ 4 → statement_at program k ≡ At verb nest → Named program (pos k) (drop k program)
 
 -- ---- the statement at p with one slice, "each one whole proposal"
 
@@ -42,27 +42,27 @@ abbrev pub accepted : ℤ → ℕ → List ℤ → State → Given
 accepted word solver ws Z = record { outcome = 0; place = word; solver = solver; words = ws; state = Z }
 
 -- "On every refusal the part handed back is the empty start of the first slice."
-abbrev pub turnedDown : State → ℕ → ℤ → Given
-turnedDown S n place = record { outcome = n; place = place; solver = 0; words = []; state = S }
+abbrev pub turned_down : State → ℕ → ℤ → Given
+turned_down S n place = record { outcome = n; place = place; solver = 0; words = []; state = S }
 
 abbrev pub refusal : List ℤ → State → Fault → Given
-refusal program S f = turnedDown S f.number (pos (place_of program f))
+refusal program S f = turned_down S f.number (pos (place_of program f))
 
 pub data Tries (program : List ℤ) (word : ℤ) (first second : List ℤ) (S : State) (p : List ℤ) : Given → Type 0 where
   -- "The first is tried"
-  t-first : {l : Left} → Accepts program S p first l → Tries program word first second S p (accepted word 1 first l.state)
+  t_first : {l : Left} → Accepts program S p first l → Tries program word first second S p (accepted word 1 first l.state)
   -- "if it is refused by 6 or by 16 to 19 .., the second"
-  t-second : {f : Fault} {l : Left} → TurnsDown program S p first f → Accepts program S p second l → Tries program word first second S p (accepted word 2 second l.state)
+  t_second : {f : Fault} {l : Left} → TurnsDown program S p first f → Accepts program S p second l → Tries program word first second S p (accepted word 2 second l.state)
   -- "the number is the second's, or the first's where the second slice is empty"
   t_both : {f g : Fault} → TurnsDown program S p first f → TurnsDown program S p second g → second ≢ [] → Tries program word first second S p (refusal program S g)
-  t-no-second : {f : Fault} → TurnsDown program S p first f → second ≡ [] → Tries program word first second S p (refusal program S f)
+  t_no_second : {f : Fault} → TurnsDown program S p first f → second ≡ [] → Tries program word first second S p (refusal program S f)
   -- every other refusal is the statement's own
-  t-refused : {f : Fault} → Refused program S first p f → (OneOf f.number turning → ⊥) → Tries program word first second S p (refusal program S f)
+  t_refused : {f : Fault} → Refused program S first p f → (OneOf f.number turning → ⊥) → Tries program word first second S p (refusal program S f)
 
 -- the call gives this; without a budget, the start is that of a run with 0
 pub data Asked (program : List ℤ) (word : ℤ) (first second : List ℤ) (S : State) : Given → Type 0 where
   -- 1, and 2 for the program; 3 and 4 where the word names a statement
-  unstarted : {n place : ℕ} → Unstarted program (pos 0) S n place → (3 ≤ n → (p : List ℤ) × Named program word p) → Asked program word first second S (turnedDown S n (pos place))
+  unstarted : {n place : ℕ} → Unstarted program (pos 0) S n place → (3 ≤ n → (p : List ℤ) × Named program word p) → Asked program word first second S (turned_down S n (pos place))
   -- "any other word is 2 there"
-  unnamed : Measured (pos 0) S → Program program → ((p : List ℤ) → Named program word p → ⊥) → Asked program word first second S (turnedDown S 2 word)
+  unnamed : Measured (pos 0) S → Program program → ((p : List ℤ) → Named program word p → ⊥) → Asked program word first second S (turned_down S 2 word)
   started : {p : List ℤ} {e : Given} → Passes program (pos 0) S → Named program word p → Tries program word first second S p e → Asked program word first second S e

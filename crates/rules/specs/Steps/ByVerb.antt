@@ -1,8 +1,8 @@
 -- Which refusals a statement may give, by its verb. Assumes nothing: these are statements.
 use Rattle.std.specs.Prelude.{ℕ, ◌≤◌, ◌≡◌, ◌≢◌, Bool, true, ℤ}
 use mathlib.Core.List.{List, [], ◌∷◌, Memᴰ as OneOf}
-use Rattle.words.specs.Words.{numberAt}
-use Rattle.program.specs.Forms.{Verb, skip, assign, new, always, once, alwaysSame, onceSame, branch, loop, noVerb, verbOf}
+use Rattle.words.specs.Words.{number_at}
+use Rattle.program.specs.Forms.{Verb, skip, assign, new, always, once, always_same, once_same, branch, loop, no_verb, verb_of}
 use Rattle.rules.specs.State.{State}
 use Rattle.rules.specs.Identities.{member}
 use Rattle.rules.specs.Start.{Ended}
@@ -18,17 +18,17 @@ refusals assign = 7 ∷ 8 ∷ 9 ∷ 13 ∷ 12 ∷ 15 ∷ 6 ∷ 16 ∷ 17 ∷ 18 
 refusals new = 7 ∷ 8 ∷ 9 ∷ 10 ∷ 12 ∷ 15 ∷ 6 ∷ 16 ∷ 17 ∷ 18 ∷ 19 ∷ []
 refusals always = 7 ∷ 8 ∷ 15 ∷ 14 ∷ 6 ∷ 16 ∷ 17 ∷ 18 ∷ 19 ∷ []
 refusals once = 7 ∷ 8 ∷ 15 ∷ 6 ∷ 16 ∷ 17 ∷ 18 ∷ 19 ∷ []
-refusals alwaysSame = 7 ∷ 8 ∷ 11 ∷ 14 ∷ []
-refusals onceSame = 7 ∷ 8 ∷ 11 ∷ []
+refusals always_same = 7 ∷ 8 ∷ 11 ∷ 14 ∷ []
+refusals once_same = 7 ∷ 8 ∷ 11 ∷ []
 refusals branch = 7 ∷ 8 ∷ 9 ∷ []
 refusals loop = 7 ∷ 8 ∷ 9 ∷ []
-refusals noVerb = []
+refusals no_verb = []
 
 -- from 5 on, the outcome is one of those of a statement of the program, whose word is the place, or in which 7, 8 or 9 is found there
 pub record Refusing (program : List ℤ) (e : Ended) : Type 0 where
   pub part : List ℤ
   pub at : AtStatement program part
-  pub verb : member e.outcome (5 ∷ refusals (verbOf (numberAt part 0))) ≡ true
+  pub verb : member e.outcome (5 ∷ refusals (verb_of (number_at part 0))) ≡ true
   pub own : (OneOf e.outcome (7 ∷ 8 ∷ 9 ∷ 15 ∷ []) → ⊥) → e.place ≡ position_of program part
   pub inner : OneOf e.outcome (7 ∷ 8 ∷ 9 ∷ 15 ∷ []) → e.outcome ≢ 15 → (c : Bool) × Found program e.state.cells e.outcome e.place c part
 

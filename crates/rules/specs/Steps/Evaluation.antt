@@ -5,11 +5,11 @@ use Rattle.tables.specs.declared.Value.{Value}
 use Rattle.tables.specs.declared.Value.TheVariants.{Bool as Truth}
 use Rattle.tables.specs.Cells.{Cells}
 use Rattle.fit.specs.Fit.{Fit}
-use Rattle.program.specs.Forms.{expressionDepth, mostParts, required}
+use Rattle.program.specs.Forms.{expression_depth, most_parts, required}
 use Rattle.rules.specs.State.{Fault, Res}
-use Rattle.rules.specs.Paths.{Way, wayAt}
-use Rattle.rules.specs.Evaluation.{Kind, isBool, kind_of, evaluate, kind}
-use Rattle.rules.specs.Constraints.{Part, constraintAt}
+use Rattle.rules.specs.Paths.{Way, way_at}
+use Rattle.rules.specs.Evaluation.{Kind, is_bool, kind_of, evaluate, kind}
+use Rattle.rules.specs.Constraints.{Part, constraint_at}
 use Rattle.rules.specs.Rules.Expressions.{Names, Holds, Within, KindWithin}
 use Rattle.rules.specs.Rules.Constraints.{ConstraintIs}
 
@@ -36,7 +36,7 @@ pub data ComesTo (k : Kind) (q : List ℤ) : Res (Value × List ℤ) → Type 0 
 -- T-PRIORITY: a part at p, of a priority from 1 to 3, reads where its expression is boolean; q follows it
 pub data PartReads (S : Cells) : List ℤ → List ℤ → Type 0 where
   part : {priority : ℕ} {p q : List ℤ}
-      → 1 ≤ priority → priority ≤ required → KindWithin S expressionDepth p isBool q → PartReads S (pos priority ∷ p) q
+      → 1 ≤ priority → priority ≤ required → KindWithin S expression_depth p is_bool q → PartReads S (pos priority ∷ p) q
 
 -- T-CONJUNCTION: m parts in a row
 pub data PartsRead (S : Cells) : ℕ → List ℤ → List ℤ → Type 0 where
@@ -45,11 +45,11 @@ pub data PartsRead (S : Cells) : ℕ → List ℤ → List ℤ → Type 0 where
 
 -- "C: m (1 to 16), m times priority and e": the C at p reads
 pub data ConstraintReads (S : Cells) : List ℤ → Type 0 where
-  constraint : {m : ℕ} {p q : List ℤ} → 1 ≤ m → m ≤ mostParts → PartsRead S m p q → ConstraintReads S (pos m ∷ p)
+  constraint : {m : ℕ} {p q : List ℤ} → 1 ≤ m → m ≤ most_parts → PartsRead S m p q → ConstraintReads S (pos m ∷ p)
 
 pub record EvaluationClaim : Type 0 where
   -- an L names a cell, with its prefix cells and what follows it
-  pub paths : (S : Cells) (p : List ℤ) (w : Way) → (wayAt S p ≡ got w) ↔ Names S p w
+  pub paths : (S : Cells) (p : List ℤ) (w : Way) → (way_at S p ≡ got w) ↔ Names S p w
   -- the expression at p, nested at most d deep, has the value v, and q follows it (E-rules)
   pub values : (d : ℕ) (S : Cells) (p : List ℤ) (v : Value) (q : List ℤ) → (evaluate d S p ≡ got (v, q)) ↔ Within S d p v q
   -- L == L, in fit tables: true for one value, false for two
@@ -60,5 +60,5 @@ pub record EvaluationClaim : Type 0 where
   -- kinds are sound: what has a kind has a value of that kind, or leaves 32 bits
   pub sound : (d : ℕ) (S : Cells) (p : List ℤ) (k : Kind) (q : List ℤ) → kind d S p ≡ got (k, q) → ComesTo k q (evaluate d S p)
   -- the C at p reads, and these are its parts
-  pub reads : (S : Cells) (p : List ℤ) → ((parts : List Part) × (constraintAt S p ≡ got parts)) ↔ ConstraintReads S p
-  pub parts : (S : Cells) (p : List ℤ) (xs : List Part) → (constraintAt S p ≡ got xs) ↔ ConstraintIs S p xs
+  pub reads : (S : Cells) (p : List ℤ) → ((parts : List Part) × (constraint_at S p ≡ got parts)) ↔ ConstraintReads S p
+  pub parts : (S : Cells) (p : List ℤ) (xs : List Part) → (constraint_at S p ≡ got xs) ↔ ConstraintIs S p xs

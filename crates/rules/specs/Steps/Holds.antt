@@ -1,18 +1,18 @@
 -- What a run must never lose, by the definitions. Assumes nothing: these are definitions.
 use Rattle.std.specs.Prelude.{ℕ, ◌+◌, ◌≤◌, ◌≡◌, true, List, ℤ, length, drop}
-use Rattle.words.specs.Words.{numberAt}
+use Rattle.words.specs.Words.{number_at}
 use Rattle.words.specs.Answer.{got}
 use Rattle.tables.specs.declared.Sort.TheVariants.{Values, Identities}
-use Rattle.tables.specs.Sizes.{constraintsWords}
+use Rattle.tables.specs.Sizes.{constraints_words}
 use Rattle.tables.specs.Cells.{Cells}
 use Rattle.fit.specs.Fit.{Fit}
 use Rattle.program.specs.declared.Spot.TheVariants.{At}
-use Rattle.program.specs.Forms.{mostWords}
-use Rattle.program.specs.Reading.{readStatement}
-use Rattle.program.specs.Where.{statementAt, constraintsStand}
+use Rattle.program.specs.Forms.{most_words}
+use Rattle.program.specs.Reading.{read_statement}
+use Rattle.program.specs.Where.{statement_at, constraints_stand}
 use Rattle.rules.specs.State.{State, positions}
 use Rattle.rules.specs.Constraints.{Part, kept_at}
-use Rattle.rules.specs.Identities.{sameNow}
+use Rattle.rules.specs.Identities.{same_now}
 use Rattle.rules.specs.Statements.{position_of}
 use Rattle.rules.specs.Rules.Proposals.{Each, Met}
 
@@ -24,13 +24,13 @@ pub record ValueHolds (program : List ℤ) (S : Cells) (position : ℕ) : Type 0
 
 -- both sides of the identity at a position hold the same reference, or nil
 abbrev pub IdentityHolds : List ℤ → Cells → ℕ → Type 0
-IdentityHolds program S position = sameNow S (drop position program) (drop (position + 1) program) ≡ got tt
+IdentityHolds program S position = same_now S (drop position program) (drop (position + 1) program) ≡ got tt
 
 -- the tables are fit, every kept position is that of an always-statement of its sort, and every kept constraint holds
 pub record Holds (program : List ℤ) (S : State) : Type 0 where
   pub fit : Fit S.cells
-  pub long : length S.kept ≡ constraintsWords
-  pub stands : constraintsStand program S.kept ≡ true
+  pub long : length S.kept ≡ constraints_words
+  pub stands : constraints_stand program S.kept ≡ true
   pub values : Each (ValueHolds program S.cells) (positions S.kept Values)
   pub identities : Each (IdentityHolds program S.cells) (positions S.kept Identities)
 
@@ -38,11 +38,11 @@ pub record Holds (program : List ℤ) (S : State) : Type 0 where
 pub record StatementReads (p : List ℤ) : Type 0 where
   pub nest : ℕ
   pub rest : List ℤ
-  pub reads : readStatement nest p ≡ got rest
+  pub reads : read_statement nest p ≡ got rest
 
 -- p is the part of the program that begins at a statement of it
 pub record StatementThere (program p : List ℤ) : Type 0 where
-  pub short : length program ≤ mostWords
+  pub short : length program ≤ most_words
   pub part : drop (position_of program p) program ≡ p
   pub statement : StatementReads p
-  pub there : statementAt program (position_of program p) ≡ At (numberAt p 0) statement.nest
+  pub there : statement_at program (position_of program p) ≡ At (number_at p 0) statement.nest

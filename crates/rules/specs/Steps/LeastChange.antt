@@ -7,7 +7,7 @@ use Rattle.tables.specs.Values.{Sound}
 use Rattle.tables.specs.Cells.{Cells}
 use Rattle.fit.specs.Fit.{Fit}
 use Rattle.rules.specs.State.{Res, refuse, slot_at}
-use Rattle.rules.specs.Identities.{Tie, ties, isNode, identityPhase}
+use Rattle.rules.specs.Identities.{Tie, ties, is_node, identity_phase}
 use Rattle.rules.specs.Rules.Identities.{IsNamed}
 use Rattle.rules.specs.Steps.Phases.{Relevant, RelevantUpdate, Clash, Satisfies, Solves, Target, Ready}
 
@@ -19,7 +19,7 @@ pub record LeastChange (phase : Res Cells) (before now : Cells) (word : List ℤ
   pub impossible : Clash prefix ts target v before → (Y : Cells) → Solves prefix ts target v before Y → ⊥
   pub refused : phase ≡ refuse 12 word → (Y : Cells) → Solves prefix ts target v before Y → ⊥
   -- and where there is one, the phase answers, unless 13 refuses the value
-  pub answers : (Y : Cells) → Solves prefix ts target v before Y → (IsNamed ts target → isNode v ≡ true) → (Z : Cells) × (phase ≡ got Z)
+  pub answers : (Y : Cells) → Solves prefix ts target v before Y → (IsNamed ts target → is_node v ≡ true) → (Z : Cells) × (phase ≡ got Z)
   -- its answer moves the class and nothing else
   pub updates : (Z : Cells) → phase ≡ got Z → RelevantUpdate prefix ts target v before now Z
   -- if the identities held before, they hold in it: it is such a table
@@ -31,4 +31,4 @@ abbrev pub LeastChanges : Type 0
 LeastChanges =
     (program kept : List ℤ) (before now : Cells) (word : List ℤ) (target : ℕ) (prefix : List ℕ) (v : Value) (ts : List Tie)
     → Fit before → Ready before now → Target before target prefix → Sound v → ties program kept before ≡ got ts
-    → LeastChange (identityPhase program kept before now word target prefix v) before now word target prefix v ts
+    → LeastChange (identity_phase program kept before now word target prefix v) before now word target prefix v ts

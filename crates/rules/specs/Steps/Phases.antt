@@ -4,12 +4,12 @@ use mathlib.Core.List.{List, [], Memᴰ as OneOf}
 use Rattle.words.specs.Answer.{got}
 use Rattle.tables.specs.declared.Value.{Value}
 use Rattle.tables.specs.declared.Slot.TheVariants.{Has}
-use Rattle.tables.specs.Sizes.{variables, mostRecords, mostFields}
+use Rattle.tables.specs.Sizes.{variables, most_records, most_fields}
 use Rattle.tables.specs.Cells.{Cells, cells}
-use Rattle.tables.specs.Records.{recordCount, withRecord}
+use Rattle.tables.specs.Records.{record_count, with_record}
 use Rattle.rules.specs.State.{slot_at}
-use Rattle.rules.specs.Paths.{Way, wayAt}
-use Rattle.rules.specs.Identities.{Tie, ties, isNode, class_of, put_all}
+use Rattle.rules.specs.Paths.{Way, way_at}
+use Rattle.rules.specs.Identities.{Tie, ties, is_node, class_of, put_all}
 use Rattle.rules.specs.Rules.Identities.{Tied, Frozen, IsNamed, Update}
 
 -- the target's class: the relevant cells
@@ -24,7 +24,7 @@ pub record RelevantUpdate (prefix : List ℕ) (ts : List Tie) (target : ℕ) (v 
 -- "a frozen cell is in the class and now holds something else"
 pub record Clash (prefix : List ℕ) (ts : List Tie) (target : ℕ) (v : Value) (before : Cells) : Type 0 where
   pub cell : ℕ
-  pub in-class : Relevant ts target cell
+  pub in_class : Relevant ts target cell
   pub frozen : Frozen prefix ts cell
   pub other : slot_at before cell ≡ Has v → ⊥
 
@@ -40,18 +40,18 @@ pub record Solves (prefix : List ℕ) (ts : List Tie) (target : ℕ) (v : Value)
 
 -- the target of an assignment is named by an L, that of a new is a variable
 pub data Target (before : Cells) : ℕ → List ℕ → Type 0 where
-  by-variable : {x : ℕ} → x < variables → Target before x []
-  by-path : (p : List ℤ) (w : Way) → wayAt before p ≡ got w → Target before w.cell w.prefix
+  by_variable : {x : ℕ} → x < variables → Target before x []
+  by_path : (p : List ℤ) (w : Way) → way_at before p ≡ got w → Target before w.cell w.prefix
 
 -- the tables that the phase writes: those before the statement; for a new, with its record
 pub data Ready (before : Cells) : Cells → Type 0 where
   as_before : Ready before before
-  with-record : (fs : List ℤ) (n : ℕ) → recordCount before.heap < mostRecords → n ≤ mostFields → Ready before (cells before.environment (withRecord before.heap fs n))
+  with-record : (fs : List ℤ) (n : ℕ) → record_count before.heap < most_records → n ≤ most_fields → Ready before (cells before.environment (with_record before.heap fs n))
 
 -- what the definition of the phase tests and writes
 pub record Computed (program kept : List ℤ) (before now : Cells) (target : ℕ) (prefix : List ℕ) (v : Value) (Z : Cells) : Type 0 where
   pub tied : List Tie
   pub followed : ties program kept before ≡ got tied
-  pub node : IsNamed tied target → isNode v ≡ true
+  pub node : IsNamed tied target → is_node v ≡ true
   pub free : (l : ℕ) → Relevant tied target l → Frozen prefix tied l → slot_at before l ≡ Has v
   pub written : Z ≡ put_all now (class_of tied target) v

@@ -1,5 +1,5 @@
 use mathlib.Core.Path.{ap, ◌∙◌}
-use Rattle.compared.specs.Answers.{stored, weighedWords}
+use Rattle.compared.specs.Answers.{stored, weighed_words}
 use borrow.Author.Rules.{rules}
 use Rattle.compared.proofs.answers.compared_kept.Statement.{statement}
 use Rattle.compared.proofs.answers.compared_kept.Tie as tie
@@ -22,7 +22,7 @@ same_length c = search rules
 
 -- src/answers.rt:105:1
 returns : tie.Need-returns
-returns c = c.before.tell-weighed.ensures ∙ ap (λ w. stored c.before.before.before.before.args.answer.now (weighedWords w)) c.before.before.kept_at.ensures
+returns c = c.before.tell-weighed.ensures ∙ ap (λ w. stored c.before.before.before.before.args.answer.now (weighed_words w)) c.before.before.kept_at.ensures
 
 pub compared-kept-spec : {M : Type 1} → statement M
 compared-kept-spec =

@@ -1,6 +1,6 @@
 use mathlib.Core.Path.{sym, ap, ◌∙◌}
 use Rattle.words.proofs.Signed.{back32}
-use Rattle.compared.specs.Answers.{stored, testedWords}
+use Rattle.compared.specs.Answers.{stored, tested_words}
 use borrow.Author.Rules.{rules}
 use Rattle.compared.proofs.answers.compared_test.Statement.{statement}
 use Rattle.compared.proofs.answers.compared_test.Tie as tie

@@ -28,7 +28,7 @@ same-length-3 c = search rules
 returns : tie.Need-returns
 returns c =
     let r = rw (back32 c.before.before.before.before.before.before.before.before.args.word c.before.before.before.before.before.before.before.before.ranges.word) at c.before.before.before.ask.ensures.0 in
-    record { answers = r.answers; leaves = r.leaves; counts = ap length r.hands-back; start = sym r.hands-back ∙ r.start }
+    record { answers = r.answers; leaves = r.leaves; counts = ap length r.hands_back; start = sym r.hands_back ∙ r.start }
 
 pub cordbasin-ask-spec : {M : Type 1} → statement M
 cordbasin-ask-spec =

@@ -28,7 +28,7 @@ same-length-3 c = search rules
 returns : tie.Need-returns
 returns c =
     let r = rw (back32 c.before.before.before.before.before.before.before.before.args.budget c.before.before.before.before.before.before.before.before.ranges.budget) at c.before.before.before.assign.ensures in
-    record { answers = r.answers; leaves = r.leaves; counts = ap length r.hands-back }
+    record { answers = r.answers; leaves = r.leaves; counts = ap length r.hands_back }
 
 pub cordbasin-assign-spec : {M : Type 1} → statement M
 cordbasin-assign-spec =

@@ -1,6 +1,6 @@
 use mathlib.Core.Path.{◌≡◌, sym, ap, ◌∙◌}
 use borrow.Author.Tests.{not-true, not-false}
-use Rattle.program.specs.Reading.{readPath}
+use Rattle.program.specs.Reading.{read_path}
 use Rattle.program.proofs.LengthLaws.{after-part, uses-keeps, path-uses}
 use Rattle.program.proofs.ReadLaws.{onward}
 use Rattle.entries.proofs.ReadLaws.{path-halts, form-low, form-high, form-literal}
@@ -38,7 +38,7 @@ unfit-requires c κs = search rules
 -- src/reading.rt:21:9
 returns-2 : tie.Need-returns-2
 returns-2 c =
-    let e = onward (readPath c.before.before.before.before.before.before.before.args.p.now) (after-part _ (uses-keeps (path-uses c.before.before.before.before.before.before.before.args.p.now))) c.before.before.before.before.before.before.read-path.ensures (not-false _ c.before.before.before.before.if1.false) c.before.before.before.part-last.ensures in
+    let e = onward (read_path c.before.before.before.before.before.before.before.args.p.now) (after-part _ (uses-keeps (path-uses c.before.before.before.before.before.before.before.args.p.now))) c.before.before.before.before.before.before.read-path.ensures (not-false _ c.before.before.before.before.if1.false) c.before.before.before.part-last.ensures in
     c.unfit.ensures ∙ form-low c.before.before.before.before.before.before.before.args.p.now e (rw c.before.before.number_at.ensures at c.before.if2.true)
 
 -- src/reading.rt:24:9
@@ -48,7 +48,7 @@ unfit-requires-2 c κs = search rules
 -- src/reading.rt:24:9
 returns-3 : tie.Need-returns-3
 returns-3 c =
-    let e = onward (readPath c.before.before.before.before.before.before.before.before.args.p.now) (after-part _ (uses-keeps (path-uses c.before.before.before.before.before.before.before.before.args.p.now))) c.before.before.before.before.before.before.before.read-path.ensures (not-false _ c.before.before.before.before.before.if1.false) c.before.before.before.before.part-last.ensures in
+    let e = onward (read_path c.before.before.before.before.before.before.before.before.args.p.now) (after-part _ (uses-keeps (path-uses c.before.before.before.before.before.before.before.before.args.p.now))) c.before.before.before.before.before.before.before.read-path.ensures (not-false _ c.before.before.before.before.before.if1.false) c.before.before.before.before.part-last.ensures in
     c.unfit2.ensures ∙ form-high c.before.before.before.before.before.before.before.before.args.p.now e (rw c.before.before.before.number_at.ensures at c.before.if3.true)
 
 -- src/reading.rt:26:5
@@ -58,7 +58,7 @@ read-expression-requires c κs = search rules
 -- src/reading.rt:11:1
 returns-4 : tie.Need-returns-4
 returns-4 c =
-    let e = onward (readPath c.before.before.before.before.before.before.before.before.args.p.now) (after-part _ (uses-keeps (path-uses c.before.before.before.before.before.before.before.before.args.p.now))) c.before.before.before.before.before.before.before.read-path.ensures (not-false _ c.before.before.before.before.before.if1.false) c.before.before.before.before.part-last.ensures in
+    let e = onward (read_path c.before.before.before.before.before.before.before.before.args.p.now) (after-part _ (uses-keeps (path-uses c.before.before.before.before.before.before.before.before.args.p.now))) c.before.before.before.before.before.before.before.read-path.ensures (not-false _ c.before.before.before.before.before.if1.false) c.before.before.before.before.part-last.ensures in
     c.read-expression.ensures ∙ form-literal c.before.before.before.before.before.before.before.before.args.p.now e (rw c.before.before.before.number_at.ensures at c.before.before.if2.false) (rw c.before.before.before.number_at.ensures at c.before.if3.false)
 
 pub read-entry-spec : {M : Type 1} → statement M

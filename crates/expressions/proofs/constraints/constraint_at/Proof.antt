@@ -1,7 +1,7 @@
 use mathlib.Core.Path.{◌≡◌, sym, ap, ◌∙◌}
 use Prim.Native.Nat.{◌≤◌, ◌<◌}
 use lib.ListN.{length, drop}
-use Rattle.words.specs.Words.{numberAt}
+use Rattle.words.specs.Words.{number_at}
 use Rattle.tables.specs.Cells.{cells}
 use Rattle.expressions.proofs.ConstraintLaws.{constraint-low, constraint-high, constraint-parts}
 use borrow.Author.Rules.{rules}
@@ -24,8 +24,8 @@ returns c = constraint-low (cells c.before.before.args.environment.now c.before.
 -- src/constraints.rt:86:9
 returns-2 : tie.Need-returns-2
 returns-2 c =
-    let o : numberAt c.before.before.before.args.p.now 0 ≡ 0 → ⊥ = rw c.before.before.number_at.ensures at c.before.if1.false in
-    let m : 16 < numberAt c.before.before.before.args.p.now 0 = rw c.before.before.number_at.ensures at c.if2.true in
+    let o : number_at c.before.before.before.args.p.now 0 ≡ 0 → ⊥ = rw c.before.before.number_at.ensures at c.before.if1.false in
+    let m : 16 < number_at c.before.before.before.args.p.now 0 = rw c.before.before.number_at.ensures at c.if2.true in
     constraint-high (cells c.before.before.before.args.environment.now c.before.before.before.args.heap.now) c.before.before.before.args.p.now o m
 
 -- src/constraints.rt:88:33
@@ -39,8 +39,8 @@ parts-at-requires c κs = search rules
 -- src/constraints.rt:78:1
 returns-3 : tie.Need-returns-3
 returns-3 c =
-    let o : numberAt c.before.before.before.before.before.args.p.now 0 ≡ 0 → ⊥ = rw c.before.before.before.before.number_at.ensures at c.before.before.before.if1.false in
-    let m : numberAt c.before.before.before.before.before.args.p.now 0 ≤ 16 = rw c.before.before.before.before.number_at.ensures at c.before.before.if2.false in
+    let o : number_at c.before.before.before.before.before.args.p.now 0 ≡ 0 → ⊥ = rw c.before.before.before.before.number_at.ensures at c.before.before.before.if1.false in
+    let m : number_at c.before.before.before.before.before.args.p.now 0 ≤ 16 = rw c.before.before.before.before.number_at.ensures at c.before.before.if2.false in
     (rw (c.before.part-from.ensures, c.before.before.before.before.number_at.ensures) at c.parts_at.ensures) ∙ constraint-parts (cells c.before.before.before.before.before.args.environment.now c.before.before.before.before.before.args.heap.now) c.before.before.before.before.before.args.p.now o m
 
 pub constraint-at-spec : {M : Type 1} → statement M

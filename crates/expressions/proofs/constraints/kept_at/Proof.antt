@@ -3,7 +3,7 @@ use mathlib.Core.Path.{◌≡◌, sym, ap, ◌∙◌}
 use Prim.Native.Nat.{◌-◌}
 use Rattle.tables.specs.Cells.{cells}
 use lib.ListN.{drop}
-use Rattle.tables.specs.Kept.{positionAt}
+use Rattle.tables.specs.Kept.{position_at}
 use Rattle.tables.specs.declared.Sort.TheVariants.{Values}
 use Rattle.expressions.proofs.ConstraintLaws.{KeptLeft, kept-start, kept-stop, kept-go-on, kept-end}
 use Rattle.expressions.proofs.constraints.kept_at.Statement.{statement}

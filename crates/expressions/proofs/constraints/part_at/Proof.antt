@@ -1,11 +1,11 @@
 use mathlib.Core.Bool.{true}
-use Rattle.expressions.specs.Valuing.{valuedAt}
+use Rattle.expressions.specs.Valuing.{valued_at}
 use mathlib.Core.Path.{◌≡◌, sym, ap, ◌∙◌}
 use Prim.Native.Nat.{◌≤◌, ◌<◌}
 use lib.ListN.{length, drop}
-use Rattle.words.specs.Words.{numberAt}
+use Rattle.words.specs.Words.{number_at}
 use Rattle.tables.specs.Cells.{cells}
-use Rattle.expressions.specs.Judging.{ratedBy}
+use Rattle.expressions.specs.Judging.{rated_by}
 use Rattle.expressions.proofs.ConstraintLaws.{part_low, part-high, part-rated}
 use borrow.Author.Rules.{rules}
 use Rattle.expressions.proofs.constraints.part_at.Statement.{statement}
@@ -28,8 +28,8 @@ returns c = part_low (cells c.before.before.args.environment.now c.before.before
 -- src/constraints.rt:47:9
 returns-2 : tie.Need-returns-2
 returns-2 c =
-    let o : numberAt c.before.before.before.args.p.now 0 ≡ 0 → ⊥ = rw c.before.before.number_at.ensures at c.before.if1.false in
-    let m : 3 < numberAt c.before.before.before.args.p.now 0 = rw c.before.before.number_at.ensures at c.if2.true in
+    let o : number_at c.before.before.before.args.p.now 0 ≡ 0 → ⊥ = rw c.before.before.number_at.ensures at c.before.if1.false in
+    let m : 3 < number_at c.before.before.before.args.p.now 0 = rw c.before.before.number_at.ensures at c.if2.true in
     part-high (cells c.before.before.before.args.environment.now c.before.before.before.args.heap.now) c.before.before.before.args.p.now o m
 
 -- src/constraints.rt:49:9
@@ -47,9 +47,9 @@ rated-requires c κs = search rules
 -- src/constraints.rt:39:1
 returns-3 : tie.Need-returns-3
 returns-3 c =
-    let o : numberAt c.before.before.before.before.before.before.args.p.now 0 ≡ 0 → ⊥ = rw c.before.before.before.before.before.number_at.ensures at c.before.before.before.before.if1.false in
-    let m : numberAt c.before.before.before.before.before.before.args.p.now 0 ≤ 3 = rw c.before.before.before.before.before.number_at.ensures at c.before.before.before.if2.false in
-    let j : c.before.evaluate-at.result ≡ valuedAt true 16 (cells c.before.before.before.before.before.before.args.environment.now c.before.before.before.before.before.before.args.heap.now) (drop 1 c.before.before.before.before.before.before.args.p.now) = rw c.before.before.part-from.ensures at c.before.evaluate-at.ensures in
+    let o : number_at c.before.before.before.before.before.before.args.p.now 0 ≡ 0 → ⊥ = rw c.before.before.before.before.before.number_at.ensures at c.before.before.before.before.if1.false in
+    let m : number_at c.before.before.before.before.before.before.args.p.now 0 ≤ 3 = rw c.before.before.before.before.before.number_at.ensures at c.before.before.before.if2.false in
+    let j : c.before.evaluate-at.result ≡ valued_at true 16 (cells c.before.before.before.before.before.before.args.environment.now c.before.before.before.before.before.before.args.heap.now) (drop 1 c.before.before.before.before.before.before.args.p.now) = rw c.before.before.part-from.ensures at c.before.evaluate-at.ensures in
     rw (c.rated.ensures, c.before.before.before.before.before.number_at.ensures) (part-rated (cells c.before.before.before.before.before.before.args.environment.now c.before.before.before.before.before.before.args.heap.now) c.before.before.before.before.before.before.args.p.now o m j)
 
 pub part-at-spec : {M : Type 1} → statement M

@@ -5,9 +5,9 @@ use Prim.Native.Nat.{◌<◌, ◌≤◌}
 use Rattle.words.proofs.Signed.{back32}
 use lib.IntN.{◌+ℤ◌, ◌-ℤ◌, ◌*ℤ◌}
 use Rattle.words.specs.Range.{ranged}
-use Rattle.rules.specs.Evaluation.{int_of, boolOf, same}
+use Rattle.rules.specs.Evaluation.{int_of, bool_of, same}
 use Rattle.rules.proofs.OperatorClauses.{made-0, made-1, made-2, made-3, made-4, made-5, made-6, made-7, made-8, made-9, made-10, made-11, made_none}
-use Rattle.expressions.specs.Told.{appliedOf, rangedOf}
+use Rattle.expressions.specs.Told.{applied_of, ranged_of}
 use Rattle.expressions.proofs.OperatorLaws.{range-is, made_other}
 use Rattle.program.proofs.ReadLaws.{past}
 use borrow.Author.Rules.{rules}
@@ -184,7 +184,7 @@ returns c =
     let x = back32 c.before.before.before.Int-of.result (record { sfits = c.before.before.before.Int-of.type-inv }) in
     let y = back32 c.before.before.int-of2.result (record { sfits = c.before.before.int-of2.type-inv }) in
     let e : c.before.plus.result ≡ ranged (◌+ℤ◌ (int_of c.before.before.before.before.before.args.a) (int_of c.before.before.before.before.before.args.b)) = cc in
-    rw (c.before.before.before.before.match.keys1, made-1 c.before.before.before.before.before.args.a c.before.before.before.before.before.args.b) (c.in-range.ensures ∙ ap rangedOf e ∙ range-is (◌+ℤ◌ (int_of c.before.before.before.before.before.args.a) (int_of c.before.before.before.before.before.args.b)))
+    rw (c.before.before.before.before.match.keys1, made-1 c.before.before.before.before.before.args.a c.before.before.before.before.before.args.b) (c.in-range.ensures ∙ ap ranged_of e ∙ range-is (◌+ℤ◌ (int_of c.before.before.before.before.before.args.a) (int_of c.before.before.before.before.before.args.b)))
 
 -- src/operators.rt:92:1
 returns-2 : tie.Need-returns-2
@@ -192,7 +192,7 @@ returns-2 c =
     let x = back32 c.before.before.before.int-of3.result (record { sfits = c.before.before.before.int-of3.type-inv }) in
     let y = back32 c.before.before.int-of4.result (record { sfits = c.before.before.int-of4.type-inv }) in
     let e : c.before.minus.result ≡ ranged (◌-ℤ◌ (int_of c.before.before.before.before.before.args.a) (int_of c.before.before.before.before.before.args.b)) = cc in
-    rw (c.before.before.before.before.match.keys2, made-2 c.before.before.before.before.before.args.a c.before.before.before.before.before.args.b) (c.in-range2.ensures ∙ ap rangedOf e ∙ range-is (◌-ℤ◌ (int_of c.before.before.before.before.before.args.a) (int_of c.before.before.before.before.before.args.b)))
+    rw (c.before.before.before.before.match.keys2, made-2 c.before.before.before.before.before.args.a c.before.before.before.before.before.args.b) (c.in-range2.ensures ∙ ap ranged_of e ∙ range-is (◌-ℤ◌ (int_of c.before.before.before.before.before.args.a) (int_of c.before.before.before.before.before.args.b)))
 
 -- src/operators.rt:92:1
 returns-3 : tie.Need-returns-3
@@ -200,7 +200,7 @@ returns-3 c =
     let x = back32 c.before.before.before.int-of5.result (record { sfits = c.before.before.before.int-of5.type-inv }) in
     let y = back32 c.before.before.int-of6.result (record { sfits = c.before.before.int-of6.type-inv }) in
     let e : c.before.times.result ≡ ranged (◌*ℤ◌ (int_of c.before.before.before.before.before.args.a) (int_of c.before.before.before.before.before.args.b)) = cc in
-    rw (c.before.before.before.before.match.keys3, made-3 c.before.before.before.before.before.args.a c.before.before.before.before.before.args.b) (c.in-range3.ensures ∙ ap rangedOf e ∙ range-is (◌*ℤ◌ (int_of c.before.before.before.before.before.args.a) (int_of c.before.before.before.before.before.args.b)))
+    rw (c.before.before.before.before.match.keys3, made-3 c.before.before.before.before.before.args.a c.before.before.before.before.before.args.b) (c.in-range3.ensures ∙ ap ranged_of e ∙ range-is (◌*ℤ◌ (int_of c.before.before.before.before.before.args.a) (int_of c.before.before.before.before.before.args.b)))
 
 -- src/operators.rt:92:1
 returns-4 : tie.Need-returns-4

@@ -1,6 +1,6 @@
 use Prim.Native.Nat.{◌≤◌, ◌<◌}
 use lib.ListN.{drop}
-use Rattle.words.specs.Words.{numberAt}
+use Rattle.words.specs.Words.{number_at}
 use Rattle.tables.specs.Cells.{cells}
 use Rattle.expressions.proofs.PathLaws.{named-variable, named-steps, named-is}
 use borrow.Author.Rules.{rules}
@@ -32,8 +32,8 @@ number-at-requires-2 c κs = search rules
 -- src/paths.rt:60:9
 returns-2 : tie.Need-returns-2
 returns-2 c =
-    let v : numberAt c.before.before.before.before.before.args.p.now 0 < 64 = rw c.before.before.before.before.number_at.ensures at c.before.before.before.if1.false in
-    let n : 7 < numberAt (drop 1 c.before.before.before.before.before.args.p.now) 0 = rw (c.before.number-at2.ensures, c.before.before.part-from.ensures) at c.if2.true in
+    let v : number_at c.before.before.before.before.before.args.p.now 0 < 64 = rw c.before.before.before.before.number_at.ensures at c.before.before.before.if1.false in
+    let n : 7 < number_at (drop 1 c.before.before.before.before.before.args.p.now) 0 = rw (c.before.number-at2.ensures, c.before.before.part-from.ensures) at c.if2.true in
     rw c.before.before.part-from.ensures (named-steps (cells c.before.before.before.before.before.args.environment.now c.before.before.before.before.before.args.heap.now) c.before.before.before.before.before.args.p.now v n)
 
 -- src/paths.rt:62:9
@@ -59,8 +59,8 @@ enum_told c = search rules
 -- src/paths.rt:50:1
 returns-3 : tie.Need-returns-3
 returns-3 c =
-    let v : numberAt c.before.before.before.before.before.before.before.before.before.before.before.args.p.now 0 < 64 = rw c.before.before.before.before.before.before.before.before.before.before.number_at.ensures at c.before.before.before.before.before.before.before.before.before.if1.false in
-    let n : numberAt (drop 1 c.before.before.before.before.before.before.before.before.before.before.before.args.p.now) 0 ≤ 7 = rw (c.before.before.before.before.before.before.before.number-at2.ensures, c.before.before.before.before.before.before.before.before.part-from.ensures) at c.before.before.before.before.before.before.if2.false in
+    let v : number_at c.before.before.before.before.before.before.before.before.before.before.before.args.p.now 0 < 64 = rw c.before.before.before.before.before.before.before.before.before.before.number_at.ensures at c.before.before.before.before.before.before.before.before.before.if1.false in
+    let n : number_at (drop 1 c.before.before.before.before.before.before.before.before.before.before.before.args.p.now) 0 ≤ 7 = rw (c.before.before.before.before.before.before.before.number-at2.ensures, c.before.before.before.before.before.before.before.before.part-from.ensures) at c.before.before.before.before.before.before.if2.false in
     let e = rw (c.before.before.before.before.before.part-from2.ensures, c.before.before.before.before.before.before.before.number-at2.ensures, c.before.before.before.before.before.before.before.before.part-from.ensures, c.before.before.before.before.before.before.before.before.before.before.number_at.ensures) at c.before.before.before.before.land.ensures in
     rw (c.less.ensures, c.before.before.before.before.before.part-from2.ensures, c.before.before.before.before.before.before.before.number-at2.ensures, c.before.before.before.before.before.before.before.before.part-from.ensures)
     (rw c.before.before.l.given.1 at (named-is (cells c.before.before.before.before.before.before.before.before.before.before.before.args.environment.now c.before.before.before.before.before.before.before.before.before.before.before.args.heap.now) c.before.before.before.before.before.before.before.before.before.before.before.args.p.now v n e))
@@ -68,8 +68,8 @@ returns-3 c =
 -- src/paths.rt:50:1
 returns-4 : tie.Need-returns-4
 returns-4 c =
-    let v : numberAt c.before.before.before.before.before.before.before.before.before.args.p.now 0 < 64 = rw c.before.before.before.before.before.before.before.before.number_at.ensures at c.before.before.before.before.before.before.before.if1.false in
-    let n : numberAt (drop 1 c.before.before.before.before.before.before.before.before.before.args.p.now) 0 ≤ 7 = rw (c.before.before.before.before.before.number-at2.ensures, c.before.before.before.before.before.before.part-from.ensures) at c.before.before.before.before.if2.false in
+    let v : number_at c.before.before.before.before.before.before.before.before.before.args.p.now 0 < 64 = rw c.before.before.before.before.before.before.before.before.number_at.ensures at c.before.before.before.before.before.before.before.if1.false in
+    let n : number_at (drop 1 c.before.before.before.before.before.before.before.before.before.args.p.now) 0 ≤ 7 = rw (c.before.before.before.before.before.number-at2.ensures, c.before.before.before.before.before.before.part-from.ensures) at c.before.before.before.before.if2.false in
     let e = rw (c.before.before.before.part-from2.ensures, c.before.before.before.before.before.number-at2.ensures, c.before.before.before.before.before.before.part-from.ensures, c.before.before.before.before.before.before.before.before.number_at.ensures) at c.before.before.land.ensures in
     rw c.enum_told.given.1 at (named-is (cells c.before.before.before.before.before.before.before.before.before.args.environment.now c.before.before.before.before.before.before.before.before.before.args.heap.now) c.before.before.before.before.before.before.before.before.before.args.p.now v n e)
 

@@ -3,7 +3,7 @@ use Rattle.tables.specs.declared.Slot.{Slot}
 use Rattle.tables.specs.declared.Slot.TheVariants.{Absent, Has}
 use Rattle.tables.specs.declared.Value.TheVariants.{Nil, Bool as Truth, Int, Ref}
 use Rattle.tables.specs.Cells.{cells, cell_at}
-use Rattle.tables.specs.Values.{slotOf}
+use Rattle.tables.specs.Values.{slot_of}
 use Rattle.expressions.proofs.PathLaws.{step_is}
 use borrow.Author.Rules.{rules}
 use Rattle.expressions.proofs.paths.step.Statement.{statement}
@@ -32,7 +32,7 @@ enum_told c = search rules
 
 -- src/paths.rt:19:9
 returns : tie.Need-returns
-returns c = step_is (cells c.before.before.before.before.args.environment.now c.before.before.before.before.args.heap.now) c.before.before.before.before.args.l c.before.before.before.before.args.label Absent (sym c.enum_told.given.1 ∙ (c.before.before.slot_of.ensures ∙ ap slotOf c.before.before.before.read_cell.ensures))
+returns c = step_is (cells c.before.before.before.before.args.environment.now c.before.before.before.before.args.heap.now) c.before.before.before.before.args.l c.before.before.before.before.args.label Absent (sym c.enum_told.given.1 ∙ (c.before.before.slot_of.ensures ∙ ap slot_of c.before.before.before.read_cell.ensures))
 
 -- src/paths.rt:22:23
 enum-told-2 : tie.Need-enum-told-2
@@ -56,19 +56,19 @@ find-field-requires c κs = search rules
 
 -- src/paths.rt:14:1
 returns-2 : tie.Need-returns-2
-returns-2 c = step_is (cells c.before.before.before.before.before.before.before.args.environment.now c.before.before.before.before.before.before.before.args.heap.now) c.before.before.before.before.before.before.before.args.l c.before.before.before.before.before.before.before.args.label _ (sym (c.before.before.before.slot.given.1 ∙ ap Has c.enum-told2.given.1) ∙ (c.before.before.before.before.before.slot_of.ensures ∙ ap slotOf c.before.before.before.before.before.before.read_cell.ensures))
+returns-2 c = step_is (cells c.before.before.before.before.before.before.before.args.environment.now c.before.before.before.before.before.before.before.args.heap.now) c.before.before.before.before.before.before.before.args.l c.before.before.before.before.before.before.before.args.label _ (sym (c.before.before.before.slot.given.1 ∙ ap Has c.enum-told2.given.1) ∙ (c.before.before.before.before.before.slot_of.ensures ∙ ap slot_of c.before.before.before.before.before.before.read_cell.ensures))
 
 -- src/paths.rt:14:1
 returns-3 : tie.Need-returns-3
-returns-3 c = step_is (cells c.before.before.before.before.before.before.before.args.environment.now c.before.before.before.before.before.before.before.args.heap.now) c.before.before.before.before.before.before.before.args.l c.before.before.before.before.before.before.before.args.label _ (sym (c.before.before.before.slot.given.1 ∙ ap Has c.enum-told3.given.1) ∙ (c.before.before.before.before.before.slot_of.ensures ∙ ap slotOf c.before.before.before.before.before.before.read_cell.ensures))
+returns-3 c = step_is (cells c.before.before.before.before.before.before.before.args.environment.now c.before.before.before.before.before.before.before.args.heap.now) c.before.before.before.before.before.before.before.args.l c.before.before.before.before.before.before.before.args.label _ (sym (c.before.before.before.slot.given.1 ∙ ap Has c.enum-told3.given.1) ∙ (c.before.before.before.before.before.slot_of.ensures ∙ ap slot_of c.before.before.before.before.before.before.read_cell.ensures))
 
 -- src/paths.rt:14:1
 returns-4 : tie.Need-returns-4
-returns-4 c = step_is (cells c.before.before.before.before.before.before.before.args.environment.now c.before.before.before.before.before.before.before.args.heap.now) c.before.before.before.before.before.before.before.args.l c.before.before.before.before.before.before.before.args.label _ (sym (c.before.before.before.slot.given.1 ∙ ap Has c.enum-told4.given.1) ∙ (c.before.before.before.before.before.slot_of.ensures ∙ ap slotOf c.before.before.before.before.before.before.read_cell.ensures))
+returns-4 c = step_is (cells c.before.before.before.before.before.before.before.args.environment.now c.before.before.before.before.before.before.before.args.heap.now) c.before.before.before.before.before.before.before.args.l c.before.before.before.before.before.before.before.args.label _ (sym (c.before.before.before.slot.given.1 ∙ ap Has c.enum-told4.given.1) ∙ (c.before.before.before.before.before.slot_of.ensures ∙ ap slot_of c.before.before.before.before.before.before.read_cell.ensures))
 
 -- src/paths.rt:14:1
 returns-5 : tie.Need-returns-5
-returns-5 c = c.find-field.ensures ∙ step_is (cells c.before.before.before.before.before.before.before.before.before.args.environment.now c.before.before.before.before.before.before.before.before.before.args.heap.now) c.before.before.before.before.before.before.before.before.before.args.l c.before.before.before.before.before.before.before.before.before.args.label _ (sym (c.before.before.before.before.before.slot.given.1 ∙ ap Has c.before.before.v.given.1) ∙ (c.before.before.before.before.before.before.before.slot_of.ensures ∙ ap slotOf c.before.before.before.before.before.before.before.before.read_cell.ensures))
+returns-5 c = c.find-field.ensures ∙ step_is (cells c.before.before.before.before.before.before.before.before.before.args.environment.now c.before.before.before.before.before.before.before.before.before.args.heap.now) c.before.before.before.before.before.before.before.before.before.args.l c.before.before.before.before.before.before.before.before.before.args.label _ (sym (c.before.before.before.before.before.slot.given.1 ∙ ap Has c.before.before.v.given.1) ∙ (c.before.before.before.before.before.before.before.slot_of.ensures ∙ ap slot_of c.before.before.before.before.before.before.before.before.read_cell.ensures))
 
 pub step_spec : {M : Type 1} → statement M
 step_spec =

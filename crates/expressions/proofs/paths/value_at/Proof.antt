@@ -1,6 +1,6 @@
 use mathlib.Core.Path.{ap, ◌∙◌}
 use Rattle.tables.specs.Cells.{cells}
-use Rattle.tables.specs.Values.{slotOf}
+use Rattle.tables.specs.Values.{slot_of}
 use Rattle.expressions.proofs.PathLaws.{value-lost, value-named}
 use borrow.Author.Rules.{rules}
 use Rattle.expressions.proofs.paths.value_at.Statement.{statement}
@@ -41,11 +41,11 @@ enum-known-number c = search rules
 
 -- src/paths.rt:70:1
 returns : tie.Need-returns
-returns c = rw c.before.slot.given.1 at (value-named (cells c.before.before.before.before.before.before.before.before.before.args.environment.now c.before.before.before.before.before.before.before.before.before.args.heap.now) c.before.before.before.before.before.before.before.before.before.args.p.now c.before.before.before.before.before.before.before.before.Cell-at.ensures c.before.before.before.before.before.before.l.given.1 (c.before.before.before.slot_of.ensures ∙ ap slotOf c.before.before.before.before.read_cell.ensures))
+returns c = rw c.before.slot.given.1 at (value-named (cells c.before.before.before.before.before.before.before.before.before.args.environment.now c.before.before.before.before.before.before.before.before.before.args.heap.now) c.before.before.before.before.before.before.before.before.before.args.p.now c.before.before.before.before.before.before.before.before.Cell-at.ensures c.before.before.before.before.before.before.l.given.1 (c.before.before.before.slot_of.ensures ∙ ap slot_of c.before.before.before.before.read_cell.ensures))
 
 -- src/paths.rt:70:1
 returns-2 : tie.Need-returns-2
-returns-2 c = rw c.enum_told.given.1 at (value-named (cells c.before.before.before.before.before.before.before.before.args.environment.now c.before.before.before.before.before.before.before.before.args.heap.now) c.before.before.before.before.before.before.before.before.args.p.now c.before.before.before.before.before.before.before.Cell-at.ensures c.before.before.before.before.before.l.given.1 (c.before.before.slot_of.ensures ∙ ap slotOf c.before.before.before.read_cell.ensures))
+returns-2 c = rw c.enum_told.given.1 at (value-named (cells c.before.before.before.before.before.before.before.before.args.environment.now c.before.before.before.before.before.before.before.before.args.heap.now) c.before.before.before.before.before.before.before.before.args.p.now c.before.before.before.before.before.before.before.Cell-at.ensures c.before.before.before.before.before.l.given.1 (c.before.before.slot_of.ensures ∙ ap slot_of c.before.before.before.read_cell.ensures))
 
 -- src/paths.rt:70:1
 returns-3 : tie.Need-returns-3

@@ -1,7 +1,7 @@
 use mathlib.Core.Path.{◌≡◌, sym, ap, ◌∙◌}
 use Rattle.tables.specs.Cells.{cells}
-use Rattle.rules.specs.Evaluation.{kind_of, aBool}
-use Rattle.expressions.specs.Told.{kindNumber}
+use Rattle.rules.specs.Evaluation.{kind_of, a_bool}
+use Rattle.expressions.specs.Told.{kind_number}
 use Rattle.expressions.proofs.TestLaws.{no_bool, a-bool, test-fails, test-comes}
 use borrow.Author.Rules.{rules}
 use Rattle.expressions.proofs.testing.test_at.Statement.{statement}

@@ -6,7 +6,7 @@ use native.Mathlib.Omega.{arith}
 use borrow.Author.Tests.{eq-eqb}
 use lib.Dec.{eqb}
 use lib.ListN.{length}
-use Rattle.words.specs.Words.{numberAt}
+use Rattle.words.specs.Words.{number_at}
 use Rattle.tables.specs.Cells.{cells}
 use Rattle.expressions.specs.Valuing.{Rows}
 use Rattle.expressions.proofs.OperandLaws.{valued-deep}
@@ -33,7 +33,7 @@ abbrev μ-evaluate-at : Measures 3 evaluate-at-kinds.ps ℕ
 μ-evaluate-at κs a = a.1.1.1.0 + a.1.1.1.0 + 1
 
 abbrev μ-operand : Measures 3 operand-kinds.ps ℕ
-μ-operand κs a = cond (eqb (numberAt a.1.1.0.now 0) 25) (a.1.1.1.0 + a.1.1.1.0 + 2) 0
+μ-operand κs a = cond (eqb (number_at a.1.1.0.now 0) 25) (a.1.1.1.0 + a.1.1.1.0 + 2) 0
 
 abbrev evaluate-at-at : ℕ → In 3 evaluate-at-kinds.ps
 evaluate-at-at t =
@@ -158,8 +158,8 @@ operand-returns-2 t c = c.leaf.ensures c.before.before.before.before.args.d c.be
 -- src/values.rt:242:9
 operand-evaluate-at-requires : (t : ℕ) → operand-lts.Need-evaluate-at-requires (operand-calls t) (operand_at t) operand.Post
 operand-evaluate-at-requires t c κs =
-    let f : numberAt c.before.before.before.args.p.now 0 ≡ 25 = sym c.before.number_at.ensures ∙ c.if2.false in
-    (rw (← c.before.before.before.requires.0, eq-eqb (numberAt c.before.before.before.args.p.now 0) 25 f) (omega arith), tt)
+    let f : number_at c.before.before.before.args.p.now 0 ≡ 25 = sym c.before.number_at.ensures ∙ c.if2.false in
+    (rw (← c.before.before.before.requires.0, eq-eqb (number_at c.before.before.before.args.p.now 0) 25 f) (omega arith), tt)
 
 -- src/values.rt:232:1
 operand-returns-3 : (t : ℕ) → operand-lts.Need-returns-3 (operand-calls t) (operand_at t) operand.Post

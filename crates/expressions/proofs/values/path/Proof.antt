@@ -1,9 +1,9 @@
 use mathlib.Core.Path.{◌≡◌, sym, ap, ◌∙◌}
 use Prim.Native.Nat.{◌≤◌, ◌<◌, ◌-◌}
 use lib.ListN.{drop, length}
-use Rattle.words.specs.Words.{numberAt}
+use Rattle.words.specs.Words.{number_at}
 use Rattle.tables.specs.Cells.{cells}
-use Rattle.expressions.proofs.LeafLaws.{path-variable, path-steps, path-is, pathBy}
+use Rattle.expressions.proofs.LeafLaws.{path-variable, path-steps, path-is, path_by}
 use borrow.Author.Rules.{rules}
 use Rattle.expressions.proofs.values.path.Statement.{statement}
 use Rattle.expressions.proofs.values.path.Tie as tie
@@ -43,8 +43,8 @@ refuses-requires-2 c κs = search rules
 -- src/values.rt:92:9
 returns-2 : tie.Need-returns-2
 returns-2 c =
-    let v : numberAt c.before.before.before.before.before.before.args.q.now 0 < 64 = rw c.before.before.before.before.before.number_at.ensures at c.before.before.before.before.if1.false in
-    let m : 7 < numberAt (drop 1 c.before.before.before.before.before.before.args.q.now) 0 = rw (c.before.before.number-at2.ensures, c.before.before.before.part-from.ensures) at c.before.if2.true in
+    let v : number_at c.before.before.before.before.before.before.args.q.now 0 < 64 = rw c.before.before.before.before.before.number_at.ensures at c.before.before.before.before.if1.false in
+    let m : 7 < number_at (drop 1 c.before.before.before.before.before.before.args.q.now) 0 = rw (c.before.before.number-at2.ensures, c.before.before.before.part-from.ensures) at c.before.if2.true in
     c.refuses2.ensures ∙ rw c.before.before.before.part-from.ensures (path-steps (cells c.before.before.before.before.before.before.args.environment.now c.before.before.before.before.before.before.args.heap.now) c.before.before.before.before.before.before.args.q.now v m)
 
 -- src/values.rt:94:9
@@ -78,16 +78,16 @@ refuses-requires-3 c κs = search rules
 -- src/values.rt:82:1
 returns-3 : tie.Need-returns-3
 returns-3 c =
-    let v : numberAt c.before.before.before.before.before.before.before.before.before.before.before.before.args.q.now 0 < 64 = rw c.before.before.before.before.before.before.before.before.before.before.before.number_at.ensures at c.before.before.before.before.before.before.before.before.before.before.if1.false in
-    let m : numberAt (drop 1 c.before.before.before.before.before.before.before.before.before.before.before.before.args.q.now) 0 ≤ 7 = rw (c.before.before.before.before.before.before.before.before.number-at2.ensures, c.before.before.before.before.before.before.before.before.before.part-from.ensures) at c.before.before.before.before.before.before.before.if2.false in
+    let v : number_at c.before.before.before.before.before.before.before.before.before.before.before.before.args.q.now 0 < 64 = rw c.before.before.before.before.before.before.before.before.before.before.before.number_at.ensures at c.before.before.before.before.before.before.before.before.before.before.if1.false in
+    let m : number_at (drop 1 c.before.before.before.before.before.before.before.before.before.before.before.before.args.q.now) 0 ≤ 7 = rw (c.before.before.before.before.before.before.before.before.number-at2.ensures, c.before.before.before.before.before.before.before.before.before.part-from.ensures) at c.before.before.before.before.before.before.before.if2.false in
     let e = path-is (cells c.before.before.before.before.before.before.before.before.before.before.before.before.args.environment.now c.before.before.before.before.before.before.before.before.before.before.before.before.args.heap.now) c.before.before.before.before.before.before.before.before.before.before.before.before.args.q.now v m (rw (c.before.before.before.before.before.before.before.before.before.before.before.number_at.ensures, c.before.before.before.before.before.before.before.before.number-at2.ensures, c.before.before.before.before.before.before.part-from2.ensures, c.before.before.before.before.before.before.before.before.before.part-from.ensures) at c.before.before.before.before.before.find.ensures) in
     c.gives.ensures ∙ rw (c.before.less.ensures, c.before.before.before.before.before.before.before.before.number-at2.ensures, c.before.before.before.before.before.before.part-from2.ensures, c.before.before.before.before.before.before.before.before.before.part-from.ensures) (rw c.before.before.before.v.given.1 at e)
 
 -- src/values.rt:82:1
 returns-4 : tie.Need-returns-4
 returns-4 c =
-    let v : numberAt c.before.before.before.before.before.before.before.before.before.before.args.q.now 0 < 64 = rw c.before.before.before.before.before.before.before.before.before.number_at.ensures at c.before.before.before.before.before.before.before.before.if1.false in
-    let m : numberAt (drop 1 c.before.before.before.before.before.before.before.before.before.before.args.q.now) 0 ≤ 7 = rw (c.before.before.before.before.before.before.number-at2.ensures, c.before.before.before.before.before.before.before.part-from.ensures) at c.before.before.before.before.before.if2.false in
+    let v : number_at c.before.before.before.before.before.before.before.before.before.before.args.q.now 0 < 64 = rw c.before.before.before.before.before.before.before.before.before.number_at.ensures at c.before.before.before.before.before.before.before.before.if1.false in
+    let m : number_at (drop 1 c.before.before.before.before.before.before.before.before.before.before.args.q.now) 0 ≤ 7 = rw (c.before.before.before.before.before.before.number-at2.ensures, c.before.before.before.before.before.before.before.part-from.ensures) at c.before.before.before.before.before.if2.false in
     let e = path-is (cells c.before.before.before.before.before.before.before.before.before.before.args.environment.now c.before.before.before.before.before.before.before.before.before.before.args.heap.now) c.before.before.before.before.before.before.before.before.before.before.args.q.now v m (rw (c.before.before.before.before.before.before.before.before.before.number_at.ensures, c.before.before.before.before.before.before.number-at2.ensures, c.before.before.before.before.part-from2.ensures, c.before.before.before.before.before.before.before.part-from.ensures) at c.before.before.before.find.ensures) in
     c.refuses3.ensures ∙ (rw c.before.enum_told.given.1 at e)
 

@@ -1,7 +1,7 @@
 use mathlib.Core.Path.{◌≡◌, sym, ap, ◌∙◌}
 use Prim.Native.Nat.{◌≤◌, ◌<◌}
 use lib.ListN.{drop}
-use Rattle.words.specs.Words.{numberAt}
+use Rattle.words.specs.Words.{number_at}
 use Rattle.expressions.proofs.OperandLaws.{row-deep, row-alone, row-none, row-high, row-two}
 use borrow.Author.Rules.{rules}
 use Rattle.expressions.proofs.values.row_at.Statement.{statement}
@@ -43,7 +43,7 @@ no-row-requires-2 c κs = search rules
 -- src/values.rt:217:9
 returns-3 : tie.Need-returns-3
 returns-3 c =
-    let o : numberAt (drop 1 c.before.before.before.before.before.before.before.args.p.now) 0 ≡ 0 = rw (c.before.before.number-at2.ensures, c.before.before.before.part-from.ensures) at c.before.if3.true in
+    let o : number_at (drop 1 c.before.before.before.before.before.before.before.args.p.now) 0 ≡ 0 = rw (c.before.before.number-at2.ensures, c.before.before.before.part-from.ensures) at c.before.if3.true in
     rw (c.no-row2.ensures, c.before.before.before.part-from.ensures) (row-none c.before.before.before.before.before.before.before.args.d c.before.before.before.before.before.before.before.args.p.now c.before.before.before.before.before.before.if1.false (sym c.before.before.before.before.before.number_at.ensures ∙ c.before.before.before.before.if2.false) o)
 
 -- src/values.rt:220:9
@@ -53,7 +53,7 @@ no-row-requires-3 c κs = search rules
 -- src/values.rt:220:9
 returns-4 : tie.Need-returns-4
 returns-4 c =
-    let o : 11 < numberAt (drop 1 c.before.before.before.before.before.before.before.before.args.p.now) 0 = rw (c.before.before.before.number-at2.ensures, c.before.before.before.before.part-from.ensures) at c.before.if4.true in
+    let o : 11 < number_at (drop 1 c.before.before.before.before.before.before.before.before.args.p.now) 0 = rw (c.before.before.before.number-at2.ensures, c.before.before.before.before.part-from.ensures) at c.before.if4.true in
     rw (c.no-row3.ensures, c.before.before.before.before.part-from.ensures) (row-high c.before.before.before.before.before.before.before.before.args.d c.before.before.before.before.before.before.before.before.args.p.now c.before.before.before.before.before.before.before.if1.false (sym c.before.before.before.before.before.before.number_at.ensures ∙ c.before.before.before.before.before.if2.false) o)
 
 -- src/values.rt:222:9
@@ -67,8 +67,8 @@ sub-t12 c = search rules
 -- src/values.rt:200:1
 returns-5 : tie.Need-returns-5
 returns-5 c =
-    let o : numberAt (drop 1 c.before.before.before.before.before.before.before.before.args.p.now) 0 ≡ 0 → ⊥ = rw (c.before.before.before.number-at2.ensures, c.before.before.before.before.part-from.ensures) at c.before.before.if3.false in
-    let m : numberAt (drop 1 c.before.before.before.before.before.before.before.before.args.p.now) 0 ≤ 11 = rw (c.before.before.before.number-at2.ensures, c.before.before.before.before.part-from.ensures) at c.before.if4.false in
+    let o : number_at (drop 1 c.before.before.before.before.before.before.before.before.args.p.now) 0 ≡ 0 → ⊥ = rw (c.before.before.before.number-at2.ensures, c.before.before.before.before.part-from.ensures) at c.before.before.if3.false in
+    let m : number_at (drop 1 c.before.before.before.before.before.before.before.before.args.p.now) 0 ≤ 11 = rw (c.before.before.before.number-at2.ensures, c.before.before.before.before.part-from.ensures) at c.before.if4.false in
     rw (c.before.before.before.number-at2.ensures, c.part-from2.ensures, c.before.before.before.before.part-from.ensures) (row-two c.before.before.before.before.before.before.before.before.args.d c.before.before.before.before.before.before.before.before.args.p.now c.before.before.before.before.before.before.before.if1.false (sym c.before.before.before.before.before.before.number_at.ensures ∙ c.before.before.before.before.before.if2.false) o m)
 
 pub row-at-spec : {M : Type 1} → statement M

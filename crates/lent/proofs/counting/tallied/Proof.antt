@@ -1,6 +1,6 @@
 use mathlib.Core.Path.{sym, ap, ◌∙◌}
 use native.Mathlib.Omega.{arith}
-use Rattle.lent.specs.Tallied.{acceptedIn, doneBy}
+use Rattle.lent.specs.Tallied.{accepted_in, done_by}
 use borrow.Author.Rules.{rules}
 use Rattle.lent.proofs.counting.tallied.Statement.{statement}
 use Rattle.lent.proofs.counting.tallied.Tie as tie
@@ -15,7 +15,7 @@ enum-known-done c = search rules
 
 -- src/counting.rt:45:23
 add-t9 : tie.Need-overflow-add-t9
-add-t9 c = omega (arith, c.before.before.before.before.requires, ap acceptedIn c.before.before.done.given.1)
+add-t9 c = omega (arith, c.before.before.before.before.requires, ap accepted_in c.before.before.done.given.1)
 
 -- src/counting.rt:50:23
 enum-known-done-2 : tie.Need-enum-known-done-2
@@ -31,11 +31,11 @@ ended-requires c κs = search rules
 
 -- src/counting.rt:38:1
 returns : tie.Need-returns
-returns c = ap (doneBy c.before.before.before.before.args.long c.before.before.before.before.args.t) (sym c.before.before.done.given.1)
+returns c = ap (done_by c.before.before.before.before.args.long c.before.before.before.before.args.t) (sym c.before.before.done.given.1)
 
 -- src/counting.rt:38:1
 returns-2 : tie.Need-returns-2
-returns-2 c = (rw c.before.less.ensures at c.ended.ensures) ∙ ap (doneBy c.before.before.before.before.before.args.long c.before.before.before.before.before.args.t) (sym c.before.before.before.done2.given.1)
+returns-2 c = (rw c.before.less.ensures at c.ended.ensures) ∙ ap (done_by c.before.before.before.before.before.args.long c.before.before.before.before.before.args.t) (sym c.before.before.before.done2.given.1)
 
 pub tallied-spec : {M : Type 1} → statement M
 tallied-spec =

@@ -1,4 +1,4 @@
-use Rattle.lister.specs.Listing.{answerText}
+use Rattle.lister.specs.Listing.{answer_text}
 use Rattle.lister.proofs.BufferLaws.{then}
 use borrow.Author.Rules.{rules}
 use Rattle.lister.proofs.listing.put_answer.Statement.{statement}
@@ -45,7 +45,7 @@ same_length c = search rules
 
 -- src/listing.rt:166:1
 returns : tie.Need-returns
-unfolding answerText
+unfolding answer_text
 returns c = then (then (then c.before.before.before.before.before.before.before.before.before.before.before.before.before.before.before.before.before.put-named.ensures c.before.before.before.before.before.before.before.before.before.before.before.before.put-named2.ensures) c.before.before.before.before.before.before.before.put-named3.ensures) c.before.before.put-named4.ensures
 
 pub put-answer-spec : {M : Type 1} → statement M

@@ -1,4 +1,4 @@
-use Rattle.lister.specs.Listing.{countedLine}
+use Rattle.lister.specs.Listing.{counted_line}
 use Rattle.lister.proofs.BufferLaws.{then}
 use borrow.Author.Rules.{rules}
 use Rattle.lister.proofs.listing.put_counted.Statement.{statement}
@@ -31,7 +31,7 @@ same_length c = search rules
 
 -- src/listing.rt:56:1
 returns : tie.Need-returns
-unfolding countedLine
+unfolding counted_line
 returns c = then (then c.before.before.before.before.before.before.before.before.before.before.before.put.ensures c.before.before.before.before.before.before.before.put-natural.ensures) c.before.before.put-named.ensures
 
 pub put-counted-spec : {M : Type 1} → statement M

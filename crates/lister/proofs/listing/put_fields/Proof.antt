@@ -1,8 +1,8 @@
 use native.Mathlib.Omega.{arith}
 use borrow.Author.Rules.{rules}
 use Prim.Native.Nat.{◌-◌}
-use Rattle.tables.specs.Records.{fieldCount}
-use Rattle.lister.specs.Listing.{fieldText, fieldsText}
+use Rattle.tables.specs.Records.{field_count}
+use Rattle.lister.specs.Listing.{field_text, fields_text}
 use Rattle.lister.proofs.ListingLaws.{Each, each-starts, each-goes-on, each-ends}
 use Rattle.lister.proofs.listing.put_fields.Statement.{statement}
 use Rattle.lister.proofs.listing.put_fields.Tie as tie
@@ -12,7 +12,7 @@ use Rattle.lister.proofs.listing.put_field.Reads as put-field-reads
 use Rattle.tables.proofs.records.field_count.Reads as field-count-reads
 
 abbrev invariant-loop : tie.invariant-loop
-invariant-loop out₀ at heap r n to₀ f₀ out to f = Each (fieldText heap r) (fieldCount heap r) out₀ at out to f
+invariant-loop out₀ at heap r n to₀ f₀ out to f = Each (field_text heap r) (field_count heap r) out₀ at out to f
 
 abbrev decreases-loop : tie.decreases-loop
 decreases-loop out₀ at heap r n to₀ f₀ out to f = n - f
@@ -47,7 +47,7 @@ same_length c = c.before.loop.invariant.kept
 
 -- src/listing.rt:112:1
 returns : tie.Need-returns invariant-loop decreases-loop
-unfolding fieldsText
+unfolding fields_text
 returns c = each-ends c.before.loop.invariant (omega (arith, c.loop-test.false, c.before.before.field-count.ensures))
 
 pub put-fields-spec : {M : Type 1} → statement M

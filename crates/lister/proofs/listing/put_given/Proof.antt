@@ -1,4 +1,4 @@
-use Rattle.lister.specs.Listing.{givenText}
+use Rattle.lister.specs.Listing.{given_text}
 use Rattle.lister.proofs.BufferLaws.{then}
 use borrow.Author.Rules.{rules}
 use Rattle.lister.proofs.listing.put_given.Statement.{statement}
@@ -26,7 +26,7 @@ same_length c = search rules
 
 -- src/listing.rt:38:1
 returns : tie.Need-returns
-unfolding givenText
+unfolding given_text
 returns c = then (then c.before.before.before.before.before.before.before.before.before.before.put.ensures c.before.before.before.before.before.before.put-value.ensures) c.before.before.put2.ensures
 
 pub put-given-spec : {M : Type 1} → statement M

@@ -1,4 +1,4 @@
-use Rattle.lister.specs.Listing.{namedLine}
+use Rattle.lister.specs.Listing.{named_line}
 use Rattle.lister.proofs.BufferLaws.{then}
 use borrow.Author.Rules.{rules}
 use Rattle.lister.proofs.listing.put_named.Statement.{statement}
@@ -27,7 +27,7 @@ same_length c = search rules
 
 -- src/listing.rt:47:1
 returns : tie.Need-returns
-unfolding namedLine
+unfolding named_line
 returns c = then (then c.before.before.before.before.before.before.before.before.before.before.put_all_lem.ensures c.before.before.before.before.before.before.put-natural.ensures) c.before.before.put.ensures
 
 pub put-named-spec : {M : Type 1} → statement M

@@ -3,8 +3,8 @@ use mathlib.Core.Path.{ap}
 use Rattle.lister.proofs.BufferLaws.{puts-as}
 use borrow.Author.Rules.{rules}
 use Prim.Native.Nat.{◌-◌}
-use Rattle.tables.specs.Kept.{keptCount, positionAt}
-use Rattle.lister.specs.Listing.{countedLine, positionsText}
+use Rattle.tables.specs.Kept.{kept_count, position_at}
+use Rattle.lister.specs.Listing.{counted_line, positions_text}
 use Rattle.lister.proofs.ListingLaws.{Each, each-starts, each-goes-on, each-ends}
 use Rattle.lister.proofs.listing.put_positions.Statement.{statement}
 use Rattle.lister.proofs.listing.put_positions.Tie as tie
@@ -15,7 +15,7 @@ use Rattle.tables.proofs.kept.kept_count.Reads as kept-count-reads
 use Rattle.tables.proofs.kept.position_at.Reads as position-at-reads
 
 abbrev invariant-loop : tie.invariant-loop
-invariant-loop out₀ at constraints s letter n to₀ i₀ out to i = Each (λ j. countedLine letter j (positionAt constraints s j)) (keptCount constraints s) out₀ at out to i
+invariant-loop out₀ at constraints s letter n to₀ i₀ out to i = Each (λ j. counted_line letter j (position_at constraints s j)) (kept_count constraints s) out₀ at out to i
 
 abbrev decreases-loop : tie.decreases-loop
 decreases-loop out₀ at constraints s letter n to₀ i₀ out to i = n - i
@@ -46,7 +46,7 @@ loop-less c = search rules
 
 -- src/listing.rt:158:5
 loop-again : tie.Need-loop-preserved invariant-loop decreases-loop
-loop-again c = each-goes-on c.before.before.before.before.before.before.loop.invariant (omega (arith, c.before.before.before.before.before.loop-test.true, c.before.before.before.before.before.before.before.kept-count.ensures)) (puts-as (ap (λ p. countedLine c.before.before.before.before.before.before.before.before.before.args.letter c.before.before.before.before.before.before.loop.i p) c.before.before.before.position_at.ensures) c.before.before.put-counted.ensures) c.before.before.put-counted.auto.0
+loop-again c = each-goes-on c.before.before.before.before.before.before.loop.invariant (omega (arith, c.before.before.before.before.before.loop-test.true, c.before.before.before.before.before.before.before.kept-count.ensures)) (puts-as (ap (λ p. counted_line c.before.before.before.before.before.before.before.before.before.args.letter c.before.before.before.before.before.before.loop.i p) c.before.before.before.position_at.ensures) c.before.before.put-counted.ensures) c.before.before.put-counted.auto.0
 
 -- src/listing.rt:152:1
 same_length : tie.Need-same-length invariant-loop decreases-loop
@@ -54,7 +54,7 @@ same_length c = c.before.loop.invariant.kept
 
 -- src/listing.rt:152:1
 returns : tie.Need-returns invariant-loop decreases-loop
-unfolding positionsText
+unfolding positions_text
 returns c = each-ends c.before.loop.invariant (omega (arith, c.loop-test.false, c.before.before.kept-count.ensures))
 
 pub put-positions-spec : {M : Type 1} → statement M

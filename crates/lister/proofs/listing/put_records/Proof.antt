@@ -2,7 +2,7 @@ use borrow.Author.Rules.{rules}
 use Prim.Native.Nat.{◌-◌}
 use native.Mathlib.Omega.{arith}
 use mathlib.Core.Path.{ap, ◌∙◌}
-use Rattle.lister.specs.Listing.{countedLine, recordText, recordsText, shownRecords}
+use Rattle.lister.specs.Listing.{counted_line, record_text, records_text, shown_records}
 use Rattle.lister.proofs.BufferLaws.{then, puts-as}
 use Rattle.lister.proofs.ListingLaws.{Each, each-starts, each-goes-on, each-ends}
 use Rattle.lister.proofs.listing.put_records.Statement.{statement}
@@ -15,7 +15,7 @@ use Rattle.lister.proofs.listing.shown_records.Reads as shown-records-reads
 use Rattle.tables.proofs.records.field_count.Reads as field-count-reads
 
 abbrev invariant-loop : tie.invariant-loop
-invariant-loop out₀ at heap n to₀ r₀ out to r = Each (recordText heap) (shownRecords heap) out₀ at out to r
+invariant-loop out₀ at heap n to₀ r₀ out to r = Each (record_text heap) (shown_records heap) out₀ at out to r
 
 abbrev decreases-loop : tie.decreases-loop
 decreases-loop out₀ at heap n to₀ r₀ out to r = n - r
@@ -50,8 +50,8 @@ loop-less c = search rules
 
 -- src/listing.rt:143:5
 loop-again : tie.Need-loop-preserved invariant-loop decreases-loop
-unfolding recordText
-loop-again c = each-goes-on c.before.before.before.before.before.before.before.before.before.before.loop.invariant (omega (arith, c.before.before.before.before.before.before.before.before.before.loop-test.true, c.before.before.before.before.before.before.before.before.before.before.before.shown-records.ensures)) (then (puts-as (ap (λ n. countedLine 114 c.before.before.before.before.before.before.before.before.before.before.loop.r n) c.before.before.before.before.before.before.before.field-count.ensures) c.before.before.before.before.before.before.put-counted.ensures) c.before.before.put-fields.ensures) (c.before.before.put-fields.auto.0 ∙ c.before.before.before.before.before.before.put-counted.auto.0)
+unfolding record_text
+loop-again c = each-goes-on c.before.before.before.before.before.before.before.before.before.before.loop.invariant (omega (arith, c.before.before.before.before.before.before.before.before.before.loop-test.true, c.before.before.before.before.before.before.before.before.before.before.before.shown-records.ensures)) (then (puts-as (ap (λ n. counted_line 114 c.before.before.before.before.before.before.before.before.before.before.loop.r n) c.before.before.before.before.before.before.before.field-count.ensures) c.before.before.before.before.before.before.put-counted.ensures) c.before.before.put-fields.ensures) (c.before.before.put-fields.auto.0 ∙ c.before.before.before.before.before.before.put-counted.auto.0)
 
 -- src/listing.rt:137:1
 same_length : tie.Need-same-length invariant-loop decreases-loop
@@ -59,7 +59,7 @@ same_length c = c.before.loop.invariant.kept
 
 -- src/listing.rt:137:1
 returns : tie.Need-returns invariant-loop decreases-loop
-unfolding recordsText
+unfolding records_text
 returns c = each-ends c.before.loop.invariant (omega (arith, c.loop-test.false, c.before.before.shown-records.ensures))
 
 pub put-records-spec : {M : Type 1} → statement M

@@ -1,4 +1,4 @@
-use Rattle.lister.specs.Listing.{tablesText}
+use Rattle.lister.specs.Listing.{tables_text}
 use Rattle.lister.proofs.BufferLaws.{then}
 use borrow.Author.Rules.{rules}
 use Rattle.lister.proofs.listing.put_tables.Statement.{statement}
@@ -31,7 +31,7 @@ same_length c = search rules
 
 -- src/listing.rt:176:1
 returns : tie.Need-returns
-unfolding tablesText
+unfolding tables_text
 returns c = then (then (then c.before.before.before.before.before.before.before.before.before.before.before.before.before.before.put-variables.ensures c.before.before.before.before.before.before.before.before.before.before.put-records.ensures) c.before.before.before.before.before.before.put-positions.ensures) c.before.before.put-positions2.ensures
 
 pub put-tables-spec : {M : Type 1} → statement M

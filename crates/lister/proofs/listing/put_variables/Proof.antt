@@ -1,7 +1,7 @@
 use borrow.Author.Rules.{rules}
 use Prim.Native.Nat.{◌-◌}
 use Rattle.tables.specs.Cells.{cells}
-use Rattle.lister.specs.Listing.{variableText, variablesText}
+use Rattle.lister.specs.Listing.{variable_text, variables_text}
 use Rattle.lister.proofs.ListingLaws.{Each, each-starts, each-goes-on, each-ends}
 use Rattle.lister.proofs.listing.put_variables.Statement.{statement}
 use Rattle.lister.proofs.listing.put_variables.Tie as tie
@@ -10,7 +10,7 @@ use Rattle.lister.proofs.listing.put_variables.Lts as lts
 use Rattle.lister.proofs.listing.put_variable.Reads as put-variable-reads
 
 abbrev invariant-loop : tie.invariant-loop
-invariant-loop out₀ at environment heap to₀ x₀ out to x = Each (variableText (cells environment heap)) 64 out₀ at out to x
+invariant-loop out₀ at environment heap to₀ x₀ out to x = Each (variable_text (cells environment heap)) 64 out₀ at out to x
 
 abbrev decreases-loop : tie.decreases-loop
 decreases-loop out₀ at environment heap to₀ x₀ out to x = 64 - x
@@ -41,7 +41,7 @@ same_length c = c.before.loop.invariant.kept
 
 -- src/listing.rt:80:1
 returns : tie.Need-returns invariant-loop decreases-loop
-unfolding variablesText
+unfolding variables_text
 returns c = each-ends c.before.loop.invariant c.loop-test.false
 
 pub put-variables-spec : {M : Type 1} → statement M

@@ -1,4 +1,4 @@
-use Rattle.lister.specs.Listing.{unfitText}
+use Rattle.lister.specs.Listing.{unfit_text}
 use Rattle.lister.proofs.ListingLaws.{listed}
 use borrow.Author.Rules.{rules}
 use Rattle.lister.proofs.listing.write_unfit.Statement.{statement}
@@ -21,7 +21,7 @@ same_length c = search rules
 
 -- src/listing.rt:203:1
 returns : tie.Need-returns
-unfolding unfitText
+unfolding unfit_text
 returns c = listed c.before.before.put-named.ensures
 
 pub write-unfit-spec : {M : Type 1} → statement M

@@ -1,5 +1,5 @@
 use mathlib.Core.Path.{ap, ◌∙◌}
-use Rattle.lister.specs.Numerals.{naturalIn, positiveOf, negativeOf}
+use Rattle.lister.specs.Numerals.{natural_in, positive_of, negative_of}
 use Rattle.lister.proofs.NumeralLaws.{numeral-none, numeral-negative, numeral-positive}
 use borrow.Author.Rules.{rules}
 use Rattle.lister.proofs.numerals.number.Statement.{statement}
@@ -33,7 +33,7 @@ negative-requires c κs = search rules
 
 -- src/numerals.rt:98:9
 returns-2 : tie.Need-returns-2
-returns-2 c = c.negative.ensures ∙ ap negativeOf (c.before.natural.ensures ∙ ap naturalIn c.before.before.bytes-from.ensures) ∙ numeral-negative c.before.before.before.before.before.before.before.args.s.now c.before.before.before.before.before.if1.false c.before.before.before.if2.true
+returns-2 c = c.negative.ensures ∙ ap negative_of (c.before.natural.ensures ∙ ap natural_in c.before.before.bytes-from.ensures) ∙ numeral-negative c.before.before.before.before.before.before.before.args.s.now c.before.before.before.before.before.if1.false c.before.before.before.if2.true
 
 -- src/numerals.rt:100:14
 natural-requires-2 : tie.Need-natural-requires-2
@@ -45,7 +45,7 @@ positive-requires c κs = search rules
 
 -- src/numerals.rt:91:1
 returns-3 : tie.Need-returns-3
-returns-3 c = c.positive.ensures ∙ ap positiveOf c.before.natural2.ensures ∙ numeral-positive c.before.before.before.before.before.before.args.s.now c.before.before.before.before.if1.false c.before.before.if2.false
+returns-3 c = c.positive.ensures ∙ ap positive_of c.before.natural2.ensures ∙ numeral-positive c.before.before.before.before.before.before.args.s.now c.before.before.before.before.if1.false c.before.before.if2.false
 
 pub number-spec : {M : Type 1} → statement M
 number-spec =

@@ -1,6 +1,6 @@
 use mathlib.Core.Path.{sym, ap, ◌∙◌}
 use Rattle.tables.specs.Cells.{cells}
-use Rattle.tables.specs.Values.{slotOf}
+use Rattle.tables.specs.Values.{slot_of}
 use Rattle.rules.proofs.PathClauses.{slot_is}
 use borrow.Author.Rules.{rules}
 use Rattle.phases.proofs.classes.holds.Statement.{statement}
@@ -33,11 +33,11 @@ are-same-requires c κs = search rules
 
 -- src/classes.rt:150:1
 returns : tie.Need-returns
-returns c = rw (sym (slot_is (cells c.before.before.before.before.args.environment.now c.before.before.before.before.args.heap.now) c.before.before.before.before.args.l) ∙ sym (c.before.before.slot_of.ensures ∙ ap slotOf c.before.before.before.read_cell.ensures) ∙ c.enum_told.given.1)
+returns c = rw (sym (slot_is (cells c.before.before.before.before.args.environment.now c.before.before.before.before.args.heap.now) c.before.before.before.before.args.l) ∙ sym (c.before.before.slot_of.ensures ∙ ap slot_of c.before.before.before.read_cell.ensures) ∙ c.enum_told.given.1)
 
 -- src/classes.rt:150:1
 returns-2 : tie.Need-returns-2
-returns-2 c = rw (sym (slot_is (cells c.before.before.before.before.before.before.args.environment.now c.before.before.before.before.before.before.args.heap.now) c.before.before.before.before.before.before.args.l) ∙ sym (c.before.before.before.before.slot_of.ensures ∙ ap slotOf c.before.before.before.before.before.read_cell.ensures) ∙ c.before.before.slot.given.1) c.are-same.ensures
+returns-2 c = rw (sym (slot_is (cells c.before.before.before.before.before.before.args.environment.now c.before.before.before.before.before.before.args.heap.now) c.before.before.before.before.before.before.args.l) ∙ sym (c.before.before.before.before.slot_of.ensures ∙ ap slot_of c.before.before.before.before.before.read_cell.ensures) ∙ c.before.before.slot.given.1) c.are-same.ensures
 
 pub holds-spec : {M : Type 1} → statement M
 holds-spec =

@@ -2,8 +2,8 @@ use borrow.Author.Rules.{rules}
 use mathlib.Core.Path.{ap, ◌∙◌}
 use Prim.Native.Nat.{◌-◌}
 use Rattle.tables.specs.Cells.{cells}
-use Rattle.rules.specs.Identities.{tieAt}
-use Rattle.phases.specs.Tying.{identityAt, tieNo, tiedOf, turn_of}
+use Rattle.rules.specs.Identities.{tie_at}
+use Rattle.phases.specs.Tying.{identity_at, tie_no, tied_of, turn_of}
 use Rattle.phases.proofs.TieLaws.{tie-low}
 use Rattle.phases.proofs.WalkLaws.{Walking, walking-starts, walking-lost, walking-goes-on, walking-ends}
 use Rattle.phases.proofs.classes.pass.Statement.{statement}
@@ -16,7 +16,7 @@ use Rattle.phases.proofs.classes.tie_at.Reads as tie-at-reads
 use Rattle.phases.proofs.classes.turn.Reads as turn-reads
 
 abbrev invariant-loop : tie.invariant-loop
-invariant-loop program environment heap constraints n back target class₀ names₀ apart₀ again₀ i₀ class names apart again i = Walking (tieNo program constraints (cells environment heap)) n back target class₀ class names again apart i
+invariant-loop program environment heap constraints n back target class₀ names₀ apart₀ again₀ i₀ class names apart again i = Walking (tie_no program constraints (cells environment heap)) n back target class₀ class names again apart i
 
 abbrev decreases-loop : tie.decreases-loop
 decreases-loop program environment heap constraints n back target class₀ names₀ apart₀ again₀ i₀ class names apart again i = n - i
@@ -47,7 +47,7 @@ same_length c = search rules
 
 -- src/classes.rt:131:17
 returns : tie.Need-returns invariant-loop decreases-loop
-returns c = walking-lost c.before.before.before.before.before.before.before.loop.invariant c.before.before.before.before.before.before.loop-test.true (c.before.before.before.tie-at.ensures ∙ ap (λ q. tiedOf (tieAt (cells c.before.before.before.before.before.before.before.before.before.args.environment.now c.before.before.before.before.before.before.before.before.before.args.heap.now) q)) (c.before.before.before.before.identity-at.ensures ∙ ap (identityAt c.before.before.before.before.before.before.before.before.before.args.program.now c.before.before.before.before.before.before.before.before.before.args.constraints.now) c.before.before.before.before.before.turn.ensures)) c.before.a.given.1
+returns c = walking-lost c.before.before.before.before.before.before.before.loop.invariant c.before.before.before.before.before.before.loop-test.true (c.before.before.before.tie-at.ensures ∙ ap (λ q. tied_of (tie_at (cells c.before.before.before.before.before.before.before.before.before.args.environment.now c.before.before.before.before.before.before.before.before.before.args.heap.now) q)) (c.before.before.before.before.identity-at.ensures ∙ ap (identity_at c.before.before.before.before.before.before.before.before.before.args.program.now c.before.before.before.before.before.before.before.before.before.args.constraints.now) c.before.before.before.before.before.turn.ensures)) c.before.a.given.1
 
 -- src/classes.rt:133:24
 enum-known-one : tie.Need-enum-known-one invariant-loop decreases-loop
@@ -67,7 +67,7 @@ loop-less c = search rules
 
 -- src/classes.rt:127:5
 loop-again : tie.Need-loop-preserved invariant-loop decreases-loop
-loop-again c = walking-goes-on c.before.before.before.before.before.before.before.before.before.before.before.before.before.loop.invariant c.before.before.before.before.before.before.before.before.before.before.before.before.loop-test.true (c.before.before.before.before.before.before.before.before.before.tie-at.ensures ∙ ap (λ q. tiedOf (tieAt (cells c.before.before.before.before.before.before.before.before.before.before.before.before.before.before.before.args.environment.now c.before.before.before.before.before.before.before.before.before.before.before.before.before.before.before.args.heap.now) q)) (c.before.before.before.before.before.before.before.before.before.before.identity-at.ensures ∙ ap (identityAt c.before.before.before.before.before.before.before.before.before.before.before.before.before.before.before.args.program.now c.before.before.before.before.before.before.before.before.before.before.before.before.before.before.before.args.constraints.now) c.before.before.before.before.before.before.before.before.before.before.before.turn.ensures)) c.before.before.before.before.before.before.before.one.given.1 (tie-low (cells c.before.before.before.before.before.before.before.before.before.before.before.before.before.before.before.args.environment.now c.before.before.before.before.before.before.before.before.before.before.before.before.before.before.before.args.heap.now) (identityAt c.before.before.before.before.before.before.before.before.before.before.before.before.before.before.before.args.program.now c.before.before.before.before.before.before.before.before.before.before.before.before.before.before.before.args.constraints.now (turn_of c.before.before.before.before.before.before.before.before.before.before.before.before.before.before.before.args.n c.before.before.before.before.before.before.before.before.before.before.before.before.before.loop.i c.before.before.before.before.before.before.before.before.before.before.before.before.before.before.before.args.back))) c.before.before.before.before.grow-tie.ensures
+loop-again c = walking-goes-on c.before.before.before.before.before.before.before.before.before.before.before.before.before.loop.invariant c.before.before.before.before.before.before.before.before.before.before.before.before.loop-test.true (c.before.before.before.before.before.before.before.before.before.tie-at.ensures ∙ ap (λ q. tied_of (tie_at (cells c.before.before.before.before.before.before.before.before.before.before.before.before.before.before.before.args.environment.now c.before.before.before.before.before.before.before.before.before.before.before.before.before.before.before.args.heap.now) q)) (c.before.before.before.before.before.before.before.before.before.before.identity-at.ensures ∙ ap (identity_at c.before.before.before.before.before.before.before.before.before.before.before.before.before.before.before.args.program.now c.before.before.before.before.before.before.before.before.before.before.before.before.before.before.before.args.constraints.now) c.before.before.before.before.before.before.before.before.before.before.before.turn.ensures)) c.before.before.before.before.before.before.before.one.given.1 (tie-low (cells c.before.before.before.before.before.before.before.before.before.before.before.before.before.before.before.args.environment.now c.before.before.before.before.before.before.before.before.before.before.before.before.before.before.before.args.heap.now) (identity_at c.before.before.before.before.before.before.before.before.before.before.before.before.before.before.before.args.program.now c.before.before.before.before.before.before.before.before.before.before.before.before.before.before.before.args.constraints.now (turn_of c.before.before.before.before.before.before.before.before.before.before.before.before.before.before.before.args.n c.before.before.before.before.before.before.before.before.before.before.before.before.before.loop.i c.before.before.before.before.before.before.before.before.before.before.before.before.before.before.before.args.back))) c.before.before.before.before.grow-tie.ensures
 
 -- src/classes.rt:109:1
 same-length-2 : tie.Need-same-length-2 invariant-loop decreases-loop

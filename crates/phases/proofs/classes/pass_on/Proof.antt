@@ -1,7 +1,7 @@
 use borrow.Author.Rules.{rules}
 use Rattle.tables.specs.Cells.{cells}
-use Rattle.phases.specs.Tying.{tieNo}
-use Rattle.phases.proofs.WalkLaws.{WalkingOn, walksLeft, walking-on-starts, never-lost, walking-on-goes-on, walking-on-less, walking-on-ends}
+use Rattle.phases.specs.Tying.{tie_no}
+use Rattle.phases.proofs.WalkLaws.{WalkingOn, walks_left, walking-on-starts, never-lost, walking-on-goes-on, walking-on-less, walking-on-ends}
 use Rattle.phases.proofs.classes.pass_on.Statement.{statement}
 use Rattle.phases.proofs.classes.pass_on.Tie as tie
 use Rattle.phases.proofs.classes.pass_on.Reads as reads
@@ -9,10 +9,10 @@ use Rattle.phases.proofs.classes.pass_on.Lts as lts
 use Rattle.phases.proofs.classes.pass.Reads as pass-reads
 
 abbrev invariant-loop : tie.invariant-loop
-invariant-loop program environment heap constraints n again target class₀ back₀ due₀ class back due = WalkingOn (tieNo program constraints (cells environment heap)) n again class₀ class due
+invariant-loop program environment heap constraints n again target class₀ back₀ due₀ class back due = WalkingOn (tie_no program constraints (cells environment heap)) n again class₀ class due
 
 abbrev decreases-loop : tie.decreases-loop
-decreases-loop program environment heap constraints n again target class₀ back₀ due₀ class back due = walksLeft (tieNo program constraints (cells environment heap)) n due class
+decreases-loop program environment heap constraints n again target class₀ back₀ due₀ class back due = walks_left (tie_no program constraints (cells environment heap)) n due class
 
 -- src/classes.rt:163:5
 loop-holds : tie.Need-loop-init invariant-loop decreases-loop

@@ -3,7 +3,7 @@ use mathlib.Core.Path.{◌≡◌, ◌∙◌}
 use native.Mathlib.Omega.{arith}
 use lib.ListN.{length}
 use Prim.Native.Nat.{◌-◌, ◌*◌, ◌/◌, ◌≤◌}
-use Rattle.words.specs.Bits.{nextMarked}
+use Rattle.words.specs.Bits.{next_marked}
 use Rattle.words.proofs.BitLaws.{rest_lt, next_past, next-in, next-on, word_lt, word_in, word_on}
 use Rattle.phases.proofs.giving.next_marked.Statement.{statement}
 use Rattle.phases.proofs.giving.next_marked.Tie as tie
@@ -11,7 +11,7 @@ use Rattle.phases.proofs.giving.next_marked.Reads as reads
 use Rattle.phases.proofs.giving.next_marked.Lts as lts
 
 abbrev invariant-loop : tie.invariant-loop
-invariant-loop class l i₀ rest i = (i ≤ length class) × (nextMarked class (64 * i) ≡ nextMarked class l)
+invariant-loop class l i₀ rest i = (i ≤ length class) × (next_marked class (64 * i) ≡ next_marked class l)
 
 abbrev decreases-loop : tie.decreases-loop
 decreases-loop class l i₀ rest i = length class - i

@@ -5,11 +5,11 @@ use mathlib.Core.Path.{refl, ap}
 use mathlib.Core.List.{[], ◌∷◌}
 use native.Mathlib.Omega.{arith}
 use lib.ListN.{length, drop}
-use Rattle.program.specs.Forms.{skip, assign, new as making, always, once, alwaysSame, onceSame, branch, loop}
+use Rattle.program.specs.Forms.{skip, assign, new as making, always, once, always_same, once_same, branch, loop}
 use Rattle.program.proofs.BlockLaws.{verb-none}
-use Rattle.printing.specs.Signs.{space, line, alwaysSign, onceSign, semicolonSign}
+use Rattle.printing.specs.Signs.{space, line, always_sign, once_sign, semicolon_sign}
 use Rattle.printing.specs.Naming.{naming}
-use Rattle.printing.specs.Printing.{sidesText, constraintText, verbText, blockText, statementText, statementsText}
+use Rattle.printing.specs.Printing.{sides_text, constraint_text, verb_text, block_text, statement_text, statements_text}
 use Rattle.printing.specs.Page.{page}
 use Rattle.printing.proofs.PageLaws.{wrote-length, wrote-plain}
 use Rattle.printing.proofs.LeftLaws.{block-leaves, statement-leaves}
@@ -303,7 +303,7 @@ conditional-same-length t c = c.before.before.block2.auto.1.1.0 ∙ c.before.bef
 -- src/blocks.rt:101:1
 conditional-returns : (t : ℕ) → conditional-lts.Need-returns (conditional-calls t) (conditional-at t) conditional.Post
 conditional-returns t c =
-    branch-gives (λ q. blockText c.before.before.before.before.before.before.before.before.before.before.before.before.before.before.before.before.before.before.before.before.before.before.before.before.before.before.before.before.before.before.before.before.before.before.before.before.before.before.before.before.args.d q) (block-leaves c.before.before.before.before.before.before.before.before.before.before.before.before.before.before.before.before.before.before.before.before.before.before.before.before.before.before.before.before.before.before.before.before.before.before.before.before.before.before.before.before.args.d) c.before.before.before.before.before.before.before.before.before.before.before.before.before.before.before.before.before.before.before.before.before.before.before.before.before.before.before.before.before.before.before.before.before.before.before.before.before.before.before.before.args.p.now (wrote-plain c.before.before.before.before.before.before.before.before.before.before.before.before.before.before.before.before.before.before.before.before.before.before.before.before.before.before.before.before.before.before.before.before.before.before.add.ensures refl) c.before.before.before.before.before.before.before.before.before.before.before.before.before.before.before.before.before.before.before.before.before.before.before.before.before.before.before.before.expression.ensures (wrote-plain c.before.before.before.before.before.before.before.before.before.before.before.before.before.before.before.before.before.before.before.before.before.before.add2.ensures refl)
+    branch-gives (λ q. block_text c.before.before.before.before.before.before.before.before.before.before.before.before.before.before.before.before.before.before.before.before.before.before.before.before.before.before.before.before.before.before.before.before.before.before.before.before.before.before.before.before.args.d q) (block-leaves c.before.before.before.before.before.before.before.before.before.before.before.before.before.before.before.before.before.before.before.before.before.before.before.before.before.before.before.before.before.before.before.before.before.before.before.before.before.before.before.before.args.d) c.before.before.before.before.before.before.before.before.before.before.before.before.before.before.before.before.before.before.before.before.before.before.before.before.before.before.before.before.before.before.before.before.before.before.before.before.before.before.before.before.args.p.now (wrote-plain c.before.before.before.before.before.before.before.before.before.before.before.before.before.before.before.before.before.before.before.before.before.before.before.before.before.before.before.before.before.before.before.before.before.before.add.ensures refl) c.before.before.before.before.before.before.before.before.before.before.before.before.before.before.before.before.before.before.before.before.before.before.before.before.before.before.before.before.expression.ensures (wrote-plain c.before.before.before.before.before.before.before.before.before.before.before.before.before.before.before.before.before.before.before.before.before.before.add2.ensures refl)
     c.before.before.before.before.before.before.before.before.before.before.before.before.before.before.before.before.part-last.ensures c.before.before.before.before.before.before.before.before.before.before.before.before.before.before.before.block.ensures (wrote-plain c.before.before.before.before.before.before.before.before.before.add3.ensures refl) c.before.before.before.part-last2.ensures c.before.before.block2.ensures
 
 -- src/blocks.rt:134:18
@@ -341,7 +341,7 @@ repeated-same-length t c = search rules
 -- src/blocks.rt:122:1
 repeated-returns : (t : ℕ) → repeated-lts.Need-returns (repeated-calls t) (repeated-at t) repeated.Post
 repeated-returns t c =
-    loop-gives (λ q. blockText c.before.before.before.before.before.before.before.before.before.before.before.before.before.before.before.before.before.before.before.before.before.before.before.before.before.before.before.args.d q) (block-leaves c.before.before.before.before.before.before.before.before.before.before.before.before.before.before.before.before.before.before.before.before.before.before.before.before.before.before.before.args.d) c.before.before.before.before.before.before.before.before.before.before.before.before.before.before.before.before.before.before.before.before.before.before.before.before.before.before.before.args.p.now (wrote-plain c.before.before.before.before.before.before.before.before.before.before.before.before.before.before.before.before.before.before.before.before.before.add.ensures refl) c.before.before.before.before.before.before.before.before.before.before.before.before.before.before.before.expression.ensures (wrote-plain c.before.before.before.before.before.before.before.before.before.add2.ensures refl)
+    loop-gives (λ q. block_text c.before.before.before.before.before.before.before.before.before.before.before.before.before.before.before.before.before.before.before.before.before.before.before.before.before.before.before.args.d q) (block-leaves c.before.before.before.before.before.before.before.before.before.before.before.before.before.before.before.before.before.before.before.before.before.before.before.before.before.before.before.args.d) c.before.before.before.before.before.before.before.before.before.before.before.before.before.before.before.before.before.before.before.before.before.before.before.before.before.before.before.args.p.now (wrote-plain c.before.before.before.before.before.before.before.before.before.before.before.before.before.before.before.before.before.before.before.before.before.add.ensures refl) c.before.before.before.before.before.before.before.before.before.before.before.before.before.before.before.expression.ensures (wrote-plain c.before.before.before.before.before.before.before.before.before.add2.ensures refl)
     c.before.before.before.part-last.ensures c.before.before.block.ensures
 
 -- src/blocks.rt:69:9
@@ -430,7 +430,7 @@ statement-same-length t c = search rules
 
 -- src/blocks.rt:57:1
 statement-returns : (t : ℕ) → statement-lts.Need-returns (statement-calls t) (statement-at t) statement'.Post
-unfolding verbText
+unfolding verb_text
 statement-returns t c =
     verb-gives c.before.before.before.before.before.before.before.before.before.before.before.args.d c.before.before.before.before.before.before.before.before.before.before.before.args.p.now c.before.before.before.before.before.before.before.before.number_at.ensures skip c.before.before.before.before.before.before.match.keys1 (omega arith) (wrote-plain c.before.before.add.ensures refl, ap length c.before.before.before.before.before.before.before.part-from.ensures)
 
@@ -440,7 +440,7 @@ statement-same-length-2 t c = search rules
 
 -- src/blocks.rt:57:1
 statement-returns-2 : (t : ℕ) → statement-lts.Need-returns-2 (statement-calls t) (statement-at t) statement'.Post
-unfolding verbText
+unfolding verb_text
 statement-returns-2 t c =
     verb-gives c.before.before.before.before.before.before.before.before.before.before.before.args.d c.before.before.before.before.before.before.before.before.before.before.before.args.p.now c.before.before.before.before.before.before.before.before.number_at.ensures assign c.before.before.before.before.before.before.match.keys2 (omega arith) (rw c.before.before.before.before.before.before.before.part-from.ensures at c.before.before.assignment.ensures)
 
@@ -450,7 +450,7 @@ statement-same-length-3 t c = search rules
 
 -- src/blocks.rt:57:1
 statement-returns-3 : (t : ℕ) → statement-lts.Need-returns-3 (statement-calls t) (statement-at t) statement'.Post
-unfolding verbText
+unfolding verb_text
 statement-returns-3 t c =
     verb-gives c.before.before.before.before.before.before.before.before.before.before.before.args.d c.before.before.before.before.before.before.before.before.before.before.before.args.p.now c.before.before.before.before.before.before.before.before.number_at.ensures making c.before.before.before.before.before.before.match.keys3 (omega arith) (rw c.before.before.before.before.before.before.before.part-from.ensures at c.before.before.new.ensures)
 
@@ -460,10 +460,10 @@ statement-same-length-4 t c = search rules
 
 -- src/blocks.rt:57:1
 statement-returns-4 : (t : ℕ) → statement-lts.Need-returns-4 (statement-calls t) (statement-at t) statement'.Post
-unfolding verbText
+unfolding verb_text
 statement-returns-4 t c =
     verb-gives c.before.before.before.before.before.before.before.before.before.before.before.before.before.before.before.before.before.args.d c.before.before.before.before.before.before.before.before.before.before.before.before.before.before.before.before.before.args.p.now c.before.before.before.before.before.before.before.before.before.before.before.before.before.before.number_at.ensures always c.before.before.before.before.before.before.before.before.before.before.before.before.match.keys4 (omega arith)
-    (gives-say (alwaysSign ∷ space ∷ []) (constraintText (drop 1 c.before.before.before.before.before.before.before.before.before.before.before.before.before.before.before.before.before.args.p.now)) (wrote-plain c.before.before.before.before.before.before.before.before.add2.ensures refl) (rw c.before.before.before.before.before.before.before.before.before.before.before.before.before.part-from.ensures at c.before.before.constraint.ensures))
+    (gives-say (always_sign ∷ space ∷ []) (constraint_text (drop 1 c.before.before.before.before.before.before.before.before.before.before.before.before.before.before.before.before.before.args.p.now)) (wrote-plain c.before.before.before.before.before.before.before.before.add2.ensures refl) (rw c.before.before.before.before.before.before.before.before.before.before.before.before.before.part-from.ensures at c.before.before.constraint.ensures))
 
 -- src/blocks.rt:57:1
 statement-same-length-5 : (t : ℕ) → statement-lts.Need-same-length-5 (statement-calls t) (statement-at t) statement'.Post
@@ -471,10 +471,10 @@ statement-same-length-5 t c = search rules
 
 -- src/blocks.rt:57:1
 statement-returns-5 : (t : ℕ) → statement-lts.Need-returns-5 (statement-calls t) (statement-at t) statement'.Post
-unfolding verbText
+unfolding verb_text
 statement-returns-5 t c =
     verb-gives c.before.before.before.before.before.before.before.before.before.before.before.before.before.before.before.before.before.args.d c.before.before.before.before.before.before.before.before.before.before.before.before.before.before.before.before.before.args.p.now c.before.before.before.before.before.before.before.before.before.before.before.before.before.before.number_at.ensures once c.before.before.before.before.before.before.before.before.before.before.before.before.match.keys5 (omega arith)
-    (gives-say (onceSign ∷ space ∷ []) (constraintText (drop 1 c.before.before.before.before.before.before.before.before.before.before.before.before.before.before.before.before.before.args.p.now)) (wrote-plain c.before.before.before.before.before.before.before.before.add3.ensures refl) (rw c.before.before.before.before.before.before.before.before.before.before.before.before.before.part-from.ensures at c.before.before.constraint2.ensures))
+    (gives-say (once_sign ∷ space ∷ []) (constraint_text (drop 1 c.before.before.before.before.before.before.before.before.before.before.before.before.before.before.before.before.before.args.p.now)) (wrote-plain c.before.before.before.before.before.before.before.before.add3.ensures refl) (rw c.before.before.before.before.before.before.before.before.before.before.before.before.before.part-from.ensures at c.before.before.constraint2.ensures))
 
 -- src/blocks.rt:57:1
 statement-same-length-6 : (t : ℕ) → statement-lts.Need-same-length-6 (statement-calls t) (statement-at t) statement'.Post
@@ -482,10 +482,10 @@ statement-same-length-6 t c = search rules
 
 -- src/blocks.rt:57:1
 statement-returns-6 : (t : ℕ) → statement-lts.Need-returns-6 (statement-calls t) (statement-at t) statement'.Post
-unfolding verbText
+unfolding verb_text
 statement-returns-6 t c =
-    verb-gives c.before.before.before.before.before.before.before.before.before.before.before.before.before.before.before.before.before.args.d c.before.before.before.before.before.before.before.before.before.before.before.before.before.before.before.before.before.args.p.now c.before.before.before.before.before.before.before.before.before.before.before.before.before.before.number_at.ensures alwaysSame c.before.before.before.before.before.before.before.before.before.before.before.before.match.keys6 (omega arith)
-    (gives-say (alwaysSign ∷ space ∷ []) (sidesText (drop 1 c.before.before.before.before.before.before.before.before.before.before.before.before.before.before.before.before.before.args.p.now)) (wrote-plain c.before.before.before.before.before.before.before.before.add4.ensures refl) (rw c.before.before.before.before.before.before.before.before.before.before.before.before.before.part-from.ensures at c.before.before.sides.ensures))
+    verb-gives c.before.before.before.before.before.before.before.before.before.before.before.before.before.before.before.before.before.args.d c.before.before.before.before.before.before.before.before.before.before.before.before.before.before.before.before.before.args.p.now c.before.before.before.before.before.before.before.before.before.before.before.before.before.before.number_at.ensures always_same c.before.before.before.before.before.before.before.before.before.before.before.before.match.keys6 (omega arith)
+    (gives-say (always_sign ∷ space ∷ []) (sides_text (drop 1 c.before.before.before.before.before.before.before.before.before.before.before.before.before.before.before.before.before.args.p.now)) (wrote-plain c.before.before.before.before.before.before.before.before.add4.ensures refl) (rw c.before.before.before.before.before.before.before.before.before.before.before.before.before.part-from.ensures at c.before.before.sides.ensures))
 
 -- src/blocks.rt:57:1
 statement-same-length-7 : (t : ℕ) → statement-lts.Need-same-length-7 (statement-calls t) (statement-at t) statement'.Post
@@ -493,10 +493,10 @@ statement-same-length-7 t c = search rules
 
 -- src/blocks.rt:57:1
 statement-returns-7 : (t : ℕ) → statement-lts.Need-returns-7 (statement-calls t) (statement-at t) statement'.Post
-unfolding verbText
+unfolding verb_text
 statement-returns-7 t c =
-    verb-gives c.before.before.before.before.before.before.before.before.before.before.before.before.before.before.before.before.before.args.d c.before.before.before.before.before.before.before.before.before.before.before.before.before.before.before.before.before.args.p.now c.before.before.before.before.before.before.before.before.before.before.before.before.before.before.number_at.ensures onceSame c.before.before.before.before.before.before.before.before.before.before.before.before.match.keys7 (omega arith)
-    (gives-say (onceSign ∷ space ∷ []) (sidesText (drop 1 c.before.before.before.before.before.before.before.before.before.before.before.before.before.before.before.before.before.args.p.now)) (wrote-plain c.before.before.before.before.before.before.before.before.add5.ensures refl) (rw c.before.before.before.before.before.before.before.before.before.before.before.before.before.part-from.ensures at c.before.before.sides2.ensures))
+    verb-gives c.before.before.before.before.before.before.before.before.before.before.before.before.before.before.before.before.before.args.d c.before.before.before.before.before.before.before.before.before.before.before.before.before.before.before.before.before.args.p.now c.before.before.before.before.before.before.before.before.before.before.before.before.before.before.number_at.ensures once_same c.before.before.before.before.before.before.before.before.before.before.before.before.match.keys7 (omega arith)
+    (gives-say (once_sign ∷ space ∷ []) (sides_text (drop 1 c.before.before.before.before.before.before.before.before.before.before.before.before.before.before.before.before.before.args.p.now)) (wrote-plain c.before.before.before.before.before.before.before.before.add5.ensures refl) (rw c.before.before.before.before.before.before.before.before.before.before.before.before.before.part-from.ensures at c.before.before.sides2.ensures))
 
 -- src/blocks.rt:57:1
 statement-same-length-8 : (t : ℕ) → statement-lts.Need-same-length-8 (statement-calls t) (statement-at t) statement'.Post
@@ -504,7 +504,7 @@ statement-same-length-8 t c = search rules
 
 -- src/blocks.rt:57:1
 statement-returns-8 : (t : ℕ) → statement-lts.Need-returns-8 (statement-calls t) (statement-at t) statement'.Post
-unfolding verbText
+unfolding verb_text
 statement-returns-8 t c =
     verb-gives c.before.before.before.before.before.before.before.before.before.before.before.args.d c.before.before.before.before.before.before.before.before.before.before.before.args.p.now c.before.before.before.before.before.before.before.before.number_at.ensures branch c.before.before.before.before.before.before.match.keys8 (omega arith) (rw c.before.before.before.before.before.before.before.part-from.ensures at c.before.before.conditional.ensures)
 
@@ -514,7 +514,7 @@ statement-same-length-9 t c = search rules
 
 -- src/blocks.rt:57:1
 statement-returns-9 : (t : ℕ) → statement-lts.Need-returns-9 (statement-calls t) (statement-at t) statement'.Post
-unfolding verbText
+unfolding verb_text
 statement-returns-9 t c =
     verb-gives c.before.before.before.before.before.before.before.before.before.before.before.args.d c.before.before.before.before.before.before.before.before.before.before.before.args.p.now c.before.before.before.before.before.before.before.before.number_at.ensures loop c.before.before.before.before.before.before.match.keys9 (omega arith) (rw c.before.before.before.before.before.before.before.part-from.ensures at c.before.before.repeated.ensures)
 
@@ -526,7 +526,7 @@ statement-returns-10 t c =
 
 abbrev statements-Inv-loop : statements-lts.invariant-loop
 statements-Inv-loop source names out₀ at₀ seen₀ p d n left₀ i₀ out at seen left i =
-    InRow (naming source names) (page out₀ at₀ seen₀) (semicolonSign ∷ line d ∷ []) (statementText d) n p (statementsText d p) i left (page out at seen)
+    InRow (naming source names) (page out₀ at₀ seen₀) (semicolon_sign ∷ line d ∷ []) (statement_text d) n p (statements_text d p) i left (page out at seen)
 
 abbrev statements-μ-loop : statements-lts.decreases-loop
 statements-μ-loop source names out₀ at₀ seen₀ p d n left₀ i₀ out at seen left i = n - i
@@ -541,7 +541,7 @@ statements-less-requires t c κs = search rules
 
 -- src/blocks.rt:167:5
 statements-loop-holds : (t : ℕ) → statements-lts.Need-loop-init (statements-calls t) (statements-at t) statements.Post statements-Inv-loop statements-μ-loop
-unfolding statementsText
+unfolding statements_text
 statements-loop-holds t c = rw c.before.number_at.ensures (row-starts c.less.ensures refl)
 
 -- src/blocks.rt:168:9

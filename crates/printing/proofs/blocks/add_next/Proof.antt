@@ -1,6 +1,6 @@
 use mathlib.Core.Path.{sym}
 use mathlib.Core.List.{[], ◌∷◌}
-use Rattle.printing.specs.Signs.{lineBytes}
+use Rattle.printing.specs.Signs.{line_bytes}
 use Rattle.printing.specs.Page.{ink}
 use Rattle.printing.proofs.PageLaws.{onto-none, onto-then}
 use Rattle.printing.proofs.TextLaws.{between-some}
@@ -35,8 +35,8 @@ same_length c = search rules
 -- src/blocks.rt:141:1
 returns-2 : tie.Need-returns-2
 returns-2 c =
-    rw (between-some c.before.before.before.before.before.before.before.before.before.before.before.before.before.args.i (59 ∷ lineBytes c.before.before.before.before.before.before.before.before.before.before.before.before.before.args.d) c.before.before.before.before.before.before.before.before.before.before.before.if1.false)
-    (onto-then (ink c.before.before.before.before.before.before.before.before.before.before.before.before.before.args.out.now c.before.before.before.before.before.before.before.before.before.before.before.before.before.args.at.now) (59 ∷ []) (lineBytes c.before.before.before.before.before.before.before.before.before.before.before.before.before.args.d) c.before.before.before.before.before.before.before.add.ensures c.before.before.add-line.ensures)
+    rw (between-some c.before.before.before.before.before.before.before.before.before.before.before.before.before.args.i (59 ∷ line_bytes c.before.before.before.before.before.before.before.before.before.before.before.before.before.args.d) c.before.before.before.before.before.before.before.before.before.before.before.if1.false)
+    (onto-then (ink c.before.before.before.before.before.before.before.before.before.before.before.before.before.args.out.now c.before.before.before.before.before.before.before.before.before.before.before.before.before.args.at.now) (59 ∷ []) (line_bytes c.before.before.before.before.before.before.before.before.before.before.before.before.before.args.d) c.before.before.before.before.before.before.before.add.ensures c.before.before.add-line.ensures)
 
 pub add-next-spec : {M : Type 1} → statement M
 add-next-spec =

@@ -1,7 +1,7 @@
 use mathlib.Core.Path.{refl}
 use mathlib.Core.List.{[], ◌∷◌}
-use Rattle.printing.specs.Signs.{space, becomesSign}
-use Rattle.printing.specs.Printing.{path_text, wholeText, assignText}
+use Rattle.printing.specs.Signs.{space, becomes_sign}
+use Rattle.printing.specs.Printing.{path_text, whole_text, assign_text}
 use Rattle.printing.proofs.PageLaws.{wrote-plain}
 use Rattle.printing.proofs.LeftLaws.{path-leaves}
 use Rattle.printing.proofs.PieceLaws.{gives_then}
@@ -41,8 +41,8 @@ same_length c = search rules
 
 -- src/blocks.rt:20:1
 returns : tie.Need-returns
-unfolding assignText
-returns c = gives_then path_text wholeText (space ∷ becomesSign ∷ space ∷ []) path-leaves c.before.before.before.before.before.before.before.before.before.before.before.before.before.before.before.path.ensures (wrote-plain c.before.before.before.before.before.before.before.before.before.add.ensures refl) c.before.before.before.before.before.before.part-last.ensures c.before.before.expression.ensures
+unfolding assign_text
+returns c = gives_then path_text whole_text (space ∷ becomes_sign ∷ space ∷ []) path-leaves c.before.before.before.before.before.before.before.before.before.before.before.before.before.before.before.path.ensures (wrote-plain c.before.before.before.before.before.before.before.before.before.add.ensures refl) c.before.before.before.before.before.before.part-last.ensures c.before.before.expression.ensures
 
 pub assignment-spec : {M : Type 1} → statement M
 assignment-spec =

@@ -3,11 +3,11 @@ use Prim.Native.Nat.{◌+◌, ◌*◌}
 use mathlib.Core.Path.{refl, ap}
 use native.Mathlib.Omega.{arith}
 use lib.ListN.{length}
-use Rattle.program.specs.Forms.{aNil, aFalse, aTrue, anInteger, aPath, anOperation, anIdentity}
+use Rattle.program.specs.Forms.{a_nil, a_false, a_true, an_integer, a_path, an_operation, an_identity}
 use Rattle.program.proofs.ReadLaws.{form-none}
 use Rattle.text.proofs.LevelLaws.{level-most}
 use Rattle.printing.specs.Naming.{naming}
-use Rattle.printing.specs.Printing.{formText, expressionText}
+use Rattle.printing.specs.Printing.{form_text, expression_text}
 use Rattle.printing.proofs.PageLaws.{wrote-plain}
 use Rattle.printing.proofs.LeftLaws.{expression-leaves}
 use Rattle.printing.proofs.TextLaws.{operator-plain}
@@ -185,9 +185,9 @@ expression-same-length t c = search rules
 
 -- src/expressions.rt:35:1
 expression-returns-2 : (t : ℕ) → expression-lts.Need-returns-2 (expression-calls t) (expression-at t) expression.Post
-unfolding formText
+unfolding form_text
 expression-returns-2 t c =
-    form-gives c.before.before.before.before.before.before.before.before.before.before.before.before.args.d c.before.before.before.before.before.before.before.before.before.before.before.before.args.low c.before.before.before.before.before.before.before.before.before.before.before.before.args.p.now c.before.before.before.before.before.before.before.before.before.if1.false c.before.before.before.before.before.before.before.before.number_at.ensures aNil c.before.before.before.before.before.before.match.keys1 (omega arith) (wrote-plain c.before.before.add.ensures refl, ap length c.before.before.before.before.before.before.before.part-from.ensures)
+    form-gives c.before.before.before.before.before.before.before.before.before.before.before.before.args.d c.before.before.before.before.before.before.before.before.before.before.before.before.args.low c.before.before.before.before.before.before.before.before.before.before.before.before.args.p.now c.before.before.before.before.before.before.before.before.before.if1.false c.before.before.before.before.before.before.before.before.number_at.ensures a_nil c.before.before.before.before.before.before.match.keys1 (omega arith) (wrote-plain c.before.before.add.ensures refl, ap length c.before.before.before.before.before.before.before.part-from.ensures)
 
 -- src/expressions.rt:35:1
 expression-same-length-2 : (t : ℕ) → expression-lts.Need-same-length-2 (expression-calls t) (expression-at t) expression.Post
@@ -195,9 +195,9 @@ expression-same-length-2 t c = search rules
 
 -- src/expressions.rt:35:1
 expression-returns-3 : (t : ℕ) → expression-lts.Need-returns-3 (expression-calls t) (expression-at t) expression.Post
-unfolding formText
+unfolding form_text
 expression-returns-3 t c =
-    form-gives c.before.before.before.before.before.before.before.before.before.before.before.before.args.d c.before.before.before.before.before.before.before.before.before.before.before.before.args.low c.before.before.before.before.before.before.before.before.before.before.before.before.args.p.now c.before.before.before.before.before.before.before.before.before.if1.false c.before.before.before.before.before.before.before.before.number_at.ensures aFalse c.before.before.before.before.before.before.match.keys2 (omega arith) (wrote-plain c.before.before.add2.ensures refl, ap length c.before.before.before.before.before.before.before.part-from.ensures)
+    form-gives c.before.before.before.before.before.before.before.before.before.before.before.before.args.d c.before.before.before.before.before.before.before.before.before.before.before.before.args.low c.before.before.before.before.before.before.before.before.before.before.before.before.args.p.now c.before.before.before.before.before.before.before.before.before.if1.false c.before.before.before.before.before.before.before.before.number_at.ensures a_false c.before.before.before.before.before.before.match.keys2 (omega arith) (wrote-plain c.before.before.add2.ensures refl, ap length c.before.before.before.before.before.before.before.part-from.ensures)
 
 -- src/expressions.rt:35:1
 expression-same-length-3 : (t : ℕ) → expression-lts.Need-same-length-3 (expression-calls t) (expression-at t) expression.Post
@@ -205,9 +205,9 @@ expression-same-length-3 t c = search rules
 
 -- src/expressions.rt:35:1
 expression-returns-4 : (t : ℕ) → expression-lts.Need-returns-4 (expression-calls t) (expression-at t) expression.Post
-unfolding formText
+unfolding form_text
 expression-returns-4 t c =
-    form-gives c.before.before.before.before.before.before.before.before.before.before.before.before.args.d c.before.before.before.before.before.before.before.before.before.before.before.before.args.low c.before.before.before.before.before.before.before.before.before.before.before.before.args.p.now c.before.before.before.before.before.before.before.before.before.if1.false c.before.before.before.before.before.before.before.before.number_at.ensures aTrue c.before.before.before.before.before.before.match.keys3 (omega arith) (wrote-plain c.before.before.add3.ensures refl, ap length c.before.before.before.before.before.before.before.part-from.ensures)
+    form-gives c.before.before.before.before.before.before.before.before.before.before.before.before.args.d c.before.before.before.before.before.before.before.before.before.before.before.before.args.low c.before.before.before.before.before.before.before.before.before.before.before.before.args.p.now c.before.before.before.before.before.before.before.before.before.if1.false c.before.before.before.before.before.before.before.before.number_at.ensures a_true c.before.before.before.before.before.before.match.keys3 (omega arith) (wrote-plain c.before.before.add3.ensures refl, ap length c.before.before.before.before.before.before.before.part-from.ensures)
 
 -- src/expressions.rt:35:1
 expression-same-length-4 : (t : ℕ) → expression-lts.Need-same-length-4 (expression-calls t) (expression-at t) expression.Post
@@ -215,9 +215,9 @@ expression-same-length-4 t c = search rules
 
 -- src/expressions.rt:35:1
 expression-returns-5 : (t : ℕ) → expression-lts.Need-returns-5 (expression-calls t) (expression-at t) expression.Post
-unfolding formText
+unfolding form_text
 expression-returns-5 t c =
-    form-gives c.before.before.before.before.before.before.before.before.before.before.before.before.before.args.d c.before.before.before.before.before.before.before.before.before.before.before.before.before.args.low c.before.before.before.before.before.before.before.before.before.before.before.before.before.args.p.now c.before.before.before.before.before.before.before.before.before.before.if1.false c.before.before.before.before.before.before.before.before.before.number_at.ensures anInteger c.before.before.before.before.before.before.before.match.keys4 (omega arith)
+    form-gives c.before.before.before.before.before.before.before.before.before.before.before.before.before.args.d c.before.before.before.before.before.before.before.before.before.before.before.before.before.args.low c.before.before.before.before.before.before.before.before.before.before.before.before.before.args.p.now c.before.before.before.before.before.before.before.before.before.before.if1.false c.before.before.before.before.before.before.before.before.before.number_at.ensures an_integer c.before.before.before.before.before.before.before.match.keys4 (omega arith)
     (integer-gives c.before.before.before.before.before.before.before.before.before.before.before.before.before.args.p.now c.before.before.before.before.before.before.before.before.part-from.ensures c.before.before.before.before.word_at.ensures (record { sfits = c.before.before.before.before.word_at.type-inv }) c.before.before.before.add-number.ensures c.less.ensures)
 
 -- src/expressions.rt:35:1
@@ -226,9 +226,9 @@ expression-same-length-5 t c = search rules
 
 -- src/expressions.rt:35:1
 expression-returns-6 : (t : ℕ) → expression-lts.Need-returns-6 (expression-calls t) (expression-at t) expression.Post
-unfolding formText
+unfolding form_text
 expression-returns-6 t c =
-    form-gives c.before.before.before.before.before.before.before.before.before.before.before.before.args.d c.before.before.before.before.before.before.before.before.before.before.before.before.args.low c.before.before.before.before.before.before.before.before.before.before.before.before.args.p.now c.before.before.before.before.before.before.before.before.before.if1.false c.before.before.before.before.before.before.before.before.number_at.ensures aPath c.before.before.before.before.before.before.match.keys5 (omega arith) (rw c.before.before.before.before.before.before.before.part-from.ensures at c.before.before.path.ensures)
+    form-gives c.before.before.before.before.before.before.before.before.before.before.before.before.args.d c.before.before.before.before.before.before.before.before.before.before.before.before.args.low c.before.before.before.before.before.before.before.before.before.before.before.before.args.p.now c.before.before.before.before.before.before.before.before.before.if1.false c.before.before.before.before.before.before.before.before.number_at.ensures a_path c.before.before.before.before.before.before.match.keys5 (omega arith) (rw c.before.before.before.before.before.before.before.part-from.ensures at c.before.before.path.ensures)
 
 -- src/expressions.rt:35:1
 expression-same-length-6 : (t : ℕ) → expression-lts.Need-same-length-6 (expression-calls t) (expression-at t) expression.Post
@@ -236,9 +236,9 @@ expression-same-length-6 t c = search rules
 
 -- src/expressions.rt:35:1
 expression-returns-7 : (t : ℕ) → expression-lts.Need-returns-7 (expression-calls t) (expression-at t) expression.Post
-unfolding formText
+unfolding form_text
 expression-returns-7 t c =
-    form-gives c.before.before.before.before.before.before.before.before.before.before.before.before.args.d c.before.before.before.before.before.before.before.before.before.before.before.before.args.low c.before.before.before.before.before.before.before.before.before.before.before.before.args.p.now c.before.before.before.before.before.before.before.before.before.if1.false c.before.before.before.before.before.before.before.before.number_at.ensures anOperation c.before.before.before.before.before.before.match.keys6 (omega arith) (rw c.before.before.before.before.before.before.before.part-from.ensures at c.before.before.operation.ensures)
+    form-gives c.before.before.before.before.before.before.before.before.before.before.before.before.args.d c.before.before.before.before.before.before.before.before.before.before.before.before.args.low c.before.before.before.before.before.before.before.before.before.before.before.before.args.p.now c.before.before.before.before.before.before.before.before.before.if1.false c.before.before.before.before.before.before.before.before.number_at.ensures an_operation c.before.before.before.before.before.before.match.keys6 (omega arith) (rw c.before.before.before.before.before.before.before.part-from.ensures at c.before.before.operation.ensures)
 
 -- src/expressions.rt:35:1
 expression-same-length-7 : (t : ℕ) → expression-lts.Need-same-length-7 (expression-calls t) (expression-at t) expression.Post
@@ -246,9 +246,9 @@ expression-same-length-7 t c = search rules
 
 -- src/expressions.rt:35:1
 expression-returns-8 : (t : ℕ) → expression-lts.Need-returns-8 (expression-calls t) (expression-at t) expression.Post
-unfolding formText
+unfolding form_text
 expression-returns-8 t c =
-    form-gives c.before.before.before.before.before.before.before.before.before.before.before.before.args.d c.before.before.before.before.before.before.before.before.before.before.before.before.args.low c.before.before.before.before.before.before.before.before.before.before.before.before.args.p.now c.before.before.before.before.before.before.before.before.before.if1.false c.before.before.before.before.before.before.before.before.number_at.ensures anIdentity c.before.before.before.before.before.before.match.keys7 (omega arith) (rw c.before.before.before.before.before.before.before.part-from.ensures at c.before.before.sides.ensures)
+    form-gives c.before.before.before.before.before.before.before.before.before.before.before.before.args.d c.before.before.before.before.before.before.before.before.before.before.before.before.args.low c.before.before.before.before.before.before.before.before.before.before.before.before.args.p.now c.before.before.before.before.before.before.before.before.before.if1.false c.before.before.before.before.before.before.before.before.number_at.ensures an_identity c.before.before.before.before.before.before.match.keys7 (omega arith) (rw c.before.before.before.before.before.before.before.part-from.ensures at c.before.before.sides.ensures)
 
 -- src/expressions.rt:35:1
 expression-returns-9 : (t : ℕ) → expression-lts.Need-returns-9 (expression-calls t) (expression-at t) expression.Post
@@ -285,7 +285,7 @@ operands-same-length t c = search rules
 operands-returns : (t : ℕ) → operands-lts.Need-returns (operands-calls t) (operands-at t) operands.Post
 operands-returns t c =
     let w = operator-plain (naming c.before.before.before.before.before.before.before.before.before.before.before.before.before.before.before.before.before.before.before.before.args.source.now c.before.before.before.before.before.before.before.before.before.before.before.before.before.before.before.before.before.before.before.before.args.names.now) c.before.before.before.before.before.before.before.before.before.before.before.before.before.before.before.before.before.before.before.before.args.k in
-    operands-give (λ l q. expressionText c.before.before.before.before.before.before.before.before.before.before.before.before.before.before.before.before.before.before.before.before.args.d l q) c.before.before.before.before.before.before.before.before.before.before.before.before.before.before.before.before.before.before.before.before.args.k c.before.before.before.before.before.before.before.before.before.before.before.before.before.before.before.before.before.before.before.before.args.p.now (expression-leaves c.before.before.before.before.before.before.before.before.before.before.before.before.before.before.before.before.before.before.before.before.args.d c.before.before.before.before.before.before.before.before.before.before.before.before.before.before.before.before.before.before.before.before.args.level) c.before.before.before.before.before.before.before.before.before.before.before.before.before.before.expression.ensures
+    operands-give (λ l q. expression_text c.before.before.before.before.before.before.before.before.before.before.before.before.before.before.before.before.before.before.before.before.args.d l q) c.before.before.before.before.before.before.before.before.before.before.before.before.before.before.before.before.before.before.before.before.args.k c.before.before.before.before.before.before.before.before.before.before.before.before.before.before.before.before.before.before.before.before.args.p.now (expression-leaves c.before.before.before.before.before.before.before.before.before.before.before.before.before.before.before.before.before.before.before.before.args.d c.before.before.before.before.before.before.before.before.before.before.before.before.before.before.before.before.before.before.before.before.args.level) c.before.before.before.before.before.before.before.before.before.before.before.before.before.before.expression.ensures
     (wrote-plain (rw w.0 at c.before.before.before.before.before.before.before.before.before.add-operator.ensures) w.1) c.before.before.before.before.before.before.part-last.ensures c.before.before.expression2.ensures
 
 -- src/expressions.rt:91:9
@@ -311,7 +311,7 @@ operation-same-length t c = search rules
 -- src/expressions.rt:95:9
 operation-returns : (t : ℕ) → operation-lts.Need-returns (operation-calls t) (operation-at t) operation.Post
 operation-returns t c =
-    operation-gives (λ l q. expressionText c.before.before.before.before.before.before.before.before.before.before.before.before.args.d l q) c.before.before.before.before.before.before.before.before.before.number_at.result c.before.before.before.before.before.before.before.before.before.before.before.before.args.low c.before.before.before.before.before.before.before.before.before.before.before.before.args.p.now c.before.before.before.before.before.before.before.before.before.number_at.ensures c.before.before.before.before.before.before.before.before.level-of.ensures c.before.before.before.before.before.before.before.part-from.ensures c.before.before.before.before.before.before.if1.true c.before.before.operands.ensures
+    operation-gives (λ l q. expression_text c.before.before.before.before.before.before.before.before.before.before.before.before.args.d l q) c.before.before.before.before.before.before.before.before.before.number_at.result c.before.before.before.before.before.before.before.before.before.before.before.before.args.low c.before.before.before.before.before.before.before.before.before.before.before.before.args.p.now c.before.before.before.before.before.before.before.before.before.number_at.ensures c.before.before.before.before.before.before.before.before.level-of.ensures c.before.before.before.before.before.before.before.part-from.ensures c.before.before.before.before.before.before.if1.true c.before.before.operands.ensures
 
 -- src/expressions.rt:97:18
 operation-slice-aggregate-add : (t : ℕ) → operation-lts.Need-slice-aggregate-add (operation-calls t) (operation-at t) operation.Post
@@ -340,7 +340,7 @@ operation-same-length-2 t c = search rules
 -- src/expressions.rt:78:1
 operation-returns-2 : (t : ℕ) → operation-lts.Need-returns-2 (operation-calls t) (operation-at t) operation.Post
 operation-returns-2 t c =
-    brackets-give (λ l q. expressionText c.before.before.before.before.before.before.before.before.before.before.before.before.before.before.before.before.before.before.before.before.before.before.before.before.args.d l q) c.before.before.before.before.before.before.before.before.before.before.before.before.before.before.before.before.before.before.before.before.before.number_at.result c.before.before.before.before.before.before.before.before.before.before.before.before.before.before.before.before.before.before.before.before.before.before.before.before.args.low c.before.before.before.before.before.before.before.before.before.before.before.before.before.before.before.before.before.before.before.before.before.before.before.before.args.p.now c.before.before.before.before.before.before.before.before.before.before.before.before.before.before.before.before.before.before.before.before.before.number_at.ensures c.before.before.before.before.before.before.before.before.before.before.before.before.before.before.before.before.before.before.before.before.level-of.ensures c.before.before.before.before.before.before.before.before.before.before.before.before.before.before.before.before.before.before.before.part-from.ensures c.before.before.before.before.before.before.before.before.before.before.before.before.before.before.before.before.before.before.if1.false
+    brackets-give (λ l q. expression_text c.before.before.before.before.before.before.before.before.before.before.before.before.before.before.before.before.before.before.before.before.before.before.before.before.args.d l q) c.before.before.before.before.before.before.before.before.before.before.before.before.before.before.before.before.before.before.before.before.before.number_at.result c.before.before.before.before.before.before.before.before.before.before.before.before.before.before.before.before.before.before.before.before.before.before.before.before.args.low c.before.before.before.before.before.before.before.before.before.before.before.before.before.before.before.before.before.before.before.before.before.before.before.before.args.p.now c.before.before.before.before.before.before.before.before.before.before.before.before.before.before.before.before.before.before.before.before.before.number_at.ensures c.before.before.before.before.before.before.before.before.before.before.before.before.before.before.before.before.before.before.before.before.level-of.ensures c.before.before.before.before.before.before.before.before.before.before.before.before.before.before.before.before.before.before.before.part-from.ensures c.before.before.before.before.before.before.before.before.before.before.before.before.before.before.before.before.before.before.if1.false
     (wrote-plain c.before.before.before.before.before.before.before.before.before.before.before.before.before.before.add.ensures refl) c.before.before.before.before.before.before.before.before.operands2.ensures (wrote-plain c.before.before.add2.ensures refl)
 
 pub +expression-operands-operation-spec : {M : Type 1} → statement M

@@ -1,5 +1,5 @@
 use mathlib.Core.Path.{sym}
-use Rattle.printing.specs.Signs.{operatorText}
+use Rattle.printing.specs.Signs.{operator_text}
 use Rattle.printing.specs.Page.{ink}
 use Rattle.printing.proofs.PageLaws.{onto-none}
 use Rattle.printing.proofs.TextLaws.{no-operator}
@@ -104,7 +104,7 @@ same_length c = search rules
 
 -- src/expressions.rt:15:1
 returns : tie.Need-returns
-unfolding operatorText
+unfolding operator_text
 returns c = rw c.before.before.before.before.before.before.match.keys1 c.before.before.add.ensures
 
 -- src/expressions.rt:15:1
@@ -113,7 +113,7 @@ same-length-2 c = search rules
 
 -- src/expressions.rt:15:1
 returns-2 : tie.Need-returns-2
-unfolding operatorText
+unfolding operator_text
 returns-2 c = rw c.before.before.before.before.before.before.match.keys2 c.before.before.add2.ensures
 
 -- src/expressions.rt:15:1
@@ -122,7 +122,7 @@ same-length-3 c = search rules
 
 -- src/expressions.rt:15:1
 returns-3 : tie.Need-returns-3
-unfolding operatorText
+unfolding operator_text
 returns-3 c = rw c.before.before.before.before.before.before.match.keys3 c.before.before.add3.ensures
 
 -- src/expressions.rt:15:1
@@ -131,7 +131,7 @@ same-length-4 c = search rules
 
 -- src/expressions.rt:15:1
 returns-4 : tie.Need-returns-4
-unfolding operatorText
+unfolding operator_text
 returns-4 c = rw c.before.before.before.before.before.before.match.keys4 c.before.before.add4.ensures
 
 -- src/expressions.rt:15:1
@@ -140,7 +140,7 @@ same-length-5 c = search rules
 
 -- src/expressions.rt:15:1
 returns-5 : tie.Need-returns-5
-unfolding operatorText
+unfolding operator_text
 returns-5 c = rw c.before.before.before.before.before.before.match.keys5 c.before.before.add5.ensures
 
 -- src/expressions.rt:15:1
@@ -149,7 +149,7 @@ same-length-6 c = search rules
 
 -- src/expressions.rt:15:1
 returns-6 : tie.Need-returns-6
-unfolding operatorText
+unfolding operator_text
 returns-6 c = rw c.before.before.before.before.before.before.match.keys6 c.before.before.add6.ensures
 
 -- src/expressions.rt:15:1
@@ -158,7 +158,7 @@ same-length-7 c = search rules
 
 -- src/expressions.rt:15:1
 returns-7 : tie.Need-returns-7
-unfolding operatorText
+unfolding operator_text
 returns-7 c = rw c.before.before.before.before.before.before.match.keys7 c.before.before.add7.ensures
 
 -- src/expressions.rt:15:1
@@ -167,7 +167,7 @@ same-length-8 c = search rules
 
 -- src/expressions.rt:15:1
 returns-8 : tie.Need-returns-8
-unfolding operatorText
+unfolding operator_text
 returns-8 c = rw c.before.before.before.before.before.before.match.keys8 c.before.before.add8.ensures
 
 -- src/expressions.rt:15:1
@@ -176,7 +176,7 @@ same-length-9 c = search rules
 
 -- src/expressions.rt:15:1
 returns-9 : tie.Need-returns-9
-unfolding operatorText
+unfolding operator_text
 returns-9 c = rw c.before.before.before.before.before.before.match.keys9 c.before.before.add9.ensures
 
 -- src/expressions.rt:15:1
@@ -185,7 +185,7 @@ same-length-10 c = search rules
 
 -- src/expressions.rt:15:1
 returns-10 : tie.Need-returns-10
-unfolding operatorText
+unfolding operator_text
 returns-10 c = rw c.before.before.before.before.before.before.match.keys10 c.before.before.add10.ensures
 
 -- src/expressions.rt:15:1
@@ -194,7 +194,7 @@ same-length-11 c = search rules
 
 -- src/expressions.rt:15:1
 returns-11 : tie.Need-returns-11
-unfolding operatorText
+unfolding operator_text
 returns-11 c = rw c.before.before.before.before.before.before.match.keys11 c.before.before.add11.ensures
 
 -- src/expressions.rt:15:1

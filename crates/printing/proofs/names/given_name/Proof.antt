@@ -1,4 +1,4 @@
-use Rattle.printing.specs.Naming.{givenName}
+use Rattle.printing.specs.Naming.{given_name}
 use borrow.Author.Rules.{rules}
 use Rattle.printing.proofs.names.given_name.Statement.{statement}
 use Rattle.printing.proofs.names.given_name.Tie as tie
@@ -27,7 +27,7 @@ bytes-to-requires c κs = search rules
 
 -- src/names.rt:30:1
 returns : tie.Need-returns
-unfolding givenName
+unfolding given_name
 returns c = rw (c.before.length-of.ensures, c.before.before.bytes-from.ensures, c.before.before.before.place_of.ensures) at c.bytes-to.ensures
 
 pub given-name-spec : {M : Type 1} → statement M

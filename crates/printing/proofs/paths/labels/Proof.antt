@@ -1,6 +1,6 @@
 use mathlib.Core.Path.{refl}
 use mathlib.Core.List.{[], ◌∷◌}
-use Rattle.printing.specs.Signs.{dotSign}
+use Rattle.printing.specs.Signs.{dot_sign}
 use Prim.Native.Nat.{◌-◌}
 use Rattle.printing.specs.Naming.{naming}
 use Rattle.printing.specs.Page.{page}
@@ -53,7 +53,7 @@ loop-less c = search rules
 loop-again : tie.Need-loop-preserved invariant-loop decreases-loop
 loop-again c =
     labels-go-on c.before.before.before.before.before.before.before.before.before.before.before.before.before.before.loop.invariant c.before.before.before.before.before.before.before.before.before.before.before.before.before.loop-test.true
-    (wrote_then {ss = dotSign ∷ []} (wrote-plain c.before.before.before.before.before.before.before.before.before.add.ensures refl) (wrote-label (rw c.before.before.before.label_at.ensures at c.before.before.name.ensures.0) (rw c.before.before.before.label_at.ensures at c.before.before.name.ensures.1)))
+    (wrote_then {ss = dot_sign ∷ []} (wrote-plain c.before.before.before.before.before.before.before.before.before.add.ensures refl) (wrote-label (rw c.before.before.before.label_at.ensures at c.before.before.name.ensures.0) (rw c.before.before.before.label_at.ensures at c.before.before.name.ensures.1)))
 
 -- src/paths.rt:24:1
 same_length : tie.Need-same-length invariant-loop decreases-loop

@@ -1,7 +1,7 @@
 use mathlib.Core.Path.{refl}
 use mathlib.Core.List.{[], ◌∷◌}
-use Rattle.printing.specs.Signs.{space, identicalSign}
-use Rattle.printing.specs.Printing.{path_text, sidesText}
+use Rattle.printing.specs.Signs.{space, identical_sign}
+use Rattle.printing.specs.Printing.{path_text, sides_text}
 use Rattle.printing.proofs.PageLaws.{wrote-plain}
 use Rattle.printing.proofs.LeftLaws.{path-leaves}
 use Rattle.printing.proofs.PieceLaws.{gives_then}
@@ -40,8 +40,8 @@ same_length c = search rules
 
 -- src/paths.rt:63:1
 returns : tie.Need-returns
-unfolding sidesText
-returns c = gives_then path_text path_text (space ∷ identicalSign ∷ space ∷ []) path-leaves c.before.before.before.before.before.before.before.before.before.before.before.before.before.before.before.path.ensures (wrote-plain c.before.before.before.before.before.before.before.before.before.add.ensures refl) c.before.before.before.part-last.ensures c.before.before.path2.ensures
+unfolding sides_text
+returns c = gives_then path_text path_text (space ∷ identical_sign ∷ space ∷ []) path-leaves c.before.before.before.before.before.before.before.before.before.before.before.before.before.before.before.path.ensures (wrote-plain c.before.before.before.before.before.before.before.before.before.add.ensures refl) c.before.before.before.part-last.ensures c.before.before.path2.ensures
 
 pub sides-spec : {M : Type 1} → statement M
 sides-spec =

@@ -1,5 +1,5 @@
 use mathlib.Core.Path.{sym}
-use Rattle.printing.specs.Signs.{priorityText}
+use Rattle.printing.specs.Signs.{priority_text}
 use Rattle.printing.specs.Page.{ink}
 use Rattle.printing.proofs.PageLaws.{onto-none}
 use Rattle.printing.proofs.TextLaws.{no-priority}
@@ -40,7 +40,7 @@ same_length c = search rules
 
 -- src/rows.rt:15:1
 returns : tie.Need-returns
-unfolding priorityText
+unfolding priority_text
 returns c = rw c.before.before.before.before.before.before.match.keys1 c.before.before.add.ensures
 
 -- src/rows.rt:15:1
@@ -49,7 +49,7 @@ same-length-2 c = search rules
 
 -- src/rows.rt:15:1
 returns-2 : tie.Need-returns-2
-unfolding priorityText
+unfolding priority_text
 returns-2 c = rw c.before.before.before.before.before.before.match.keys2 c.before.before.add2.ensures
 
 -- src/rows.rt:15:1
@@ -58,7 +58,7 @@ same-length-3 c = search rules
 
 -- src/rows.rt:15:1
 returns-3 : tie.Need-returns-3
-unfolding priorityText
+unfolding priority_text
 returns-3 c = rw c.before.before.before.before.before.before.match.keys3 c.before.before.add3.ensures
 
 -- src/rows.rt:15:1

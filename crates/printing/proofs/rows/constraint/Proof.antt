@@ -2,9 +2,9 @@ use borrow.Author.Rules.{rules}
 use Prim.Native.Nat.{◌-◌}
 use mathlib.Core.Path.{refl}
 use mathlib.Core.List.{[], ◌∷◌}
-use Rattle.printing.specs.Signs.{space, besideSign}
+use Rattle.printing.specs.Signs.{space, beside_sign}
 use Rattle.printing.specs.Naming.{naming}
-use Rattle.printing.specs.Printing.{partText, constraintText}
+use Rattle.printing.specs.Printing.{part_text, constraint_text}
 use Rattle.printing.specs.Page.{page}
 use Rattle.printing.proofs.PageLaws.{wrote-length}
 use Rattle.printing.proofs.LeftLaws.{part-leaves}
@@ -21,7 +21,7 @@ use Rattle.words.proofs.part_last.Reads as part-last-reads
 
 abbrev invariant-loop : tie.invariant-loop
 invariant-loop source names out₀ at₀ seen₀ p m left₀ i₀ t10 out at seen left i =
-    InRow (naming source names) (page out₀ at₀ seen₀) (space ∷ besideSign ∷ space ∷ []) partText m p (constraintText p) i left (page out at seen)
+    InRow (naming source names) (page out₀ at₀ seen₀) (space ∷ beside_sign ∷ space ∷ []) part_text m p (constraint_text p) i left (page out at seen)
 
 abbrev decreases-loop : tie.decreases-loop
 decreases-loop source names out₀ at₀ seen₀ p m left₀ i₀ t10 out at seen left i = m - i
@@ -36,7 +36,7 @@ less-requires c κs = search rules
 
 -- src/rows.rt:68:5
 loop-holds : tie.Need-loop-init invariant-loop decreases-loop
-unfolding constraintText
+unfolding constraint_text
 loop-holds c = rw c.before.number_at.ensures (row-starts c.less.ensures refl)
 
 -- src/rows.rt:69:33

@@ -5,11 +5,11 @@ use native.Mathlib.Omega.{arith}
 use lib.ListN.{length, drop}
 use mathlib.Core.Bool.{false}
 use borrow.Author.Tests.{not-true, not-false}
-use Rattle.words.specs.Words.{numberAt}
+use Rattle.words.specs.Words.{number_at}
 use Rattle.words.specs.Answer.{got}
-use Rattle.program.specs.Forms.{verbOf}
+use Rattle.program.specs.Forms.{verb_of}
 use Rattle.program.specs.Told.{told}
-use Rattle.program.specs.Reading.{readExpression, readVerb, readBlock, readStatement}
+use Rattle.program.specs.Reading.{read_expression, read_verb, read_block, read_statement}
 use Rattle.program.proofs.LengthLaws.{part-trans, after-part, after-got, uses-keeps, expression-uses, statement-uses, block-uses}
 use Rattle.program.proofs.ReadLaws.{onward}
 use Rattle.program.proofs.RowLaws.{InRow, last-part, row-starts, row-stops, row-goes-on, row_ends}
@@ -67,7 +67,7 @@ read-statement-below t =
     read-statement.Pre
 
 abbrev read-block-Inv-loop : read-block-lts.invariant-loop
-read-block-Inv-loop p d n left₀ i₀ left i = InRow (readStatement (d - 1)) n p (readBlock d p) i left
+read-block-Inv-loop p d n left₀ i₀ left i = InRow (read_statement (d - 1)) n p (read_block d p) i left
 
 abbrev read-block-μ-loop : read-block-lts.decreases-loop
 read-block-μ-loop p d n left₀ i₀ left i = n - i
@@ -289,8 +289,8 @@ read-statement-read-block-requires t c κs = search rules
 -- src/blocks.rt:97:17
 read-statement-returns-2 : (t : ℕ) → read-statement-lts.Need-returns-2 (read-statement-calls t) (read-statement-at t) read-statement.Post
 read-statement-returns-2 t c =
-    let q : readExpression 16 false (drop 1 c.before.before.before.before.before.before.before.before.before.before.args.p.now) ≡ got c.before.before.before.part-last.result.now =
-    onward (readExpression 16 false (drop 1 c.before.before.before.before.before.before.before.before.before.before.args.p.now)) (after-part _ (uses-keeps (expression-uses 16 false (drop 1 c.before.before.before.before.before.before.before.before.before.before.args.p.now))))
+    let q : read_expression 16 false (drop 1 c.before.before.before.before.before.before.before.before.before.before.args.p.now) ≡ got c.before.before.before.part-last.result.now =
+    onward (read_expression 16 false (drop 1 c.before.before.before.before.before.before.before.before.before.before.args.p.now)) (after-part _ (uses-keeps (expression-uses 16 false (drop 1 c.before.before.before.before.before.before.before.before.before.before.args.p.now))))
     (rw c.before.before.before.before.before.before.before.before.part-from.ensures at c.before.before.before.before.before.before.read-expression.ensures) (not-false _ c.before.before.before.before.if1.false) (rw c.before.before.before.before.before.before.before.before.part-from.ensures at c.before.before.before.part-last.ensures) in
     branch-first c.before.before.before.before.before.before.before.before.before.before.args.d c.before.before.before.before.before.before.before.before.before.before.args.p.now (sym c.before.before.before.before.before.before.before.before.before.number_at.ensures ∙ c.before.before.before.before.before.before.before.match.keys8) q c.before.before.read-block.ensures (not-true _ c.if2.true)
 
@@ -346,47 +346,47 @@ read-statement-unfit-requires t c κs = search rules
 
 -- src/blocks.rt:74:1
 read-statement-returns-4 : (t : ℕ) → read-statement-lts.Need-returns-4 (read-statement-calls t) (read-statement-at t) read-statement.Post
-unfolding verbOf readVerb
+unfolding verb_of read_verb
 read-statement-returns-4 t c = rw c.before.part-from.ensures (ap told (statement-at c.before.before.before.args.d c.before.before.before.args.p.now 0 (sym c.before.before.number_at.ensures ∙ c.match.keys1)))
 
 -- src/blocks.rt:74:1
 read-statement-returns-5 : (t : ℕ) → read-statement-lts.Need-returns-5 (read-statement-calls t) (read-statement-at t) read-statement.Post
-unfolding verbOf readVerb
+unfolding verb_of read_verb
 read-statement-returns-5 t c = c.read-assign.ensures ∙ rw c.before.before.part-from.ensures (ap told (statement-at c.before.before.before.before.args.d c.before.before.before.before.args.p.now 1 (sym c.before.before.before.number_at.ensures ∙ c.before.match.keys2)))
 
 -- src/blocks.rt:74:1
 read-statement-returns-6 : (t : ℕ) → read-statement-lts.Need-returns-6 (read-statement-calls t) (read-statement-at t) read-statement.Post
-unfolding verbOf readVerb
+unfolding verb_of read_verb
 read-statement-returns-6 t c = c.read-new.ensures ∙ rw c.before.before.part-from.ensures (ap told (statement-at c.before.before.before.before.args.d c.before.before.before.before.args.p.now 2 (sym c.before.before.before.number_at.ensures ∙ c.before.match.keys3)))
 
 -- src/blocks.rt:74:1
 read-statement-returns-7 : (t : ℕ) → read-statement-lts.Need-returns-7 (read-statement-calls t) (read-statement-at t) read-statement.Post
-unfolding verbOf readVerb
+unfolding verb_of read_verb
 read-statement-returns-7 t c = c.read-constraint.ensures ∙ rw c.before.before.part-from.ensures (ap told (statement-at c.before.before.before.before.args.d c.before.before.before.before.args.p.now 3 (sym c.before.before.before.number_at.ensures ∙ c.before.match.keys4)))
 
 -- src/blocks.rt:74:1
 read-statement-returns-8 : (t : ℕ) → read-statement-lts.Need-returns-8 (read-statement-calls t) (read-statement-at t) read-statement.Post
-unfolding verbOf readVerb
+unfolding verb_of read_verb
 read-statement-returns-8 t c = c.read-constraint2.ensures ∙ rw c.before.before.part-from.ensures (ap told (statement-at c.before.before.before.before.args.d c.before.before.before.before.args.p.now 4 (sym c.before.before.before.number_at.ensures ∙ c.before.match.keys5)))
 
 -- src/blocks.rt:74:1
 read-statement-returns-9 : (t : ℕ) → read-statement-lts.Need-returns-9 (read-statement-calls t) (read-statement-at t) read-statement.Post
-unfolding verbOf readVerb
+unfolding verb_of read_verb
 read-statement-returns-9 t c = c.read-paths.ensures ∙ rw c.before.before.part-from.ensures (ap told (statement-at c.before.before.before.before.args.d c.before.before.before.before.args.p.now 5 (sym c.before.before.before.number_at.ensures ∙ c.before.match.keys6)))
 
 -- src/blocks.rt:74:1
 read-statement-returns-10 : (t : ℕ) → read-statement-lts.Need-returns-10 (read-statement-calls t) (read-statement-at t) read-statement.Post
-unfolding verbOf readVerb
+unfolding verb_of read_verb
 read-statement-returns-10 t c = c.read-paths2.ensures ∙ rw c.before.before.part-from.ensures (ap told (statement-at c.before.before.before.before.args.d c.before.before.before.before.args.p.now 6 (sym c.before.before.before.number_at.ensures ∙ c.before.match.keys7)))
 
 -- src/blocks.rt:74:1
 read-statement-returns-11 : (t : ℕ) → read-statement-lts.Need-returns-11 (read-statement-calls t) (read-statement-at t) read-statement.Post
 read-statement-returns-11 t c =
-    let q : readExpression 16 false (drop 1 c.before.before.before.before.before.before.before.before.before.before.before.before.args.p.now) ≡ got c.before.before.before.before.before.part-last.result.now =
-    onward (readExpression 16 false (drop 1 c.before.before.before.before.before.before.before.before.before.before.before.before.args.p.now)) (after-part _ (uses-keeps (expression-uses 16 false (drop 1 c.before.before.before.before.before.before.before.before.before.before.before.before.args.p.now))))
+    let q : read_expression 16 false (drop 1 c.before.before.before.before.before.before.before.before.before.before.before.before.args.p.now) ≡ got c.before.before.before.before.before.part-last.result.now =
+    onward (read_expression 16 false (drop 1 c.before.before.before.before.before.before.before.before.before.before.before.before.args.p.now)) (after-part _ (uses-keeps (expression-uses 16 false (drop 1 c.before.before.before.before.before.before.before.before.before.before.before.before.args.p.now))))
     (rw c.before.before.before.before.before.before.before.before.before.before.part-from.ensures at c.before.before.before.before.before.before.before.before.read-expression.ensures) (not-false _ c.before.before.before.before.before.before.if1.false) (rw c.before.before.before.before.before.before.before.before.before.before.part-from.ensures at c.before.before.before.before.before.part-last.ensures) in
-    let r : readBlock c.before.before.before.before.before.before.before.before.before.before.before.before.args.d c.before.before.before.before.before.part-last.result.now ≡ got c.before.part-last2.result.now =
-    onward {p = drop 1 c.before.before.before.before.before.before.before.before.before.before.before.before.args.p.now} (readBlock c.before.before.before.before.before.before.before.before.before.before.before.before.args.d c.before.before.before.before.before.part-last.result.now)
+    let r : read_block c.before.before.before.before.before.before.before.before.before.before.before.before.args.d c.before.before.before.before.before.part-last.result.now ≡ got c.before.part-last2.result.now =
+    onward {p = drop 1 c.before.before.before.before.before.before.before.before.before.before.before.before.args.p.now} (read_block c.before.before.before.before.before.before.before.before.before.before.before.before.args.d c.before.before.before.before.before.part-last.result.now)
     (part-trans (rw (c.before.before.before.before.before.part-last.ensures, c.before.before.before.before.before.before.before.before.before.before.part-from.ensures) (last-part _ (drop 1 c.before.before.before.before.before.before.before.before.before.before.before.before.args.p.now))) (after-part _ (uses-keeps (block-uses c.before.before.before.before.before.before.before.before.before.before.before.before.args.d c.before.before.before.before.before.part-last.result.now))))
     c.before.before.before.before.read-block.ensures (not-false _ c.before.before.if2.false) (rw c.before.before.before.before.before.before.before.before.before.before.part-from.ensures at c.before.part-last2.ensures) in
     c.read-block2.ensures ∙ branch-second c.before.before.before.before.before.before.before.before.before.before.before.before.args.d c.before.before.before.before.before.before.before.before.before.before.before.before.args.p.now (sym c.before.before.before.before.before.before.before.before.before.before.before.number_at.ensures ∙ c.before.before.before.before.before.before.before.before.before.match.keys8) q r
@@ -394,8 +394,8 @@ read-statement-returns-11 t c =
 -- src/blocks.rt:74:1
 read-statement-returns-12 : (t : ℕ) → read-statement-lts.Need-returns-12 (read-statement-calls t) (read-statement-at t) read-statement.Post
 read-statement-returns-12 t c =
-    let q : readExpression 16 false (drop 1 c.before.before.before.before.before.before.before.before.args.p.now) ≡ got c.before.part-last3.result.now =
-    onward (readExpression 16 false (drop 1 c.before.before.before.before.before.before.before.before.args.p.now)) (after-part _ (uses-keeps (expression-uses 16 false (drop 1 c.before.before.before.before.before.before.before.before.args.p.now))))
+    let q : read_expression 16 false (drop 1 c.before.before.before.before.before.before.before.before.args.p.now) ≡ got c.before.part-last3.result.now =
+    onward (read_expression 16 false (drop 1 c.before.before.before.before.before.before.before.before.args.p.now)) (after-part _ (uses-keeps (expression-uses 16 false (drop 1 c.before.before.before.before.before.before.before.before.args.p.now))))
     (rw c.before.before.before.before.before.before.part-from.ensures at c.before.before.before.before.read-expression2.ensures) (not-false _ c.before.before.if3.false) (rw c.before.before.before.before.before.before.part-from.ensures at c.before.part-last3.ensures) in
     c.read-block3.ensures ∙ loop-body c.before.before.before.before.before.before.before.before.args.d c.before.before.before.before.before.before.before.before.args.p.now (sym c.before.before.before.before.before.before.before.number_at.ensures ∙ c.before.before.before.before.before.match.keys9) q
 

@@ -1,7 +1,7 @@
 use borrow.Author.Rules.{rules}
 use mathlib.Core.Path.{◌≡◌, sym, ap, ◌∙◌}
 use borrow.Author.Tests.{not-true, not-false}
-use Rattle.program.specs.Reading.{readPath}
+use Rattle.program.specs.Reading.{read_path}
 use Rattle.program.proofs.LengthLaws.{after-part, uses-keeps, path-uses}
 use Rattle.program.proofs.ReadLaws.{onward}
 use Rattle.program.proofs.BlockLaws.{assign-first, assign-second}
@@ -33,7 +33,7 @@ read-expression-requires c κs = search rules
 returns-2 : tie.Need-returns-2
 returns-2 c =
     c.read-expression.ensures ∙ assign-second c.before.before.before.before.before.args.p.now
-    (onward (readPath c.before.before.before.before.before.args.p.now) (after-part _ (uses-keeps (path-uses c.before.before.before.before.before.args.p.now))) c.before.before.before.before.read-path.ensures (not-false _ c.before.before.if1.false) c.before.part-last.ensures)
+    (onward (read_path c.before.before.before.before.before.args.p.now) (after-part _ (uses-keeps (path-uses c.before.before.before.before.before.args.p.now))) c.before.before.before.before.read-path.ensures (not-false _ c.before.before.if1.false) c.before.part-last.ensures)
 
 pub read-assign-spec : {M : Type 1} → statement M
 read-assign-spec =

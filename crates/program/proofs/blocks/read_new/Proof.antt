@@ -2,7 +2,7 @@ use borrow.Author.Rules.{rules}
 use mathlib.Core.Path.{◌≡◌, sym, ap, ◌∙◌}
 use Prim.Native.Nat.{◌≤◌, ◌<◌}
 use lib.ListN.{drop}
-use Rattle.words.specs.Words.{numberAt}
+use Rattle.words.specs.Words.{number_at}
 use Rattle.program.proofs.BlockLaws.{new-variable, new-count, new-fields}
 use Rattle.program.proofs.blocks.read_new.Statement.{statement}
 use Rattle.program.proofs.blocks.read_new.Tie as tie
@@ -40,8 +40,8 @@ unfit-requires-2 c κs = search rules
 -- src/blocks.rt:57:9
 returns-2 : tie.Need-returns-2
 returns-2 c =
-    let v : numberAt c.before.before.before.before.before.before.args.p.now 0 < 64 = rw c.before.before.before.before.before.number_at.ensures at c.before.before.before.before.if1.false in
-    let n : 8 < numberAt (drop 1 c.before.before.before.before.before.before.args.p.now) 0 = rw (c.before.before.number-at2.ensures, c.before.before.before.part-from.ensures) at c.before.if2.true in
+    let v : number_at c.before.before.before.before.before.before.args.p.now 0 < 64 = rw c.before.before.before.before.before.number_at.ensures at c.before.before.before.before.if1.false in
+    let n : 8 < number_at (drop 1 c.before.before.before.before.before.before.args.p.now) 0 = rw (c.before.before.number-at2.ensures, c.before.before.before.part-from.ensures) at c.before.if2.true in
     c.unfit2.ensures ∙ rw c.before.before.before.part-from.ensures (new-count c.before.before.before.before.before.before.args.p.now v n)
 
 -- src/blocks.rt:59:17
@@ -55,8 +55,8 @@ read-fields-requires c κs = search rules
 -- src/blocks.rt:48:1
 returns-3 : tie.Need-returns-3
 returns-3 c =
-    let v : numberAt c.before.before.before.before.before.before.before.args.p.now 0 < 64 = rw c.before.before.before.before.before.before.number_at.ensures at c.before.before.before.before.before.if1.false in
-    let n : numberAt (drop 1 c.before.before.before.before.before.before.before.args.p.now) 0 ≤ 8 = rw (c.before.before.before.number-at2.ensures, c.before.before.before.before.part-from.ensures) at c.before.before.if2.false in
+    let v : number_at c.before.before.before.before.before.before.before.args.p.now 0 < 64 = rw c.before.before.before.before.before.before.number_at.ensures at c.before.before.before.before.before.if1.false in
+    let n : number_at (drop 1 c.before.before.before.before.before.before.before.args.p.now) 0 ≤ 8 = rw (c.before.before.before.number-at2.ensures, c.before.before.before.before.part-from.ensures) at c.before.before.if2.false in
     c.read-fields.ensures ∙ rw (c.before.part-from2.ensures, c.before.before.before.number-at2.ensures, c.before.before.before.before.part-from.ensures) (new-fields c.before.before.before.before.before.before.before.args.p.now v n)
 
 pub read-new-spec : {M : Type 1} → statement M

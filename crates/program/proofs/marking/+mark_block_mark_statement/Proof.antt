@@ -4,7 +4,7 @@ use mathlib.Core.Bool.{false}
 use Prim.Native.Nat.{◌+◌, ◌-◌, ◌*◌}
 use native.Mathlib.Omega.{arith}
 use lib.ListN.{drop}
-use Rattle.program.specs.Reading.{readExpression, readBlock, after}
+use Rattle.program.specs.Reading.{read_expression, read_block, after}
 use Rattle.program.proofs.LengthLaws.{after-part, uses-keeps, expression-uses, block-uses}
 use Rattle.program.proofs.WhereLaws.{after_is}
 use Rattle.program.proofs.MarkingLaws.{rest-short, last-short, mark-none, mark-loop, mark-branch, Marking, mark-deep, mark-long, marking-starts, marking-goes-on, marking-ends}
@@ -247,11 +247,11 @@ mark-statement-same-length t c = search rules
 -- src/marking.rt:33:1
 mark-statement-returns : (t : ℕ) → mark-statement-lts.Need-returns (mark-statement-calls t) (mark-statement-at t) mark-statement.Post
 mark-statement-returns t c =
-    let q : c.before.before.before.before.before.before.before.before.before.before.part-last.result.now ≡ after (readExpression 16 false (drop 1 c.before.before.before.before.before.before.before.before.before.before.before.before.before.before.before.before.before.before.before.before.args.p.now)) =
-    after_is (readExpression 16 false (drop 1 c.before.before.before.before.before.before.before.before.before.before.before.before.before.before.before.before.before.before.before.before.args.p.now)) (after-part _ (uses-keeps (expression-uses 16 false (drop 1 c.before.before.before.before.before.before.before.before.before.before.before.before.before.before.before.before.before.before.before.before.args.p.now))))
+    let q : c.before.before.before.before.before.before.before.before.before.before.part-last.result.now ≡ after (read_expression 16 false (drop 1 c.before.before.before.before.before.before.before.before.before.before.before.before.before.before.before.before.before.before.before.before.args.p.now)) =
+    after_is (read_expression 16 false (drop 1 c.before.before.before.before.before.before.before.before.before.before.before.before.before.before.before.before.before.before.before.before.args.p.now)) (after-part _ (uses-keeps (expression-uses 16 false (drop 1 c.before.before.before.before.before.before.before.before.before.before.before.before.before.before.before.before.before.before.before.before.args.p.now))))
     (rw c.before.before.before.before.before.before.before.before.before.before.before.before.before.before.part-from.ensures at c.before.before.before.before.before.before.before.before.before.before.before.read-expression.ensures) (rw c.before.before.before.before.before.before.before.before.before.before.before.before.before.before.part-from.ensures at c.before.before.before.before.before.before.before.before.before.before.part-last.ensures) in
-    let r : c.before.before.before.before.part-last2.result.now ≡ after (readBlock c.before.before.before.before.before.before.before.before.before.before.before.before.before.before.before.before.before.before.before.before.args.d c.before.before.before.before.before.before.before.before.before.before.part-last.result.now) =
-    after_is (readBlock c.before.before.before.before.before.before.before.before.before.before.before.before.before.before.before.before.before.before.before.before.args.d c.before.before.before.before.before.before.before.before.before.before.part-last.result.now) (after-part _ (uses-keeps (block-uses c.before.before.before.before.before.before.before.before.before.before.before.before.before.before.before.before.before.before.before.before.args.d c.before.before.before.before.before.before.before.before.before.before.part-last.result.now))) c.before.before.before.before.before.read-block.ensures c.before.before.before.before.part-last2.ensures in
+    let r : c.before.before.before.before.part-last2.result.now ≡ after (read_block c.before.before.before.before.before.before.before.before.before.before.before.before.before.before.before.before.before.before.before.before.args.d c.before.before.before.before.before.before.before.before.before.before.part-last.result.now) =
+    after_is (read_block c.before.before.before.before.before.before.before.before.before.before.before.before.before.before.before.before.before.before.before.before.args.d c.before.before.before.before.before.before.before.before.before.before.part-last.result.now) (after-part _ (uses-keeps (block-uses c.before.before.before.before.before.before.before.before.before.before.before.before.before.before.before.before.before.before.before.before.args.d c.before.before.before.before.before.before.before.before.before.before.part-last.result.now))) c.before.before.before.before.before.read-block.ensures c.before.before.before.before.part-last2.ensures in
     mark-branch c.before.before.before.before.before.before.before.before.before.before.before.before.before.before.before.before.before.before.before.before.args.d c.before.before.before.before.before.before.before.before.before.before.before.before.before.before.before.before.before.before.before.before.args.total c.before.before.before.before.before.before.before.before.before.before.before.before.before.before.before.before.before.before.before.before.args.p.now c.before.before.before.before.before.before.before.before.before.before.before.before.before.before.before.before.before.before.before.before.requires.1 c.before.before.before.before.before.before.before.before.before.before.before.before.before.before.before.before.before.before.before.before.args.marks.now c.before.before.before.before.before.before.before.before.before.before.before.before.before.before.before.before.before.mark.ensures (sym c.before.before.before.before.before.before.before.before.before.before.before.before.before.number_at.ensures ∙ c.before.before.before.before.before.before.before.before.before.before.before.before.match.keys1)
     (rw q at c.before.before.before.before.before.before.before.before.mark-block.ensures) c.before.before.before.before.before.before.before.before.mark-block.auto.1.1.1.0 (rw (r, q) at c.before.before.mark-block2.ensures)
 
@@ -262,8 +262,8 @@ mark-statement-same-length-2 t c = search rules
 -- src/marking.rt:33:1
 mark-statement-returns-2 : (t : ℕ) → mark-statement-lts.Need-returns-2 (mark-statement-calls t) (mark-statement-at t) mark-statement.Post
 mark-statement-returns-2 t c =
-    let q : c.before.before.before.before.part-last3.result.now ≡ after (readExpression 16 false (drop 1 c.before.before.before.before.before.before.before.before.before.before.before.before.before.before.args.p.now)) =
-    after_is (readExpression 16 false (drop 1 c.before.before.before.before.before.before.before.before.before.before.before.before.before.before.args.p.now)) (after-part _ (uses-keeps (expression-uses 16 false (drop 1 c.before.before.before.before.before.before.before.before.before.before.before.before.before.before.args.p.now))))
+    let q : c.before.before.before.before.part-last3.result.now ≡ after (read_expression 16 false (drop 1 c.before.before.before.before.before.before.before.before.before.before.before.before.before.before.args.p.now)) =
+    after_is (read_expression 16 false (drop 1 c.before.before.before.before.before.before.before.before.before.before.before.before.before.before.args.p.now)) (after-part _ (uses-keeps (expression-uses 16 false (drop 1 c.before.before.before.before.before.before.before.before.before.before.before.before.before.before.args.p.now))))
     (rw c.before.before.before.before.before.before.before.before.part-from.ensures at c.before.before.before.before.before.read-expression2.ensures) (rw c.before.before.before.before.before.before.before.before.part-from.ensures at c.before.before.before.before.part-last3.ensures) in
     mark-loop c.before.before.before.before.before.before.before.before.before.before.before.before.before.before.args.d c.before.before.before.before.before.before.before.before.before.before.before.before.before.before.args.total c.before.before.before.before.before.before.before.before.before.before.before.before.before.before.args.p.now c.before.before.before.before.before.before.before.before.before.before.before.before.before.before.requires.1 c.before.before.before.before.before.before.before.before.before.before.before.before.before.before.args.marks.now c.before.before.before.before.before.before.before.before.before.before.before.mark.ensures (sym c.before.before.before.before.before.before.before.number_at.ensures ∙ c.before.before.before.before.before.before.match.keys2) (rw q at c.before.before.mark-block3.ensures)
 

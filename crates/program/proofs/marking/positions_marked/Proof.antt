@@ -1,10 +1,10 @@
 use borrow.Author.Rules.{rules}
 use mathlib.Core.Path.{◌≡◌}
 use Prim.Native.Nat.{◌-◌}
-use Rattle.tables.specs.Kept.{keptCount, positionAt}
+use Rattle.tables.specs.Kept.{kept_count, position_at}
 use Rattle.tables.proofs.SearchLaws.{Checking, checking-starts, checking-fails, checking-goes-on, checking-ends}
 use Rattle.tables.proofs.LoopLaws.{refused, passed}
-use Rattle.program.specs.Where.{isAlways, positionsStand}
+use Rattle.program.specs.Where.{is_always, positions_stand}
 use Rattle.program.proofs.marking.positions_marked.Statement.{statement}
 use Rattle.program.proofs.marking.positions_marked.Tie as tie
 use Rattle.program.proofs.marking.positions_marked.Reads as reads
@@ -14,7 +14,7 @@ use Rattle.tables.proofs.kept.kept_count.Reads as kept-count-reads
 use Rattle.tables.proofs.kept.position_at.Reads as position-at-reads
 
 abbrev invariant-loop : tie.invariant-loop
-invariant-loop program constraints s marks n i₀ i = (n ≡ keptCount constraints s) × Checking (λ j. isAlways program s (positionAt constraints s j)) (keptCount constraints s) i
+invariant-loop program constraints s marks n i₀ i = (n ≡ kept_count constraints s) × Checking (λ j. is_always program s (position_at constraints s j)) (kept_count constraints s) i
 
 abbrev decreases-loop : tie.decreases-loop
 decreases-loop program constraints s marks n i₀ i = n - i
@@ -37,7 +37,7 @@ is-always-marked-requires c κs = search rules
 
 -- src/marking.rt:102:13
 returns : tie.Need-returns invariant-loop decreases-loop
-unfolding positionsStand
+unfolding positions_stand
 returns c = checking-fails c.before.before.before.before.loop.invariant.1 (rw c.before.before.before.before.loop.invariant.0 at c.before.before.before.loop-test.true) (refused c.if1.true (rw c.before.before.position_at.ensures at c.before.is-always-marked.ensures))
 
 -- src/marking.rt:104:9
@@ -54,7 +54,7 @@ loop-again c = (c.before.before.before.before.loop.invariant.0, checking-goes-on
 
 -- src/marking.rt:93:1
 returns-2 : tie.Need-returns-2 invariant-loop decreases-loop
-unfolding positionsStand
+unfolding positions_stand
 returns-2 c = checking-ends c.before.loop.invariant.1 (rw c.before.loop.invariant.0 at c.loop-test.false)
 
 pub positions-marked-spec : {M : Type 1} → statement M

@@ -4,9 +4,9 @@ use mathlib.Core.Bool.{false}
 use Prim.Native.Nat.{◌+◌, ◌-◌, ◌*◌, ◌≤◌, ◌<◌}
 use native.Mathlib.Omega.{arith}
 use lib.ListN.{length, drop}
-use Rattle.words.specs.Words.{numberAt}
-use Rattle.program.specs.Reading.{readExpression, readBlock, after}
-use Rattle.program.specs.Where.{or_else, spotBlock}
+use Rattle.words.specs.Words.{number_at}
+use Rattle.program.specs.Reading.{read_expression, read_block, after}
+use Rattle.program.specs.Where.{or_else, spot_block}
 use Rattle.program.specs.declared.Spot.{Spot}
 use Rattle.program.proofs.LengthLaws.{after-part, uses-keeps, expression-uses, block-uses}
 use Rattle.program.proofs.WhereLaws.{after_is, spot-here, spot-loop, spot-branch, spot-none, Looking, spot-deep, spot-long, looking-starts, looking-finds, looking-goes-on, looking-ends}
@@ -249,8 +249,8 @@ spot-statement-spot-block-requires-3 t c κs = search rules
 -- src/places.rt:17:1
 spot-statement-returns-2 : (t : ℕ) → spot-statement-lts.Need-returns-2 (spot-statement-calls t) (spot-statement-at t) spot-statement.Post
 spot-statement-returns-2 t c =
-    let q : c.before.before.before.before.part-last.result.now ≡ after (readExpression 16 false (drop 1 c.before.before.before.before.before.before.before.before.before.before.args.p.now)) =
-    after_is (readExpression 16 false (drop 1 c.before.before.before.before.before.before.before.before.before.before.args.p.now)) (after-part _ (uses-keeps (expression-uses 16 false (drop 1 c.before.before.before.before.before.before.before.before.before.before.args.p.now))))
+    let q : c.before.before.before.before.part-last.result.now ≡ after (read_expression 16 false (drop 1 c.before.before.before.before.before.before.before.before.before.before.args.p.now)) =
+    after_is (read_expression 16 false (drop 1 c.before.before.before.before.before.before.before.before.before.before.args.p.now)) (after-part _ (uses-keeps (expression-uses 16 false (drop 1 c.before.before.before.before.before.before.before.before.before.before.args.p.now))))
     (rw c.before.before.before.before.before.before.before.part-from.ensures at c.before.before.before.before.before.read-expression.ensures) (rw c.before.before.before.before.before.before.before.part-from.ensures at c.before.before.before.before.part-last.ensures) in
     let f = sym (rw q at c.before.before.before.spot-block.ensures) ∙ c.before.v.given.1 in
     rw f at (spot-branch c.before.before.before.before.before.before.before.before.before.before.args.d c.before.before.before.before.before.before.before.before.before.before.args.left c.before.before.before.before.before.before.before.before.before.before.args.p.now c.before.before.before.before.before.before.before.before.if1.false (sym c.before.before.before.before.before.before.before.before.before.number_at.ensures ∙ c.before.before.before.before.before.before.match.keys1))
@@ -258,19 +258,19 @@ spot-statement-returns-2 t c =
 -- src/places.rt:17:1
 spot-statement-returns-3 : (t : ℕ) → spot-statement-lts.Need-returns-3 (spot-statement-calls t) (spot-statement-at t) spot-statement.Post
 spot-statement-returns-3 t c =
-    let q : c.before.before.before.before.before.before.part-last.result.now ≡ after (readExpression 16 false (drop 1 c.before.before.before.before.before.before.before.before.before.before.before.before.args.p.now)) =
-    after_is (readExpression 16 false (drop 1 c.before.before.before.before.before.before.before.before.before.before.before.before.args.p.now)) (after-part _ (uses-keeps (expression-uses 16 false (drop 1 c.before.before.before.before.before.before.before.before.before.before.before.before.args.p.now))))
+    let q : c.before.before.before.before.before.before.part-last.result.now ≡ after (read_expression 16 false (drop 1 c.before.before.before.before.before.before.before.before.before.before.before.before.args.p.now)) =
+    after_is (read_expression 16 false (drop 1 c.before.before.before.before.before.before.before.before.before.before.before.before.args.p.now)) (after-part _ (uses-keeps (expression-uses 16 false (drop 1 c.before.before.before.before.before.before.before.before.before.before.before.before.args.p.now))))
     (rw c.before.before.before.before.before.before.before.before.before.part-from.ensures at c.before.before.before.before.before.before.before.read-expression.ensures) (rw c.before.before.before.before.before.before.before.before.before.part-from.ensures at c.before.before.before.before.before.before.part-last.ensures) in
-    let r : c.before.part-last2.result.now ≡ after (readBlock c.before.before.before.before.before.before.before.before.before.before.before.before.args.d c.before.before.before.before.before.before.part-last.result.now) =
-    after_is (readBlock c.before.before.before.before.before.before.before.before.before.before.before.before.args.d c.before.before.before.before.before.before.part-last.result.now) (after-part _ (uses-keeps (block-uses c.before.before.before.before.before.before.before.before.before.before.before.before.args.d c.before.before.before.before.before.before.part-last.result.now))) c.before.before.read-block.ensures c.before.part-last2.ensures in
+    let r : c.before.part-last2.result.now ≡ after (read_block c.before.before.before.before.before.before.before.before.before.before.before.before.args.d c.before.before.before.before.before.before.part-last.result.now) =
+    after_is (read_block c.before.before.before.before.before.before.before.before.before.before.before.before.args.d c.before.before.before.before.before.before.part-last.result.now) (after-part _ (uses-keeps (block-uses c.before.before.before.before.before.before.before.before.before.before.before.before.args.d c.before.before.before.before.before.before.part-last.result.now))) c.before.before.read-block.ensures c.before.part-last2.ensures in
     let f = sym (rw q at c.before.before.before.before.before.spot-block.ensures) ∙ c.before.before.before.enum_told.given.1 in
     c.spot-block2.ensures ∙ rw (r, q) (rw f at (spot-branch c.before.before.before.before.before.before.before.before.before.before.before.before.args.d c.before.before.before.before.before.before.before.before.before.before.before.before.args.left c.before.before.before.before.before.before.before.before.before.before.before.before.args.p.now c.before.before.before.before.before.before.before.before.before.before.if1.false (sym c.before.before.before.before.before.before.before.before.before.before.before.number_at.ensures ∙ c.before.before.before.before.before.before.before.before.match.keys1)))
 
 -- src/places.rt:17:1
 spot-statement-returns-4 : (t : ℕ) → spot-statement-lts.Need-returns-4 (spot-statement-calls t) (spot-statement-at t) spot-statement.Post
 spot-statement-returns-4 t c =
-    let q : c.before.part-last3.result.now ≡ after (readExpression 16 false (drop 1 c.before.before.before.before.before.before.before.args.p.now)) =
-    after_is (readExpression 16 false (drop 1 c.before.before.before.before.before.before.before.args.p.now)) (after-part _ (uses-keeps (expression-uses 16 false (drop 1 c.before.before.before.before.before.before.before.args.p.now))))
+    let q : c.before.part-last3.result.now ≡ after (read_expression 16 false (drop 1 c.before.before.before.before.before.before.before.args.p.now)) =
+    after_is (read_expression 16 false (drop 1 c.before.before.before.before.before.before.before.args.p.now)) (after-part _ (uses-keeps (expression-uses 16 false (drop 1 c.before.before.before.before.before.before.before.args.p.now))))
     (rw c.before.before.before.before.part-from.ensures at c.before.before.read-expression2.ensures) (rw c.before.before.before.before.part-from.ensures at c.before.part-last3.ensures) in
     c.spot-block3.ensures ∙ rw q (spot-loop c.before.before.before.before.before.before.before.args.d c.before.before.before.before.before.before.before.args.left c.before.before.before.before.before.before.before.args.p.now c.before.before.before.before.before.if1.false (sym c.before.before.before.before.before.before.number_at.ensures ∙ c.before.before.before.match.keys2))
 

@@ -2,7 +2,7 @@ use mathlib.Core.Path.{◌≡◌, ◌∙◌}
 use native.Mathlib.Omega.{arith}
 use Prim.Native.Nat.{◌+◌}
 use Rattle.tables.specs.declared.Sort.TheVariants.{Values, Identities}
-use Rattle.tables.specs.Kept.{keptCount}
+use Rattle.tables.specs.Kept.{kept_count}
 use Rattle.tables.proofs.FindLaws.{kept_in}
 use Rattle.tables.proofs.LoopLaws.{refused, passed}
 use Rattle.program.proofs.StandLaws.{none_kept, stand-long, stand-unfit, stand-both}
@@ -42,7 +42,7 @@ add-if3 c = omega (arith, c.before.kept-count.ensures, kept_in c.before.before.b
 -- src/places.rt:104:9
 returns-3 : tie.Need-returns-3
 returns-3 c =
-    let e : keptCount c.before.before.before.before.before.before.args.constraints.now Values + keptCount c.before.before.before.before.before.before.args.constraints.now Identities ≡ 0 = omega (arith, c.before.before.kept-count.ensures, c.before.kept-count2.ensures, c.if3.true) in
+    let e : kept_count c.before.before.before.before.before.before.args.constraints.now Values + kept_count c.before.before.before.before.before.before.args.constraints.now Identities ≡ 0 = omega (arith, c.before.before.kept-count.ensures, c.before.kept-count2.ensures, c.if3.true) in
     none_kept c.before.before.before.before.before.before.args.program.now c.before.before.before.before.before.before.args.constraints.now e
     ∙ stand-both c.before.before.before.before.before.before.args.program.now c.before.before.before.before.before.before.args.constraints.now c.before.before.before.before.before.if1.false (passed c.before.before.before.if2.false c.before.before.before.before.constraints-fit.ensures)
 

@@ -4,10 +4,10 @@ use Prim.Native.Nat.{◌-◌, ◌≤◌, ◌<◌}
 use native.Mathlib.Omega.{arith}
 use lib.ListN.{drop}
 use borrow.Author.Tests.{not-true, not-false}
-use Rattle.words.specs.Words.{numberAt}
+use Rattle.words.specs.Words.{number_at}
 use Rattle.program.specs.Forms.{form_of}
 use Rattle.program.specs.Told.{told}
-use Rattle.program.specs.Reading.{readExpression, readForm}
+use Rattle.program.specs.Reading.{read_expression, read_form}
 use Rattle.program.proofs.LengthLaws.{after-part, uses-keeps, expression-uses}
 use Rattle.program.proofs.ReadLaws.{onward, form-none, expression-deep, expression-at, expression-none, operator-none, operator-high, left-halts, right-follows, identity-inside, identity-outside}
 use Prim.Native.Nat.{ℕ, ◌<◌}
@@ -100,7 +100,7 @@ read-expression-unfit-requires-2 t c κs = search rules
 -- src/reading.rt:104:17
 read-expression-returns-2 : (t : ℕ) → read-expression-lts.Need-returns-2 (read-expression-calls t) (read-expression-at t) read-expression.Post
 read-expression-returns-2 t c =
-    let o : numberAt (drop 1 c.before.before.before.before.before.before.before.args.p.now) 0 ≡ 0 = rw (c.before.before.number-at2.ensures, c.before.before.before.before.part-from.ensures) at c.before.if2.true in
+    let o : number_at (drop 1 c.before.before.before.before.before.before.before.args.p.now) 0 ≡ 0 = rw (c.before.before.number-at2.ensures, c.before.before.before.before.part-from.ensures) at c.before.if2.true in
     c.unfit2.ensures ∙ rw c.before.before.before.before.part-from.ensures (operator-none c.before.before.before.before.before.before.before.args.d c.before.before.before.before.before.before.before.args.in_c c.before.before.before.before.before.before.before.args.p.now c.before.before.before.before.before.before.if1.false (sym c.before.before.before.before.before.number_at.ensures ∙ c.before.before.before.match.keys6) o)
 
 -- src/reading.rt:107:17
@@ -110,8 +110,8 @@ read-expression-unfit-requires-3 t c κs = search rules
 -- src/reading.rt:107:17
 read-expression-returns-3 : (t : ℕ) → read-expression-lts.Need-returns-3 (read-expression-calls t) (read-expression-at t) read-expression.Post
 read-expression-returns-3 t c =
-    let o : numberAt (drop 1 c.before.before.before.before.before.before.before.before.args.p.now) 0 ≡ 0 → ⊥ = rw (c.before.before.before.number-at2.ensures, c.before.before.before.before.before.part-from.ensures) at c.before.before.if2.false in
-    let m : 11 < numberAt (drop 1 c.before.before.before.before.before.before.before.before.args.p.now) 0 = rw (c.before.before.before.number-at2.ensures, c.before.before.before.before.before.part-from.ensures) at c.before.if3.true in
+    let o : number_at (drop 1 c.before.before.before.before.before.before.before.before.args.p.now) 0 ≡ 0 → ⊥ = rw (c.before.before.before.number-at2.ensures, c.before.before.before.before.before.part-from.ensures) at c.before.before.if2.false in
+    let m : 11 < number_at (drop 1 c.before.before.before.before.before.before.before.before.args.p.now) 0 = rw (c.before.before.before.number-at2.ensures, c.before.before.before.before.before.part-from.ensures) at c.before.if3.true in
     c.unfit3.ensures ∙ rw c.before.before.before.before.before.part-from.ensures (operator-high c.before.before.before.before.before.before.before.before.args.d c.before.before.before.before.before.before.before.before.args.in_c c.before.before.before.before.before.before.before.before.args.p.now c.before.before.before.before.before.before.before.if1.false (sym c.before.before.before.before.before.before.number_at.ensures ∙ c.before.before.before.before.match.keys6) o m)
 
 -- src/reading.rt:109:17
@@ -147,8 +147,8 @@ read-expression-read-expression-requires t c κs = search rules
 -- src/reading.rt:112:17
 read-expression-returns-4 : (t : ℕ) → read-expression-lts.Need-returns-4 (read-expression-calls t) (read-expression-at t) read-expression.Post
 read-expression-returns-4 t c =
-    let o : numberAt (drop 1 c.before.before.before.before.before.before.before.before.before.before.before.args.p.now) 0 ≡ 0 → ⊥ = rw (c.before.before.before.before.before.before.number-at2.ensures, c.before.before.before.before.before.before.before.before.part-from.ensures) at c.before.before.before.before.before.if2.false in
-    let m : numberAt (drop 1 c.before.before.before.before.before.before.before.before.before.before.before.args.p.now) 0 ≤ 11 = rw (c.before.before.before.before.before.before.number-at2.ensures, c.before.before.before.before.before.before.before.before.part-from.ensures) at c.before.before.before.before.if3.false in
+    let o : number_at (drop 1 c.before.before.before.before.before.before.before.before.before.before.before.args.p.now) 0 ≡ 0 → ⊥ = rw (c.before.before.before.before.before.before.number-at2.ensures, c.before.before.before.before.before.before.before.before.part-from.ensures) at c.before.before.before.before.before.if2.false in
+    let m : number_at (drop 1 c.before.before.before.before.before.before.before.before.before.before.before.args.p.now) 0 ≤ 11 = rw (c.before.before.before.before.before.before.number-at2.ensures, c.before.before.before.before.before.before.before.before.part-from.ensures) at c.before.before.before.before.if3.false in
     left-halts c.before.before.before.before.before.before.before.before.before.before.before.args.d c.before.before.before.before.before.before.before.before.before.before.before.args.in_c c.before.before.before.before.before.before.before.before.before.before.before.args.p.now c.before.before.before.before.before.before.before.before.before.before.if1.false (sym c.before.before.before.before.before.before.before.before.before.number_at.ensures ∙ c.before.before.before.before.before.before.before.match.keys6) o m
     (rw (c.before.before.before.part-from2.ensures, c.before.before.before.before.before.before.before.before.part-from.ensures) at c.before.before.read-expression.ensures) (not-true _ c.if4.true)
 
@@ -200,38 +200,38 @@ read-expression-unfit-requires-5 t c κs = search rules
 
 -- src/reading.rt:78:1
 read-expression-returns-6 : (t : ℕ) → read-expression-lts.Need-returns-6 (read-expression-calls t) (read-expression-at t) read-expression.Post
-unfolding form_of readForm
+unfolding form_of read_form
 read-expression-returns-6 t c = rw c.before.part-from.ensures (ap told (expression-at c.before.before.before.before.args.d c.before.before.before.before.args.in_c c.before.before.before.before.args.p.now c.before.before.before.if1.false 20 (sym c.before.before.number_at.ensures ∙ c.match.keys1)))
 
 -- src/reading.rt:78:1
 read-expression-returns-7 : (t : ℕ) → read-expression-lts.Need-returns-7 (read-expression-calls t) (read-expression-at t) read-expression.Post
-unfolding form_of readForm
+unfolding form_of read_form
 read-expression-returns-7 t c = rw c.before.part-from.ensures (ap told (expression-at c.before.before.before.before.args.d c.before.before.before.before.args.in_c c.before.before.before.before.args.p.now c.before.before.before.if1.false 21 (sym c.before.before.number_at.ensures ∙ c.match.keys2)))
 
 -- src/reading.rt:78:1
 read-expression-returns-8 : (t : ℕ) → read-expression-lts.Need-returns-8 (read-expression-calls t) (read-expression-at t) read-expression.Post
-unfolding form_of readForm
+unfolding form_of read_form
 read-expression-returns-8 t c = rw c.before.part-from.ensures (ap told (expression-at c.before.before.before.before.args.d c.before.before.before.before.args.in_c c.before.before.before.before.args.p.now c.before.before.before.if1.false 22 (sym c.before.before.number_at.ensures ∙ c.match.keys3)))
 
 -- src/reading.rt:78:1
 read-expression-returns-9 : (t : ℕ) → read-expression-lts.Need-returns-9 (read-expression-calls t) (read-expression-at t) read-expression.Post
-unfolding form_of readForm
+unfolding form_of read_form
 read-expression-returns-9 t c =
     c.read_word.ensures ∙ rw c.before.before.part-from.ensures (ap told (expression-at c.before.before.before.before.before.args.d c.before.before.before.before.before.args.in_c c.before.before.before.before.before.args.p.now c.before.before.before.before.if1.false 23 (sym c.before.before.before.number_at.ensures ∙ c.before.match.keys4)))
 
 -- src/reading.rt:78:1
 read-expression-returns-10 : (t : ℕ) → read-expression-lts.Need-returns-10 (read-expression-calls t) (read-expression-at t) read-expression.Post
-unfolding form_of readForm
+unfolding form_of read_form
 read-expression-returns-10 t c =
     c.read-path.ensures ∙ rw c.before.before.part-from.ensures (ap told (expression-at c.before.before.before.before.before.args.d c.before.before.before.before.before.args.in_c c.before.before.before.before.before.args.p.now c.before.before.before.before.if1.false 24 (sym c.before.before.before.number_at.ensures ∙ c.before.match.keys5)))
 
 -- src/reading.rt:78:1
 read-expression-returns-11 : (t : ℕ) → read-expression-lts.Need-returns-11 (read-expression-calls t) (read-expression-at t) read-expression.Post
 read-expression-returns-11 t c =
-    let o : numberAt (drop 1 c.before.before.before.before.before.before.before.before.before.before.before.before.before.args.p.now) 0 ≡ 0 → ⊥ = rw (c.before.before.before.before.before.before.before.before.number-at2.ensures, c.before.before.before.before.before.before.before.before.before.before.part-from.ensures) at c.before.before.before.before.before.before.before.if2.false in
-    let m : numberAt (drop 1 c.before.before.before.before.before.before.before.before.before.before.before.before.before.args.p.now) 0 ≤ 11 = rw (c.before.before.before.before.before.before.before.before.number-at2.ensures, c.before.before.before.before.before.before.before.before.before.before.part-from.ensures) at c.before.before.before.before.before.before.if3.false in
+    let o : number_at (drop 1 c.before.before.before.before.before.before.before.before.before.before.before.before.before.args.p.now) 0 ≡ 0 → ⊥ = rw (c.before.before.before.before.before.before.before.before.number-at2.ensures, c.before.before.before.before.before.before.before.before.before.before.part-from.ensures) at c.before.before.before.before.before.before.before.if2.false in
+    let m : number_at (drop 1 c.before.before.before.before.before.before.before.before.before.before.before.before.before.args.p.now) 0 ≤ 11 = rw (c.before.before.before.before.before.before.before.before.number-at2.ensures, c.before.before.before.before.before.before.before.before.before.before.part-from.ensures) at c.before.before.before.before.before.before.if3.false in
     c.read-expression2.ensures ∙ right-follows c.before.before.before.before.before.before.before.before.before.before.before.before.before.args.d c.before.before.before.before.before.before.before.before.before.before.before.before.before.args.in_c c.before.before.before.before.before.before.before.before.before.before.before.before.before.args.p.now c.before.before.before.before.before.before.before.before.before.before.before.before.if1.false (sym c.before.before.before.before.before.before.before.before.before.before.before.number_at.ensures ∙ c.before.before.before.before.before.before.before.before.before.match.keys6) o m
-    (onward (readExpression (c.before.before.before.before.before.before.before.before.before.before.before.before.before.args.d - 1) c.before.before.before.before.before.before.before.before.before.before.before.before.before.args.in_c (drop 1 (drop 1 c.before.before.before.before.before.before.before.before.before.before.before.before.before.args.p.now))) (after-part _ (uses-keeps (expression-uses (c.before.before.before.before.before.before.before.before.before.before.before.before.before.args.d - 1) c.before.before.before.before.before.before.before.before.before.before.before.before.before.args.in_c (drop 1 (drop 1 c.before.before.before.before.before.before.before.before.before.before.before.before.before.args.p.now)))))
+    (onward (read_expression (c.before.before.before.before.before.before.before.before.before.before.before.before.before.args.d - 1) c.before.before.before.before.before.before.before.before.before.before.before.before.before.args.in_c (drop 1 (drop 1 c.before.before.before.before.before.before.before.before.before.before.before.before.before.args.p.now))) (after-part _ (uses-keeps (expression-uses (c.before.before.before.before.before.before.before.before.before.before.before.before.before.args.d - 1) c.before.before.before.before.before.before.before.before.before.before.before.before.before.args.in_c (drop 1 (drop 1 c.before.before.before.before.before.before.before.before.before.before.before.before.before.args.p.now)))))
     (rw (c.before.before.before.before.before.part-from2.ensures, c.before.before.before.before.before.before.before.before.before.before.part-from.ensures) at c.before.before.before.before.read-expression.ensures) (not-false _ c.before.before.if4.false) (rw (c.before.before.before.before.before.part-from2.ensures, c.before.before.before.before.before.before.before.before.before.before.part-from.ensures) at c.before.part-last.ensures))
 
 -- src/reading.rt:78:1

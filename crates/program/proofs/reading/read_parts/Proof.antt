@@ -3,7 +3,7 @@ use mathlib.Core.Path.{◌≡◌, sym, ap, ◌∙◌}
 use Prim.Native.Nat.{◌-◌, ◌≤◌}
 use native.Mathlib.Omega.{arith}
 use borrow.Author.Tests.{not-true, not-false}
-use Rattle.program.specs.Reading.{readPart, read_parts}
+use Rattle.program.specs.Reading.{read_part, read_parts}
 use Rattle.program.proofs.LengthLaws.{after-part, uses-keeps, part-uses}
 use Rattle.program.proofs.RowLaws.{InRow, last-all, parts-many, row-starts, row-stops, row-goes-on, row_ends}
 use Rattle.program.proofs.reading.read_parts.Statement.{statement}
@@ -14,7 +14,7 @@ use Rattle.program.proofs.reading.read_part.Reads as read-part-reads
 use Rattle.words.proofs.part_last.Reads as part-last-reads
 
 abbrev invariant-loop : tie.invariant-loop
-invariant-loop p m left₀ i₀ left i = InRow readPart m p (read_parts m p) i left
+invariant-loop p m left₀ i₀ left i = InRow read_part m p (read_parts m p) i left
 
 abbrev decreases-loop : tie.decreases-loop
 decreases-loop p m left₀ i₀ left i = m - i

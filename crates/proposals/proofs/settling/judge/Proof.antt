@@ -1,7 +1,7 @@
 use mathlib.Core.Path.{sym}
 use borrow.Author.Tests.{not-true, not-false}
 use Rattle.tables.specs.Cells.{cells}
-use Rattle.proposals.specs.Told.{asksOf}
+use Rattle.proposals.specs.Told.{asks_of}
 use Rattle.proposals.proofs.ProposalLaws.{judge-unmet, judge-takes, judge-unfit, judge-needless, judge-tries}
 use borrow.Author.Rules.{rules}
 use Rattle.proposals.proofs.settling.judge.Statement.{statement}
@@ -17,7 +17,7 @@ use Rattle.words.proofs.part_from.Reads as part-from-reads
 returns : tie.Need-returns
 returns c =
     let a = c.before.before.args in
-    judge-unmet a.program.now a.constraints.now (asksOf a.asked a.p.now) a.p.now (cells a.environment.now a.heap.now) a.proposals.now a.n a.all
+    judge-unmet a.program.now a.constraints.now (asks_of a.asked a.p.now) a.p.now (cells a.environment.now a.heap.now) a.proposals.now a.n a.all
     (sym c.before.before.requires.1) c.before.if1.true (not-true _ c.if2.true)
 
 -- src/settling.rt:184:31
@@ -29,7 +29,7 @@ returns-2 : tie.Need-returns-2
 returns-2 c =
     let a = c.before.before.before.args in
     rw c.less.ensures
-    (judge-takes a.program.now a.constraints.now (asksOf a.asked a.p.now) a.p.now (cells a.environment.now a.heap.now) a.proposals.now a.n a.all
+    (judge-takes a.program.now a.constraints.now (asks_of a.asked a.p.now) a.p.now (cells a.environment.now a.heap.now) a.proposals.now a.n a.all
     (sym c.before.before.before.requires.1) c.before.before.if1.true (not-false _ c.before.if2.false))
 
 -- src/settling.rt:189:9
@@ -52,7 +52,7 @@ same-length-2 c = search rules
 returns-3 : tie.Need-returns-3
 returns-3 c =
     let a = c.before.before.before.before.before.before.args in
-    judge-unfit a.program.now a.constraints.now (asksOf a.asked a.p.now) a.p.now (cells a.environment.now a.heap.now) a.proposals.now a.n a.all
+    judge-unfit a.program.now a.constraints.now (asks_of a.asked a.p.now) a.p.now (cells a.environment.now a.heap.now) a.proposals.now a.n a.all
     (rw c.before.before.part-from.ensures at c.before.entries_fit.ensures) (not-true _ c.if3.true)
 
 -- src/settling.rt:197:9
@@ -67,7 +67,7 @@ same-length-4 c = search rules
 returns-4 : tie.Need-returns-4
 returns-4 c =
     let a = c.before.before.before.before.before.before.before.args in
-    judge-needless a.program.now a.constraints.now (asksOf a.asked a.p.now) a.p.now (cells a.environment.now a.heap.now) a.proposals.now a.n a.all
+    judge-needless a.program.now a.constraints.now (asks_of a.asked a.p.now) a.p.now (cells a.environment.now a.heap.now) a.proposals.now a.n a.all
     (rw c.before.before.before.part-from.ensures at c.before.before.entries_fit.ensures) c.before.before.before.before.before.before.if1.false (not-false _ c.before.if3.false) c.if4.true
 
 -- src/settling.rt:199:5
@@ -86,7 +86,7 @@ same-length-6 c = search rules
 returns-5 : tie.Need-returns-5
 returns-5 c =
     let a = c.before.before.before.before.before.before.before.before.before.before.before.before.args in
-    judge-tries a.program.now a.constraints.now (asksOf a.asked a.p.now) a.p.now (cells a.environment.now a.heap.now) a.proposals.now a.n a.all
+    judge-tries a.program.now a.constraints.now (asks_of a.asked a.p.now) a.p.now (cells a.environment.now a.heap.now) a.proposals.now a.n a.all
     (rw c.before.before.before.before.before.before.before.before.part-from.ensures at c.before.before.before.before.before.before.before.entries_fit.ensures) (not-false _ c.before.before.before.before.before.before.if3.false) c.before.before.before.before.before.if4.false c.before.before.try-pairs.ensures
 
 pub judge-spec : {M : Type 1} → statement M

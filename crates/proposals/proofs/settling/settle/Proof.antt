@@ -1,7 +1,7 @@
 use mathlib.Core.Path.{sym, ◌∙◌}
 use borrow.Author.Tests.{not-true, not-false}
 use Rattle.tables.specs.Cells.{cells}
-use Rattle.proposals.specs.Told.{asksOf}
+use Rattle.proposals.specs.Told.{asks_of}
 use Rattle.proposals.proofs.FormLaws.{proposed}
 use Rattle.proposals.proofs.ProposalLaws.{settle-stops, settle-full, settle-unformed, settle-judged}
 use borrow.Author.Rules.{rules}
@@ -42,7 +42,7 @@ same-length-2 c = search rules
 returns : tie.Need-returns
 returns c =
     let a = c.before.before.before.before.before.before.before.before.before.args in
-    settle-full a.program.now a.constraints.now (asksOf a.asked a.p.now) a.p.now (cells a.environment.now a.heap.now) a.proposals.now
+    settle-full a.program.now a.constraints.now (asks_of a.asked a.p.now) a.p.now (cells a.environment.now a.heap.now) a.proposals.now
     (rw c.before.before.before.before.before.before.part-from.ensures at c.before.before.before.before.before.counted-at.ensures) c.before.before.before.all.given.1 (not-true _ c.if1.true)
 
 -- src/settling.rt:236:19
@@ -73,7 +73,7 @@ same-length-4 c = search rules
 returns-2 : tie.Need-returns-2
 returns-2 c =
     let a = c.before.before.before.before.before.before.before.args in
-    settle-stops a.program.now a.constraints.now (asksOf a.asked a.p.now) a.p.now (cells a.environment.now a.heap.now) a.proposals.now
+    settle-stops a.program.now a.constraints.now (asks_of a.asked a.p.now) a.p.now (cells a.environment.now a.heap.now) a.proposals.now
     (rw c.before.before.before.before.part-from.ensures at c.before.before.before.counted-at.ensures) c.before.number.given.1
 
 -- src/settling.rt:212:1
@@ -88,7 +88,7 @@ same-length-6 c = search rules
 returns-3 : tie.Need-returns-3
 returns-3 c =
     let a = c.before.before.before.before.before.before.before.before.before.before.before.before.before.args in
-    settle-unformed a.program.now a.constraints.now (asksOf a.asked a.p.now) a.p.now (cells a.environment.now a.heap.now) a.proposals.now
+    settle-unformed a.program.now a.constraints.now (asks_of a.asked a.p.now) a.p.now (cells a.environment.now a.heap.now) a.proposals.now
     (rw c.before.before.before.before.before.before.before.before.before.before.part-from.ensures at c.before.before.before.before.before.before.before.before.before.counted-at.ensures) c.before.before.before.before.before.before.before.all.given.1 (not-false _ c.before.before.before.before.if1.false) (sym c.before.number2.given.1 ∙ c.before.before.before.form_of.ensures)
 
 -- src/settling.rt:212:1
@@ -103,7 +103,7 @@ same-length-8 c = search rules
 returns-4 : tie.Need-returns-4
 returns-4 c =
     let a = c.before.before.before.before.before.before.before.before.before.before.before.before.before.before.before.before.before.before.args in
-    settle-judged a.program.now a.constraints.now (asksOf a.asked a.p.now) a.p.now (cells a.environment.now a.heap.now) a.proposals.now
+    settle-judged a.program.now a.constraints.now (asks_of a.asked a.p.now) a.p.now (cells a.environment.now a.heap.now) a.proposals.now
     (rw c.before.before.before.before.before.before.before.before.before.before.before.before.before.before.before.part-from.ensures at c.before.before.before.before.before.before.before.before.before.before.before.before.before.before.counted-at.ensures) c.before.before.before.before.before.before.before.before.before.before.before.before.all.given.1 (not-false _ c.before.before.before.before.before.before.before.before.before.if1.false) (sym c.before.before.before.before.before.before.n.given.1 ∙ c.before.before.before.before.before.before.before.before.form_of.ensures) c.before.before.judge.ensures
 
 pub settle-spec : {M : Type 1} → statement M

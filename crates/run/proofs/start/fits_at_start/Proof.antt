@@ -1,11 +1,11 @@
 use mathlib.Core.Path.{◌≡◌, sym, ap, ◌∙◌}
 use borrow.Author.Tests.{not-true, not-false}
-use Rattle.words.specs.Words.{wordAt}
+use Rattle.words.specs.Words.{word_at}
 use Rattle.words.specs.Answer.{◌>>◌, want}
 use Rattle.tables.specs.Cells.{cells}
-use Rattle.fit.specs.Fit.{environmentFits, heapFits}
-use Rattle.program.specs.Where.{constraintsStand}
-use Rattle.rules.specs.Start.{early, keptAtStart}
+use Rattle.fit.specs.Fit.{environment_fits, heap_fits}
+use Rattle.program.specs.Where.{constraints_stand}
+use Rattle.rules.specs.Start.{early, kept_at_start}
 use Rattle.phases.specs.Told.{tables}
 use Rattle.run.proofs.BeginLaws.{test-stop, test_on}
 use borrow.Author.Rules.{rules}
@@ -33,10 +33,10 @@ heap-fits-requires c κs = search rules
 -- src/start.rt:108:9
 returns-2 : tie.Need-returns-2
 returns-2 c =
-    let k = keptAtStart c.before.before.before.before.args.program.now (tables c.before.before.before.before.args.environment.now c.before.before.before.before.args.heap.now c.before.before.before.before.args.constraints.now) in
-    let three = early 3 (want 2 (constraintsStand c.before.before.before.before.args.program.now c.before.before.before.before.args.constraints.now)) >> k in
+    let k = kept_at_start c.before.before.before.before.args.program.now (tables c.before.before.before.before.args.environment.now c.before.before.before.before.args.heap.now c.before.before.before.before.args.constraints.now) in
+    let three = early 3 (want 2 (constraints_stand c.before.before.before.before.args.program.now c.before.before.before.before.args.constraints.now)) >> k in
     test-stop 3 1 three (sym c.before.heap-fits.ensures ∙ not-true _ c.if2.true)
-    ∙ test_on 3 0 (early 3 (want 1 (heapFits c.before.before.before.before.args.heap.now)) >> three) (sym c.before.before.before.environment-fits.ensures ∙ not-false _ c.before.before.if1.false)
+    ∙ test_on 3 0 (early 3 (want 1 (heap_fits c.before.before.before.before.args.heap.now)) >> three) (sym c.before.before.before.environment-fits.ensures ∙ not-false _ c.before.before.if1.false)
 
 -- src/start.rt:110:9
 constraints-stand-requires : tie.Need-constraints-stand-requires
@@ -45,11 +45,11 @@ constraints-stand-requires c κs = search rules
 -- src/start.rt:111:9
 returns-3 : tie.Need-returns-3
 returns-3 c =
-    let k = keptAtStart c.before.before.before.before.before.before.args.program.now (tables c.before.before.before.before.before.before.args.environment.now c.before.before.before.before.before.before.args.heap.now c.before.before.before.before.before.before.args.constraints.now) in
-    let three = early 3 (want 2 (constraintsStand c.before.before.before.before.before.before.args.program.now c.before.before.before.before.before.before.args.constraints.now)) >> k in
+    let k = kept_at_start c.before.before.before.before.before.before.args.program.now (tables c.before.before.before.before.before.before.args.environment.now c.before.before.before.before.before.before.args.heap.now c.before.before.before.before.before.before.args.constraints.now) in
+    let three = early 3 (want 2 (constraints_stand c.before.before.before.before.before.before.args.program.now c.before.before.before.before.before.before.args.constraints.now)) >> k in
     test-stop 3 2 k (sym c.before.constraints-stand.ensures ∙ not-true _ c.if3.true)
     ∙ test_on 3 1 three (sym c.before.before.before.heap-fits.ensures ∙ not-false _ c.before.before.if2.false)
-    ∙ test_on 3 0 (early 3 (want 1 (heapFits c.before.before.before.before.before.before.args.heap.now)) >> three) (sym c.before.before.before.before.before.environment-fits.ensures ∙ not-false _ c.before.before.before.before.if1.false)
+    ∙ test_on 3 0 (early 3 (want 1 (heap_fits c.before.before.before.before.before.before.args.heap.now)) >> three) (sym c.before.before.before.before.before.environment-fits.ensures ∙ not-false _ c.before.before.before.before.if1.false)
 
 -- src/start.rt:113:5
 holds-at-start-requires : tie.Need-holds-at-start-requires
@@ -58,12 +58,12 @@ holds-at-start-requires c κs = search rules
 -- src/start.rt:96:1
 returns-4 : tie.Need-returns-4
 returns-4 c =
-    let k = keptAtStart c.before.before.before.before.before.before.before.args.program.now (tables c.before.before.before.before.before.before.before.args.environment.now c.before.before.before.before.before.before.before.args.heap.now c.before.before.before.before.before.before.before.args.constraints.now) in
-    let three = early 3 (want 2 (constraintsStand c.before.before.before.before.before.before.before.args.program.now c.before.before.before.before.before.before.before.args.constraints.now)) >> k in
+    let k = kept_at_start c.before.before.before.before.before.before.before.args.program.now (tables c.before.before.before.before.before.before.before.args.environment.now c.before.before.before.before.before.before.before.args.heap.now c.before.before.before.before.before.before.before.args.constraints.now) in
+    let three = early 3 (want 2 (constraints_stand c.before.before.before.before.before.before.before.args.program.now c.before.before.before.before.before.before.before.args.constraints.now)) >> k in
     c.holds-at-start.ensures
     ∙ test_on 3 2 k (sym c.before.before.constraints-stand.ensures ∙ not-false _ c.before.if3.false)
     ∙ test_on 3 1 three (sym c.before.before.before.before.heap-fits.ensures ∙ not-false _ c.before.before.before.if2.false)
-    ∙ test_on 3 0 (early 3 (want 1 (heapFits c.before.before.before.before.before.before.before.args.heap.now)) >> three) (sym c.before.before.before.before.before.before.environment-fits.ensures ∙ not-false _ c.before.before.before.before.before.if1.false)
+    ∙ test_on 3 0 (early 3 (want 1 (heap_fits c.before.before.before.before.before.before.before.args.heap.now)) >> three) (sym c.before.before.before.before.before.before.environment-fits.ensures ∙ not-false _ c.before.before.before.before.before.if1.false)
 
 pub fits-at-start-spec : {M : Type 1} → statement M
 fits-at-start-spec =

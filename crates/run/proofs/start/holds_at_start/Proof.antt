@@ -2,7 +2,7 @@ use mathlib.Core.Path.{◌≡◌, sym, ap, ◌∙◌}
 use Rattle.tables.specs.Cells.{cells}
 use Rattle.tables.specs.declared.Sort.TheVariants.{Values, Identities}
 use Rattle.rules.specs.State.{positions}
-use Rattle.rules.specs.Start.{valuesHold, identitiesHold, early}
+use Rattle.rules.specs.Start.{values_hold, identities_hold, early}
 use Rattle.run.proofs.BeginLaws.{held-stop, held_on, held-last-stop, held-last-on}
 use borrow.Author.Rules.{rules}
 use Rattle.run.proofs.start.holds_at_start.Statement.{statement}
@@ -39,19 +39,19 @@ enum-told-2 c = search rules
 -- src/start.rt:78:1
 returns : tie.Need-returns
 returns c =
-    held-stop 4 (valuesHold c.before.before.before.before.args.program.now (cells c.before.before.before.before.args.environment.now c.before.before.before.before.args.heap.now) (positions c.before.before.before.before.args.constraints.now Values)) c.before.before.before.values-hold.ensures _ c.before.position.given.1
+    held-stop 4 (values_hold c.before.before.before.before.args.program.now (cells c.before.before.before.before.args.environment.now c.before.before.before.before.args.heap.now) (positions c.before.before.before.before.args.constraints.now Values)) c.before.before.before.values-hold.ensures _ c.before.position.given.1
 
 -- src/start.rt:78:1
 returns-2 : tie.Need-returns-2
 returns-2 c =
-    held-last-stop 4 (identitiesHold c.before.before.before.before.before.before.before.args.program.now (cells c.before.before.before.before.before.before.before.args.environment.now c.before.before.before.before.before.before.before.args.heap.now) (positions c.before.before.before.before.before.before.before.args.constraints.now Identities)) c.before.before.before.identities-hold.ensures c.before.place.given.1
-    ∙ held_on 4 (valuesHold c.before.before.before.before.before.before.before.args.program.now (cells c.before.before.before.before.before.before.before.args.environment.now c.before.before.before.before.before.before.before.args.heap.now) (positions c.before.before.before.before.before.before.before.args.constraints.now Values)) c.before.before.before.before.before.before.values-hold.ensures (early 4 (identitiesHold c.before.before.before.before.before.before.before.args.program.now (cells c.before.before.before.before.before.before.before.args.environment.now c.before.before.before.before.before.before.before.args.heap.now) (positions c.before.before.before.before.before.before.before.args.constraints.now Identities))) c.before.before.before.before.enum_told.given.1
+    held-last-stop 4 (identities_hold c.before.before.before.before.before.before.before.args.program.now (cells c.before.before.before.before.before.before.before.args.environment.now c.before.before.before.before.before.before.before.args.heap.now) (positions c.before.before.before.before.before.before.before.args.constraints.now Identities)) c.before.before.before.identities-hold.ensures c.before.place.given.1
+    ∙ held_on 4 (values_hold c.before.before.before.before.before.before.before.args.program.now (cells c.before.before.before.before.before.before.before.args.environment.now c.before.before.before.before.before.before.before.args.heap.now) (positions c.before.before.before.before.before.before.before.args.constraints.now Values)) c.before.before.before.before.before.before.values-hold.ensures (early 4 (identities_hold c.before.before.before.before.before.before.before.args.program.now (cells c.before.before.before.before.before.before.before.args.environment.now c.before.before.before.before.before.before.before.args.heap.now) (positions c.before.before.before.before.before.before.before.args.constraints.now Identities))) c.before.before.before.before.enum_told.given.1
 
 -- src/start.rt:78:1
 returns-3 : tie.Need-returns-3
 returns-3 c =
-    held-last-on 4 (identitiesHold c.before.before.before.before.before.before.args.program.now (cells c.before.before.before.before.before.before.args.environment.now c.before.before.before.before.before.before.args.heap.now) (positions c.before.before.before.before.before.before.args.constraints.now Identities)) c.before.before.identities-hold.ensures c.enum-told2.given.1
-    ∙ held_on 4 (valuesHold c.before.before.before.before.before.before.args.program.now (cells c.before.before.before.before.before.before.args.environment.now c.before.before.before.before.before.before.args.heap.now) (positions c.before.before.before.before.before.before.args.constraints.now Values)) c.before.before.before.before.before.values-hold.ensures (early 4 (identitiesHold c.before.before.before.before.before.before.args.program.now (cells c.before.before.before.before.before.before.args.environment.now c.before.before.before.before.before.before.args.heap.now) (positions c.before.before.before.before.before.before.args.constraints.now Identities))) c.before.before.before.enum_told.given.1
+    held-last-on 4 (identities_hold c.before.before.before.before.before.before.args.program.now (cells c.before.before.before.before.before.before.args.environment.now c.before.before.before.before.before.before.args.heap.now) (positions c.before.before.before.before.before.before.args.constraints.now Identities)) c.before.before.identities-hold.ensures c.enum-told2.given.1
+    ∙ held_on 4 (values_hold c.before.before.before.before.before.before.args.program.now (cells c.before.before.before.before.before.before.args.environment.now c.before.before.before.before.before.before.args.heap.now) (positions c.before.before.before.before.before.before.args.constraints.now Values)) c.before.before.before.before.before.values-hold.ensures (early 4 (identities_hold c.before.before.before.before.before.before.args.program.now (cells c.before.before.before.before.before.before.args.environment.now c.before.before.before.before.before.before.args.heap.now) (positions c.before.before.before.before.before.before.args.constraints.now Identities))) c.before.before.before.enum_told.given.1
 
 pub holds-at-start-spec : {M : Type 1} → statement M
 holds-at-start-spec =

@@ -3,9 +3,9 @@ use mathlib.Core.Path.{◌≡◌, sym, ap, ◌∙◌}
 use Prim.Native.Nat.{◌-◌}
 use lib.ListN.{drop}
 use Rattle.tables.specs.Cells.{cells}
-use Rattle.tables.specs.Kept.{positionAt}
+use Rattle.tables.specs.Kept.{position_at}
 use Rattle.tables.specs.declared.Sort.TheVariants.{Identities}
-use Rattle.rules.specs.Start.{identitiesHold}
+use Rattle.rules.specs.Start.{identities_hold}
 use Rattle.rules.proofs.StartClauses.{identities-none}
 use Rattle.run.proofs.BeginLaws.{KeptLeft, kept-start, kept_on, kept-end, kept-fails, identity-fails, identity-holds}
 use Rattle.run.proofs.start.identities_hold.Statement.{statement}
@@ -18,7 +18,7 @@ use Rattle.tables.proofs.kept.position_at.Reads as position-at-reads
 use Rattle.words.proofs.part_from.Reads as part-from-reads
 
 abbrev invariant-loop : tie.invariant-loop
-invariant-loop program environment heap constraints n i₀ i = KeptLeft Identities (identitiesHold program (cells environment heap)) constraints n i
+invariant-loop program environment heap constraints n i₀ i = KeptLeft Identities (identities_hold program (cells environment heap)) constraints n i
 
 abbrev decreases-loop : tie.decreases-loop
 decreases-loop program environment heap constraints n i₀ i = n - i
@@ -50,7 +50,7 @@ enum_told c = search rules
 -- src/start.rt:61:17
 returns : tie.Need-returns invariant-loop decreases-loop
 returns c =
-    rw c.before.before.before.before.position_at.ensures (kept-fails Identities _ c.before.before.before.before.before.before.loop.invariant c.before.before.before.before.before.loop-test.true (identity-fails c.before.before.before.before.before.before.before.before.args.program.now (cells c.before.before.before.before.before.before.before.before.args.environment.now c.before.before.before.before.before.before.before.before.args.heap.now) (positionAt c.before.before.before.before.before.before.before.before.args.constraints.now Identities c.before.before.before.before.before.before.loop.i) _ (rw c.before.before.before.before.position_at.ensures at c.before.before.before.part-from.ensures) c.before.before.same-now.ensures c.enum_told.given.1))
+    rw c.before.before.before.before.position_at.ensures (kept-fails Identities _ c.before.before.before.before.before.before.loop.invariant c.before.before.before.before.before.loop-test.true (identity-fails c.before.before.before.before.before.before.before.before.args.program.now (cells c.before.before.before.before.before.before.before.before.args.environment.now c.before.before.before.before.before.before.before.before.args.heap.now) (position_at c.before.before.before.before.before.before.before.before.args.constraints.now Identities c.before.before.before.before.before.before.loop.i) _ (rw c.before.before.before.before.position_at.ensures at c.before.before.before.part-from.ensures) c.before.before.same-now.ensures c.enum_told.given.1))
 
 enum-told-2 : tie.Need-enum-told-2 invariant-loop decreases-loop
 enum-told-2 c = search rules
@@ -66,7 +66,7 @@ loop-less c = search rules
 -- src/start.rt:56:5
 loop-again : tie.Need-loop-preserved invariant-loop decreases-loop
 loop-again c =
-    kept_on Identities _ c.before.before.before.before.before.before.loop.invariant c.before.before.before.before.before.loop-test.true (identity-holds c.before.before.before.before.before.before.before.before.args.program.now (cells c.before.before.before.before.before.before.before.before.args.environment.now c.before.before.before.before.before.before.before.before.args.heap.now) (positionAt c.before.before.before.before.before.before.before.before.args.constraints.now Identities c.before.before.before.before.before.before.loop.i) _ (rw c.before.before.before.before.position_at.ensures at c.before.before.before.part-from.ensures) c.before.before.same-now.ensures c.enum-told2.given.1)
+    kept_on Identities _ c.before.before.before.before.before.before.loop.invariant c.before.before.before.before.before.loop-test.true (identity-holds c.before.before.before.before.before.before.before.before.args.program.now (cells c.before.before.before.before.before.before.before.before.args.environment.now c.before.before.before.before.before.before.before.before.args.heap.now) (position_at c.before.before.before.before.before.before.before.before.args.constraints.now Identities c.before.before.before.before.before.before.loop.i) _ (rw c.before.before.before.before.position_at.ensures at c.before.before.before.part-from.ensures) c.before.before.same-now.ensures c.enum-told2.given.1)
 
 -- src/start.rt:46:1
 returns-2 : tie.Need-returns-2 invariant-loop decreases-loop

@@ -1,11 +1,11 @@
 use Rattle.fit.specs.Fit.{sized}
-use Rattle.rules.specs.Start.{early, budgetFits, tablesAtStart}
+use Rattle.rules.specs.Start.{early, budget_fits, tables_at_start}
 use mathlib.Core.Path.{◌≡◌, sym, ap, ◌∙◌}
 use mathlib.Core.Bool.{◌&&◌}
 use borrow.Author.Tests.{not-true, not-false}
 use Rattle.words.specs.Answer.{◌>>◌, want}
 use Rattle.words.proofs.Signed.{back32}
-use Rattle.program.specs.Reading.{readProgram}
+use Rattle.program.specs.Reading.{read_program}
 use Rattle.rules.proofs.StartClauses.{starts_is}
 use Rattle.phases.specs.Told.{tables}
 use Rattle.run.proofs.BeginLaws.{test-stop, test_on, read-stop, read-on, and-false}
@@ -38,7 +38,7 @@ budget-fits-requires c κs = search rules
 returns-2 : tie.Need-returns-2
 returns-2 c =
     rw (starts_is c.before.before.before.before.args.program.now c.before.before.before.before.args.budget (tables c.before.before.before.before.args.environment.now c.before.before.before.before.args.heap.now c.before.before.before.before.args.constraints.now))
-    (test-stop 1 0 _ (and_second (sized c.before.before.before.before.args.environment.now c.before.before.before.before.args.heap.now c.before.before.before.before.args.constraints.now) (budgetFits c.before.before.before.before.args.budget) (rw (back32 c.before.before.before.before.args.budget c.before.before.before.before.ranges.budget) at (sym c.before.budget-fits.ensures) ∙ not-true _ c.if2.true)))
+    (test-stop 1 0 _ (and_second (sized c.before.before.before.before.args.environment.now c.before.before.before.before.args.heap.now c.before.before.before.before.args.constraints.now) (budget_fits c.before.before.before.before.args.budget) (rw (back32 c.before.before.before.before.args.budget c.before.before.before.before.ranges.budget) at (sym c.before.budget-fits.ensures) ∙ not-true _ c.if2.true)))
 
 -- src/start.rt:132:11
 read-program-requires : tie.Need-read-program-requires
@@ -59,19 +59,19 @@ fits-at-start-requires c κs = search rules
 -- src/start.rt:117:1
 returns-3 : tie.Need-returns-3
 returns-3 c =
-    let k = tablesAtStart c.before.before.before.before.before.before.before.before.args.program.now (tables c.before.before.before.before.before.before.before.before.args.environment.now c.before.before.before.before.before.before.before.before.args.heap.now c.before.before.before.before.before.before.before.before.args.constraints.now) in
+    let k = tables_at_start c.before.before.before.before.before.before.before.before.args.program.now (tables c.before.before.before.before.before.before.before.before.args.environment.now c.before.before.before.before.before.before.before.before.args.heap.now c.before.before.before.before.before.before.before.before.args.constraints.now) in
     rw (starts_is c.before.before.before.before.before.before.before.before.args.program.now c.before.before.before.before.before.before.before.before.args.budget (tables c.before.before.before.before.before.before.before.before.args.environment.now c.before.before.before.before.before.before.before.before.args.heap.now c.before.before.before.before.before.before.before.before.args.constraints.now))
-    (read-stop (readProgram c.before.before.before.before.before.before.before.before.args.program.now) k c.before.before.before.read-program.ensures c.before.place.given.1
-    ∙ test_on 1 0 (early 2 (readProgram c.before.before.before.before.before.before.before.before.args.program.now) >> k) (and-true _ _ (sym c.before.before.before.before.before.before.before.are-sized.ensures ∙ not-false _ c.before.before.before.before.before.before.if1.false) (rw (back32 c.before.before.before.before.before.before.before.before.args.budget c.before.before.before.before.before.before.before.before.ranges.budget) at (sym c.before.before.before.before.before.budget-fits.ensures) ∙ not-false _ c.before.before.before.before.if2.false)))
+    (read-stop (read_program c.before.before.before.before.before.before.before.before.args.program.now) k c.before.before.before.read-program.ensures c.before.place.given.1
+    ∙ test_on 1 0 (early 2 (read_program c.before.before.before.before.before.before.before.before.args.program.now) >> k) (and-true _ _ (sym c.before.before.before.before.before.before.before.are-sized.ensures ∙ not-false _ c.before.before.before.before.before.before.if1.false) (rw (back32 c.before.before.before.before.before.before.before.before.args.budget c.before.before.before.before.before.before.before.before.ranges.budget) at (sym c.before.before.before.before.before.budget-fits.ensures) ∙ not-false _ c.before.before.before.before.if2.false)))
 
 -- src/start.rt:117:1
 returns-4 : tie.Need-returns-4
 returns-4 c =
-    let k = tablesAtStart c.before.before.before.before.before.before.before.before.args.program.now (tables c.before.before.before.before.before.before.before.before.args.environment.now c.before.before.before.before.before.before.before.before.args.heap.now c.before.before.before.before.before.before.before.before.args.constraints.now) in
+    let k = tables_at_start c.before.before.before.before.before.before.before.before.args.program.now (tables c.before.before.before.before.before.before.before.before.args.environment.now c.before.before.before.before.before.before.before.before.args.heap.now c.before.before.before.before.before.before.before.before.args.constraints.now) in
     rw (starts_is c.before.before.before.before.before.before.before.before.args.program.now c.before.before.before.before.before.before.before.before.args.budget (tables c.before.before.before.before.before.before.before.before.args.environment.now c.before.before.before.before.before.before.before.before.args.heap.now c.before.before.before.before.before.before.before.before.args.constraints.now))
     (c.fits-at-start.ensures
-    ∙ read-on (readProgram c.before.before.before.before.before.before.before.before.args.program.now) k c.before.before.before.read-program.ensures c.before.enum_told.given.1
-    ∙ test_on 1 0 (early 2 (readProgram c.before.before.before.before.before.before.before.before.args.program.now) >> k) (and-true _ _ (sym c.before.before.before.before.before.before.before.are-sized.ensures ∙ not-false _ c.before.before.before.before.before.before.if1.false) (rw (back32 c.before.before.before.before.before.before.before.before.args.budget c.before.before.before.before.before.before.before.before.ranges.budget) at (sym c.before.before.before.before.before.budget-fits.ensures) ∙ not-false _ c.before.before.before.before.if2.false)))
+    ∙ read-on (read_program c.before.before.before.before.before.before.before.before.args.program.now) k c.before.before.before.read-program.ensures c.before.enum_told.given.1
+    ∙ test_on 1 0 (early 2 (read_program c.before.before.before.before.before.before.before.before.args.program.now) >> k) (and-true _ _ (sym c.before.before.before.before.before.before.before.are-sized.ensures ∙ not-false _ c.before.before.before.before.before.before.if1.false) (rw (back32 c.before.before.before.before.before.before.before.before.args.budget c.before.before.before.before.before.before.before.before.ranges.budget) at (sym c.before.before.before.before.before.budget-fits.ensures) ∙ not-false _ c.before.before.before.before.if2.false)))
 
 pub starts-spec : {M : Type 1} → statement M
 starts-spec =

@@ -4,9 +4,9 @@ use Prim.Native.Nat.{◌-◌}
 use borrow.Author.Tests.{not-true, not-false}
 use lib.ListN.{drop}
 use Rattle.tables.specs.Cells.{cells}
-use Rattle.tables.specs.Kept.{positionAt}
+use Rattle.tables.specs.Kept.{position_at}
 use Rattle.tables.specs.declared.Sort.TheVariants.{Values}
-use Rattle.rules.specs.Start.{valuesHold}
+use Rattle.rules.specs.Start.{values_hold}
 use Rattle.rules.proofs.StartClauses.{values-none}
 use Rattle.run.proofs.BeginLaws.{KeptLeft, kept-start, kept_on, kept-end, kept-fails, value-unread, value-broken, value-holds}
 use Rattle.run.proofs.start.values_hold.Statement.{statement}
@@ -19,7 +19,7 @@ use Rattle.tables.proofs.kept.position_at.Reads as position-at-reads
 use Rattle.words.proofs.part_from.Reads as part-from-reads
 
 abbrev invariant-loop : tie.invariant-loop
-invariant-loop program environment heap constraints n i₀ i = KeptLeft Values (valuesHold program (cells environment heap)) constraints n i
+invariant-loop program environment heap constraints n i₀ i = KeptLeft Values (values_hold program (cells environment heap)) constraints n i
 
 abbrev decreases-loop : tie.decreases-loop
 decreases-loop program environment heap constraints n i₀ i = n - i
@@ -56,7 +56,7 @@ enum_told c = search rules
 returns : tie.Need-returns invariant-loop decreases-loop
 returns c =
     let l = c.before.before.before.part-from2.ensures ∙ ap (drop 1) c.before.before.before.before.part-from.ensures in
-    rw c.before.before.before.before.before.position_at.ensures (kept-fails Values _ c.before.before.before.before.before.before.before.loop.invariant c.before.before.before.before.before.before.loop-test.true (value-unread c.before.before.before.before.before.before.before.before.before.args.program.now (cells c.before.before.before.before.before.before.before.before.before.args.environment.now c.before.before.before.before.before.before.before.before.before.args.heap.now) (positionAt c.before.before.before.before.before.before.before.before.before.args.constraints.now Values c.before.before.before.before.before.before.before.loop.i) _ (rw c.before.before.before.before.before.position_at.ensures at l) c.before.before.constraint-at.ensures c.enum_told.given.1))
+    rw c.before.before.before.before.before.position_at.ensures (kept-fails Values _ c.before.before.before.before.before.before.before.loop.invariant c.before.before.before.before.before.before.loop-test.true (value-unread c.before.before.before.before.before.before.before.before.before.args.program.now (cells c.before.before.before.before.before.before.before.before.before.args.environment.now c.before.before.before.before.before.before.before.before.before.args.heap.now) (position_at c.before.before.before.before.before.before.before.before.before.args.constraints.now Values c.before.before.before.before.before.before.before.loop.i) _ (rw c.before.before.before.before.before.position_at.ensures at l) c.before.before.constraint-at.ensures c.enum_told.given.1))
 
 -- src/start.rt:34:31
 enum-known-required : tie.Need-enum-known-required invariant-loop decreases-loop
@@ -66,7 +66,7 @@ enum-known-required c = search rules
 returns-2 : tie.Need-returns-2 invariant-loop decreases-loop
 returns-2 c =
     let l = c.before.before.before.before.before.part-from2.ensures ∙ ap (drop 1) c.before.before.before.before.before.before.part-from.ensures in
-    rw c.before.before.before.before.before.before.before.position_at.ensures (kept-fails Values _ c.before.before.before.before.before.before.before.before.before.loop.invariant c.before.before.before.before.before.before.before.before.loop-test.true (value-broken c.before.before.before.before.before.before.before.before.before.before.before.args.program.now (cells c.before.before.before.before.before.before.before.before.before.before.before.args.environment.now c.before.before.before.before.before.before.before.before.before.before.before.args.heap.now) (positionAt c.before.before.before.before.before.before.before.before.before.before.before.args.constraints.now Values c.before.before.before.before.before.before.before.before.before.loop.i) _ (rw c.before.before.before.before.before.before.before.position_at.ensures at l) c.before.before.before.before.constraint-at.ensures c.before.before.required.given.1 (not-true _ c.if1.true)))
+    rw c.before.before.before.before.before.before.before.position_at.ensures (kept-fails Values _ c.before.before.before.before.before.before.before.before.before.loop.invariant c.before.before.before.before.before.before.before.before.loop-test.true (value-broken c.before.before.before.before.before.before.before.before.before.before.before.args.program.now (cells c.before.before.before.before.before.before.before.before.before.before.before.args.environment.now c.before.before.before.before.before.before.before.before.before.before.before.args.heap.now) (position_at c.before.before.before.before.before.before.before.before.before.before.before.args.constraints.now Values c.before.before.before.before.before.before.before.before.before.loop.i) _ (rw c.before.before.before.before.before.before.before.position_at.ensures at l) c.before.before.before.before.constraint-at.ensures c.before.before.required.given.1 (not-true _ c.if1.true)))
 
 -- src/start.rt:40:9
 add-i : tie.Need-overflow-add-i invariant-loop decreases-loop
@@ -80,7 +80,7 @@ loop-less c = search rules
 loop-again : tie.Need-loop-preserved invariant-loop decreases-loop
 loop-again c =
     let l = c.before.before.before.before.before.part-from2.ensures ∙ ap (drop 1) c.before.before.before.before.before.before.part-from.ensures in
-    kept_on Values _ c.before.before.before.before.before.before.before.before.before.loop.invariant c.before.before.before.before.before.before.before.before.loop-test.true (value-holds c.before.before.before.before.before.before.before.before.before.before.before.args.program.now (cells c.before.before.before.before.before.before.before.before.before.before.before.args.environment.now c.before.before.before.before.before.before.before.before.before.before.before.args.heap.now) (positionAt c.before.before.before.before.before.before.before.before.before.before.before.args.constraints.now Values c.before.before.before.before.before.before.before.before.before.loop.i) _ (rw c.before.before.before.before.before.before.before.position_at.ensures at l) c.before.before.before.before.constraint-at.ensures c.before.before.required.given.1 (not-false _ c.if1.false))
+    kept_on Values _ c.before.before.before.before.before.before.before.before.before.loop.invariant c.before.before.before.before.before.before.before.before.loop-test.true (value-holds c.before.before.before.before.before.before.before.before.before.before.before.args.program.now (cells c.before.before.before.before.before.before.before.before.before.before.before.args.environment.now c.before.before.before.before.before.before.before.before.before.before.before.args.heap.now) (position_at c.before.before.before.before.before.before.before.before.before.before.before.args.constraints.now Values c.before.before.before.before.before.before.before.before.before.loop.i) _ (rw c.before.before.before.before.before.before.before.position_at.ensures at l) c.before.before.before.before.constraint-at.ensures c.before.before.required.given.1 (not-false _ c.if1.false))
 
 -- src/start.rt:18:1
 returns-3 : tie.Need-returns-3 invariant-loop decreases-loop

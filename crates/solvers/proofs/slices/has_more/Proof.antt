@@ -1,7 +1,7 @@
 use Prim.Native.Nat.{◌+◌, ◌*◌}
 use native.Mathlib.Omega.{arith}
 use borrow.Author.Tests.{le-ltb}
-use Rattle.words.specs.Words.{numberAt}
+use Rattle.words.specs.Words.{number_at}
 use lib.ListN.{length}
 use Rattle.rules.proofs.SolverClauses.{more-is}
 use borrow.Author.Rules.{rules}
@@ -17,7 +17,7 @@ number-at-requires c κs = search rules
 
 -- src/slices.rt:30:9
 returns : tie.Need-returns
-returns c = rw (more-is c.before.before.args.slice.now, le-ltb (2 * numberAt c.before.before.args.slice.now 0 + 1) (length c.before.before.args.slice.now) (omega (arith, c.before.number_at.ensures, c.if1.true)))
+returns c = rw (more-is c.before.before.args.slice.now, le-ltb (2 * number_at c.before.before.args.slice.now 0 + 1) (length c.before.before.args.slice.now) (omega (arith, c.before.number_at.ensures, c.if1.true)))
 
 -- src/slices.rt:32:5
 mul-result : tie.Need-overflow-mul-result

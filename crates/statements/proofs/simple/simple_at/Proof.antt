@@ -1,6 +1,6 @@
 use mathlib.Core.Path.{refl}
 use native.Mathlib.Omega.{arith}
-use Rattle.program.specs.Forms.{skip, assign, new, always, once, alwaysSame, onceSame}
+use Rattle.program.specs.Forms.{skip, assign, new, always, once, always_same, once_same}
 use Rattle.rules.proofs.StatementClauses.{simple-skip, simple-assign, simple-new, simple-always, simple-once, simple-always-same, simple-once-same}
 use Rattle.phases.specs.Told.{tables}
 use Rattle.phases.proofs.PhaseLaws.{does-same, refuses}
@@ -138,7 +138,7 @@ same-length-15 c = search rules
 returns-6 : tie.Need-returns-6
 returns-6 c =
     does-same
-    (simple-by c.before.before.before.before.before.before.args.program.now c.before.before.before.before.before.before.args.p.now (tables c.before.before.before.before.before.before.args.environment.now c.before.before.before.before.before.before.args.heap.now c.before.before.before.before.before.before.args.constraints.now) c.before.before.before.before.before.before.args.proposals.now alwaysSame c.before.before.before.before.before.match.keys6 (omega arith) (simple-always-same c.before.before.before.before.before.before.args.program.now c.before.before.before.before.before.before.args.p.now (tables c.before.before.before.before.before.before.args.environment.now c.before.before.before.before.before.before.args.heap.now c.before.before.before.before.before.before.args.constraints.now) c.before.before.before.before.before.before.args.proposals.now))
+    (simple-by c.before.before.before.before.before.before.args.program.now c.before.before.before.before.before.before.args.p.now (tables c.before.before.before.before.before.before.args.environment.now c.before.before.before.before.before.before.args.heap.now c.before.before.before.before.before.before.args.constraints.now) c.before.before.before.before.before.before.args.proposals.now always_same c.before.before.before.before.before.match.keys6 (omega arith) (simple-always-same c.before.before.before.before.before.before.args.program.now c.before.before.before.before.before.before.args.p.now (tables c.before.before.before.before.before.before.args.environment.now c.before.before.before.before.before.before.args.heap.now c.before.before.before.before.before.before.args.constraints.now) c.before.before.before.before.before.before.args.proposals.now))
     c.before.identify.ensures
 
 -- src/simple.rt:202:1
@@ -157,7 +157,7 @@ same-length-18 c = search rules
 returns-7 : tie.Need-returns-7
 returns-7 c =
     does-same
-    (simple-by c.before.before.before.before.before.before.args.program.now c.before.before.before.before.before.before.args.p.now (tables c.before.before.before.before.before.before.args.environment.now c.before.before.before.before.before.before.args.heap.now c.before.before.before.before.before.before.args.constraints.now) c.before.before.before.before.before.before.args.proposals.now onceSame c.before.before.before.before.before.match.keys7 (omega arith) (simple-once-same c.before.before.before.before.before.before.args.program.now c.before.before.before.before.before.before.args.p.now (tables c.before.before.before.before.before.before.args.environment.now c.before.before.before.before.before.before.args.heap.now c.before.before.before.before.before.before.args.constraints.now) c.before.before.before.before.before.before.args.proposals.now))
+    (simple-by c.before.before.before.before.before.before.args.program.now c.before.before.before.before.before.before.args.p.now (tables c.before.before.before.before.before.before.args.environment.now c.before.before.before.before.before.before.args.heap.now c.before.before.before.before.before.before.args.constraints.now) c.before.before.before.before.before.before.args.proposals.now once_same c.before.before.before.before.before.match.keys7 (omega arith) (simple-once-same c.before.before.before.before.before.before.args.program.now c.before.before.before.before.before.before.args.p.now (tables c.before.before.before.before.before.before.args.environment.now c.before.before.before.before.before.before.args.heap.now c.before.before.before.before.before.before.args.constraints.now) c.before.before.before.before.before.before.args.proposals.now))
     c.before.identify2.ensures
 
 -- src/simple.rt:202:1

@@ -2,7 +2,7 @@ use borrow.Author.Rules.{rules}
 use mathlib.Core.Path.{◌≡◌, sym, ◌∙◌}
 use Prim.Native.Nat.{◌-◌, ◌+◌}
 use lib.IntN.{pos}
-use Rattle.words.specs.Words.{wordAt, eqZ}
+use Rattle.words.specs.Words.{word_at, eq_z}
 use Rattle.words.proofs.Signed.{back32}
 use Rattle.tables.specs.Cells.{zeros}
 use Rattle.tables.proofs.SearchLaws.{Checking, checking-starts, checking-fails, checking-goes-on, checking-ends}
@@ -15,7 +15,7 @@ use Rattle.words.proofs.same.Reads as same_Reads
 use Rattle.words.proofs.word_at.Reads as word-at-reads
 
 abbrev invariant-loop : tie.invariant-loop
-invariant-loop s at n i₀ i = Checking (λ j. eqZ (wordAt s (at + j)) (pos 0)) n i
+invariant-loop s at n i₀ i = Checking (λ j. eq_z (word_at s (at + j)) (pos 0)) n i
 
 abbrev decreases-loop : tie.decreases-loop
 decreases-loop s at n i₀ i = n - i
@@ -41,7 +41,7 @@ returns : tie.Need-returns invariant-loop decreases-loop
 unfolding zeros
 returns c =
     let b = back32 c.before.before.word_at.result (record { sfits = c.before.before.word_at.type-inv }) in
-    let e : c.before.same.result ≡ eqZ (wordAt c.before.before.before.before.before.args.s.now (c.before.before.before.before.before.args.at + c.before.before.before.before.loop.i)) (pos 0) = cc in
+    let e : c.before.same.result ≡ eq_z (word_at c.before.before.before.before.before.args.s.now (c.before.before.before.before.before.args.at + c.before.before.before.before.loop.i)) (pos 0) = cc in
     checking-fails c.before.before.before.before.loop.invariant c.before.before.before.loop-test.true (refused c.if1.true e)
 
 -- src/cells.rt:112:9
@@ -56,7 +56,7 @@ loop-less c = search rules
 loop-again : tie.Need-loop-preserved invariant-loop decreases-loop
 loop-again c =
     let b = back32 c.before.before.word_at.result (record { sfits = c.before.before.word_at.type-inv }) in
-    let e : c.before.same.result ≡ eqZ (wordAt c.before.before.before.before.before.args.s.now (c.before.before.before.before.before.args.at + c.before.before.before.before.loop.i)) (pos 0) = cc in
+    let e : c.before.same.result ≡ eq_z (word_at c.before.before.before.before.before.args.s.now (c.before.before.before.before.before.args.at + c.before.before.before.before.loop.i)) (pos 0) = cc in
     checking-goes-on c.before.before.before.before.loop.invariant c.before.before.before.loop-test.true (passed c.if1.false e)
 
 -- src/cells.rt:102:1

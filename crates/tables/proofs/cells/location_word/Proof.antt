@@ -1,5 +1,5 @@
-use Rattle.tables.specs.Sizes.{fieldWord}
-use Rattle.tables.specs.Cells.{locationWord}
+use Rattle.tables.specs.Sizes.{field_word}
+use Rattle.tables.specs.Cells.{location_word}
 use borrow.Author.Rules.{rules}
 use Rattle.tables.proofs.cells.location_word.Statement.{statement}
 use Rattle.tables.proofs.cells.location_word.Tie as tie
@@ -29,7 +29,7 @@ add-result-2 c = search rules
 
 -- src/cells.rt:60:1
 returns : tie.Need-returns
-unfolding locationWord fieldWord
+unfolding location_word field_word
 returns c = rw c.less.ensures
 
 pub location-word-spec : {M : Type 1} → statement M

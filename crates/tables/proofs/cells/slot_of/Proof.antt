@@ -2,7 +2,7 @@ use mathlib.Core.Path.{◌≡◌}
 use borrow.Author.Tests.{ne_eqb}
 use Rattle.words.specs.Words.{number_of}
 use Rattle.words.proofs.Signed.{back32}
-use Rattle.tables.specs.Values.{slotOf}
+use Rattle.tables.specs.Values.{slot_of}
 use borrow.Author.Rules.{rules}
 use Rattle.tables.proofs.cells.slot_of.Statement.{statement}
 use Rattle.tables.proofs.cells.slot_of.Tie as tie
@@ -25,7 +25,7 @@ number-requires-2 c κs = search rules
 
 -- src/cells.rt:14:1
 returns : tie.Need-returns
-unfolding slotOf
+unfolding slot_of
 returns c =
     let b = back32 c.before.before.before.args.c.kind (record { sfits = c.before.before.struct_told.given.0.1 }) in
     let v : number_of c.before.before.before.args.c.kind ≡ 1 = cc in
@@ -33,7 +33,7 @@ returns c =
 
 -- src/cells.rt:14:1
 returns-2 : tie.Need-returns-2
-unfolding slotOf
+unfolding slot_of
 returns-2 c =
     let b = back32 c.before.before.before.before.before.args.c.kind (record { sfits = c.before.before.before.before.struct_told.given.0.1 }) in
     let p = back32 c.before.before.before.before.before.args.c.payload (record { sfits = c.before.before.before.before.struct_told.given.1.0.1 }) in
@@ -42,7 +42,7 @@ returns-2 c =
 
 -- src/cells.rt:14:1
 returns-3 : tie.Need-returns-3
-unfolding slotOf
+unfolding slot_of
 returns-3 c =
     let b = back32 c.before.before.before.before.args.c.kind (record { sfits = c.before.before.before.struct_told.given.0.1 }) in
     let p = back32 c.before.before.before.before.args.c.payload (record { sfits = c.before.before.before.struct_told.given.1.0.1 }) in
@@ -51,7 +51,7 @@ returns-3 c =
 
 -- src/cells.rt:14:1
 returns-4 : tie.Need-returns-4
-unfolding slotOf
+unfolding slot_of
 returns-4 c =
     let b = back32 c.before.before.before.before.before.args.c.kind (record { sfits = c.before.before.before.before.struct_told.given.0.1 }) in
     let p = back32 c.before.before.before.before.before.args.c.payload (record { sfits = c.before.before.before.before.struct_told.given.1.0.1 }) in
@@ -60,7 +60,7 @@ returns-4 c =
 
 -- src/cells.rt:14:1
 returns-5 : tie.Need-returns-5
-unfolding slotOf
+unfolding slot_of
 returns-5 c =
     let b = back32 c.before.before.before.args.c.kind (record { sfits = c.before.before.struct_told.given.0.1 }) in
     let v : number_of c.before.before.before.args.c.kind ≡ c.before.number.result = cc in

@@ -1,7 +1,7 @@
 use native.Mathlib.Omega.{arith}
 use Rattle.tables.proofs.CellLaws.{location-small}
 use borrow.Author.Tests.{lt-ltb, le-ltb}
-use Rattle.tables.specs.Cells.{putCell}
+use Rattle.tables.specs.Cells.{put_cell}
 use borrow.Author.Rules.{rules}
 use Rattle.tables.proofs.cells.write_cell.Statement.{statement}
 use Rattle.tables.proofs.cells.write_cell.Tie as tie
@@ -24,7 +24,7 @@ same_length c = search rules
 
 -- src/cells.rt:114:9
 returns : tie.Need-returns
-unfolding putCell
+unfolding put_cell
 returns c = rw (lt-ltb c.before.before.before.before.args.l 64 c.before.before.before.if1.true) (cc)
 
 -- src/cells.rt:117:24
@@ -41,12 +41,12 @@ same-length-2 c = search rules
 
 -- src/cells.rt:109:1
 returns-2 : tie.Need-returns-2
-unfolding putCell
+unfolding put_cell
 returns-2 c = rw (le-ltb c.before.before.before.before.before.before.args.l 64 c.before.before.before.before.before.if1.false, lt-ltb c.before.before.before.before.before.before.args.l 576 c.before.before.before.before.if2.true) (cc)
 
 -- src/cells.rt:109:1
 returns-3 : tie.Need-returns-3
-unfolding putCell
+unfolding put_cell
 returns-3 c = rw (le-ltb c.before.before.args.l 64 c.before.if1.false, le-ltb c.before.before.args.l 576 c.if2.false)
 
 pub write-cell-spec : {M : Type 1} → statement M

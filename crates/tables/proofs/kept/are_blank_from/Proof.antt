@@ -2,7 +2,7 @@ use mathlib.Core.Path.{◌≡◌, ◌∙◌}
 use native.Mathlib.Omega.{arith}
 use Prim.Native.Nat.{◌+◌, ◌-◌}
 use Rattle.tables.specs.Cells.{zeros}
-use Rattle.tables.specs.Kept.{mostKept, firstKept}
+use Rattle.tables.specs.Kept.{most_kept, first_kept}
 use Rattle.tables.proofs.KeptLaws.{most-small, first_small}
 use Rattle.tables.proofs.ClearLaws.{clear-part, positions-clear, positions-full}
 use borrow.Author.Rules.{rules}
@@ -51,7 +51,7 @@ is-clear-requires c κs = search rules
 -- src/kept.rt:68:1
 returns-2 : tie.Need-returns-2
 returns-2 c =
-    let z : c.is-clear.result ≡ zeros c.before.before.before.before.before.before.args.constraints.now (firstKept c.before.before.before.before.before.before.args.s + c.before.before.before.before.before.before.args.n) (mostKept c.before.before.before.before.before.before.args.s - c.before.before.before.before.before.before.args.n) =
+    let z : c.is-clear.result ≡ zeros c.before.before.before.before.before.before.args.constraints.now (first_kept c.before.before.before.before.before.before.args.s + c.before.before.before.before.before.before.args.n) (most_kept c.before.before.before.before.before.before.args.s - c.before.before.before.before.before.before.args.n) =
     rw (c.before.before.before.first-kept.ensures, c.before.before.before.before.before.most-kept.ensures) at (clear-part c.before.before.before.before.before.before.args.constraints.now (c.before.before.before.first-kept.result + c.before.before.before.before.before.before.args.n) (c.before.before.before.before.before.most-kept.result - c.before.before.before.before.before.before.args.n) c.before.before.part-from.ensures c.before.part-to.ensures c.is-clear.ensures) in
     z ∙ positions-clear c.before.before.before.before.before.before.args.constraints.now c.before.before.before.before.before.before.args.s c.before.before.before.before.before.before.args.n
 

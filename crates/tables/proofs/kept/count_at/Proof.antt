@@ -1,4 +1,4 @@
-use Rattle.tables.specs.Kept.{keptNumber}
+use Rattle.tables.specs.Kept.{kept_number}
 use borrow.Author.Rules.{rules}
 use Rattle.tables.proofs.kept.count_at.Statement.{statement}
 use Rattle.tables.proofs.kept.count_at.Tie as tie
@@ -17,7 +17,7 @@ number-at-requires c κs = search rules
 
 -- src/kept.rt:40:1
 returns : tie.Need-returns
-unfolding keptNumber
+unfolding kept_number
 returns c = rw c.before.kept_word.ensures at c.number_at.ensures
 
 pub count-at-spec : {M : Type 1} → statement M

@@ -1,4 +1,4 @@
-use Rattle.tables.specs.Kept.{firstKept}
+use Rattle.tables.specs.Kept.{first_kept}
 use borrow.Author.Rules.{rules}
 use Rattle.tables.proofs.kept.first_kept.Statement.{statement}
 use Rattle.tables.proofs.kept.first_kept.Tie as tie
@@ -15,12 +15,12 @@ enum-told-2 c = search rules
 
 -- src/kept.rt:20:1
 returns : tie.Need-returns
-unfolding firstKept
+unfolding first_kept
 returns c = rw c.enum_told.given.1
 
 -- src/kept.rt:20:1
 returns-2 : tie.Need-returns-2
-unfolding firstKept
+unfolding first_kept
 returns-2 c = rw c.enum-told2.given.1
 
 pub first-kept-spec : {M : Type 1} → statement M

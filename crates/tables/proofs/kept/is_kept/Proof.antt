@@ -4,7 +4,7 @@ use Prim.Native.Nat.{◌-◌, ◌≤◌, ◌<◌}
 use native.Mathlib.Omega.{arith}
 use lib.Dec.{eqb}
 use borrow.Author.Tests.{ne_eqb}
-use Rattle.tables.specs.Kept.{keptCount, positionAt}
+use Rattle.tables.specs.Kept.{kept_count, position_at}
 use Rattle.tables.proofs.SearchLaws.{Seeking, seeking-starts, seeking-goes-on}
 use Rattle.tables.proofs.FindLaws.{kept-hits, kept-ends}
 use Rattle.tables.proofs.kept.is_kept.Statement.{statement}
@@ -15,7 +15,7 @@ use Rattle.tables.proofs.kept.kept_count.Reads as kept-count-reads
 use Rattle.tables.proofs.kept.position_at.Reads as position-at-reads
 
 abbrev invariant-loop : tie.invariant-loop
-invariant-loop constraints s position n i₀ i = (n ≡ keptCount constraints s) × Seeking (λ j. eqb (positionAt constraints s j) position) (keptCount constraints s) i
+invariant-loop constraints s position n i₀ i = (n ≡ kept_count constraints s) × Seeking (λ j. eqb (position_at constraints s j) position) (kept_count constraints s) i
 
 abbrev decreases-loop : tie.decreases-loop
 decreases-loop constraints s position n i₀ i = n - i

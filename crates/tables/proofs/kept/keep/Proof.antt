@@ -5,7 +5,7 @@ use borrow.Author.Tests.{lt-ltb, le-ltb}
 use Rattle.words.specs.Words.{word_of}
 use Rattle.words.proofs.Signed.{back32}
 use Rattle.words.proofs.Laws.{word-is}
-use Rattle.tables.specs.Kept.{withPosition, mostKept, keptCount}
+use Rattle.tables.specs.Kept.{with_position, most_kept, kept_count}
 use Rattle.tables.proofs.KeptLaws.{most-small, first_small}
 use borrow.Author.Rules.{rules}
 use Rattle.tables.proofs.kept.keep.Statement.{statement}
@@ -33,9 +33,9 @@ same_length c = search rules
 
 -- src/kept.rt:79:9
 returns : tie.Need-returns
-unfolding withPosition
+unfolding with_position
 returns c =
-    let l : mostKept c.before.before.before.before.args.s ≤ keptCount c.before.before.before.before.args.constraints.now c.before.before.before.before.args.s = rw (c.before.most-kept.ensures, c.before.before.kept-count.ensures) at c.if1.true in
+    let l : most_kept c.before.before.before.before.args.s ≤ kept_count c.before.before.before.before.args.constraints.now c.before.before.before.before.args.s = rw (c.before.most-kept.ensures, c.before.before.kept-count.ensures) at c.if1.true in
     rw (le-ltb _ _ l)
 
 -- src/kept.rt:81:31
@@ -76,12 +76,12 @@ same-length-2 c = search rules
 
 -- src/kept.rt:74:1
 returns-2 : tie.Need-returns-2
-unfolding withPosition
+unfolding with_position
 returns-2 c =
-    let l : keptCount c.before.before.before.before.before.before.before.before.before.before.before.before.before.before.args.constraints.now c.before.before.before.before.before.before.before.before.before.before.before.before.before.before.args.s < mostKept c.before.before.before.before.before.before.before.before.before.before.before.before.before.before.args.s = rw (c.before.before.before.before.before.before.before.before.before.before.before.most-kept.ensures, c.before.before.before.before.before.before.before.before.before.before.before.before.kept-count.ensures) at c.before.before.before.before.before.before.before.before.before.before.if1.false in
+    let l : kept_count c.before.before.before.before.before.before.before.before.before.before.before.before.before.before.args.constraints.now c.before.before.before.before.before.before.before.before.before.before.before.before.before.before.args.s < most_kept c.before.before.before.before.before.before.before.before.before.before.before.before.before.before.args.s = rw (c.before.before.before.before.before.before.before.before.before.before.before.most-kept.ensures, c.before.before.before.before.before.before.before.before.before.before.before.before.kept-count.ensures) at c.before.before.before.before.before.before.before.before.before.before.if1.false in
     let p = back32 c.before.before.before.before.before.before.before.word-of.result (record { sfits = c.before.before.before.before.before.before.before.word-of.type-inv }) in
     let q = back32 c.before.before.word-of2.result (record { sfits = c.before.before.word-of2.type-inv }) in
-    let w = word-is (keptCount c.before.before.before.before.before.before.before.before.before.before.before.before.before.before.args.constraints.now c.before.before.before.before.before.before.before.before.before.before.before.before.before.before.args.s + 1) (omega (arith, most-small c.before.before.before.before.before.before.before.before.before.before.before.before.before.before.args.s)) in
+    let w = word-is (kept_count c.before.before.before.before.before.before.before.before.before.before.before.before.before.before.args.constraints.now c.before.before.before.before.before.before.before.before.before.before.before.before.before.before.args.s + 1) (omega (arith, most-small c.before.before.before.before.before.before.before.before.before.before.before.before.before.before.args.s)) in
     rw (lt-ltb _ _ l) (cc)
 
 pub keep_spec : {M : Type 1} → statement M

@@ -1,5 +1,5 @@
 use borrow.Author.Tests.{le-leb, lt-leb}
-use Rattle.tables.specs.Kept.{keptCount}
+use Rattle.tables.specs.Kept.{kept_count}
 use borrow.Author.Rules.{rules}
 use Rattle.tables.proofs.kept.kept_count.Statement.{statement}
 use Rattle.tables.proofs.kept.kept_count.Tie as tie
@@ -18,12 +18,12 @@ most-kept-requires c κs = search rules
 
 -- src/kept.rt:52:9
 returns : tie.Need-returns
-unfolding keptCount
+unfolding kept_count
 returns c = rw (lt-leb _ _ (rw (c.before.before.count_at.ensures, c.before.most-kept.ensures) at c.if1.true))
 
 -- src/kept.rt:47:1
 returns-2 : tie.Need-returns-2
-unfolding keptCount
+unfolding kept_count
 returns-2 c = rw (le-leb _ _ (rw (c.before.before.count_at.ensures, c.before.most-kept.ensures) at c.if1.false)) c.before.before.count_at.ensures
 
 pub kept-count-spec : {M : Type 1} → statement M

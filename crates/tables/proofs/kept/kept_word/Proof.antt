@@ -1,4 +1,4 @@
-use Rattle.tables.specs.Kept.{keptWord}
+use Rattle.tables.specs.Kept.{kept_word}
 use borrow.Author.Rules.{rules}
 use Rattle.tables.proofs.kept.kept_word.Statement.{statement}
 use Rattle.tables.proofs.kept.kept_word.Tie as tie
@@ -15,12 +15,12 @@ enum-told-2 c = search rules
 
 -- src/kept.rt:10:1
 returns : tie.Need-returns
-unfolding keptWord
+unfolding kept_word
 returns c = rw c.enum_told.given.1
 
 -- src/kept.rt:10:1
 returns-2 : tie.Need-returns-2
-unfolding keptWord
+unfolding kept_word
 returns-2 c = rw c.enum-told2.given.1
 
 pub kept-word-spec : {M : Type 1} → statement M

@@ -2,7 +2,7 @@ use mathlib.Core.Path.{◌≡◌, sym, ◌∙◌}
 use native.Mathlib.Omega.{arith}
 use borrow.Author.Tests.{lt-ltb, le-ltb}
 use Prim.Native.Nat.{◌<◌, ◌≤◌}
-use Rattle.tables.specs.Kept.{positionAt, mostKept}
+use Rattle.tables.specs.Kept.{position_at, most_kept}
 use Rattle.tables.proofs.KeptLaws.{most-small, first_small}
 use borrow.Author.Rules.{rules}
 use Rattle.tables.proofs.kept.position_at.Statement.{statement}
@@ -19,9 +19,9 @@ most-kept-requires c κs = search rules
 
 -- src/kept.rt:54:9
 returns : tie.Need-returns
-unfolding positionAt
+unfolding position_at
 returns c =
-    let l : mostKept c.before.before.args.s ≤ c.before.before.args.i = rw c.before.most-kept.ensures at c.if1.true in
+    let l : most_kept c.before.before.args.s ≤ c.before.before.args.i = rw c.before.most-kept.ensures at c.if1.true in
     rw (le-ltb _ _ l)
 
 -- src/kept.rt:56:35
@@ -38,9 +38,9 @@ number-at-requires c κs = search rules
 
 -- src/kept.rt:50:1
 returns-2 : tie.Need-returns-2
-unfolding positionAt
+unfolding position_at
 returns-2 c =
-    let l : c.before.before.before.before.args.i < mostKept c.before.before.before.before.args.s = rw c.before.before.before.most-kept.ensures at c.before.before.if1.false in
+    let l : c.before.before.before.before.args.i < most_kept c.before.before.before.before.args.s = rw c.before.before.before.most-kept.ensures at c.before.before.if1.false in
     rw (lt-ltb _ _ l, sym c.before.first-kept.ensures) c.number_at.ensures
 
 pub position-at-spec : {M : Type 1} → statement M

@@ -5,7 +5,7 @@ use borrow.Author.Tests.{lt-ltb, le-ltb}
 use Rattle.words.specs.Words.{word_of}
 use Rattle.words.proofs.Signed.{back32}
 use Rattle.words.proofs.Laws.{word-is}
-use Rattle.tables.specs.Kept.{withoutPosition, mostKept, keptCount}
+use Rattle.tables.specs.Kept.{without_position, most_kept, kept_count}
 use Rattle.tables.proofs.KeptLaws.{most-small, first_small}
 use Rattle.tables.proofs.FindLaws.{kept_in}
 use borrow.Author.Rules.{rules}
@@ -29,9 +29,9 @@ same_length c = search rules
 
 -- src/kept.rt:91:9
 returns : tie.Need-returns
-unfolding withoutPosition
+unfolding without_position
 returns c =
-    let l : keptCount c.before.before.before.args.constraints.now c.before.before.before.args.s ≤ 0 = omega (arith, c.before.kept-count.ensures, c.if1.true) in
+    let l : kept_count c.before.before.before.args.constraints.now c.before.before.before.args.s ≤ 0 = omega (arith, c.before.kept-count.ensures, c.if1.true) in
     rw (le-ltb _ _ l)
 
 -- src/kept.rt:93:31
@@ -72,11 +72,11 @@ same-length-2 c = search rules
 
 -- src/kept.rt:86:1
 returns-2 : tie.Need-returns-2
-unfolding withoutPosition
+unfolding without_position
 returns-2 c =
-    let l : 0 < keptCount c.before.before.before.before.before.before.before.before.before.before.before.before.args.constraints.now c.before.before.before.before.before.before.before.before.before.before.before.before.args.s = omega (arith, c.before.before.before.before.before.before.before.before.before.before.kept-count.ensures, c.before.before.before.before.before.before.before.before.before.if1.false) in
+    let l : 0 < kept_count c.before.before.before.before.before.before.before.before.before.before.before.before.args.constraints.now c.before.before.before.before.before.before.before.before.before.before.before.before.args.s = omega (arith, c.before.before.before.before.before.before.before.before.before.before.kept-count.ensures, c.before.before.before.before.before.before.before.before.before.if1.false) in
     let q = back32 c.before.before.word-of.result (record { sfits = c.before.before.word-of.type-inv }) in
-    let w = word-is (keptCount c.before.before.before.before.before.before.before.before.before.before.before.before.args.constraints.now c.before.before.before.before.before.before.before.before.before.before.before.before.args.s - 1) (omega (arith, most-small c.before.before.before.before.before.before.before.before.before.before.before.before.args.s, kept_in c.before.before.before.before.before.before.before.before.before.before.before.before.args.constraints.now c.before.before.before.before.before.before.before.before.before.before.before.before.args.s)) in
+    let w = word-is (kept_count c.before.before.before.before.before.before.before.before.before.before.before.before.args.constraints.now c.before.before.before.before.before.before.before.before.before.before.before.before.args.s - 1) (omega (arith, most-small c.before.before.before.before.before.before.before.before.before.before.before.before.args.s, kept_in c.before.before.before.before.before.before.before.before.before.before.before.before.args.constraints.now c.before.before.before.before.before.before.before.before.before.before.before.before.args.s)) in
     rw (lt-ltb _ _ l) (cc)
 
 pub unkeep-spec : {M : Type 1} → statement M

@@ -4,8 +4,8 @@ use native.Mathlib.Omega.{arith}
 use borrow.Author.Tests.{lt-ltb, le-ltb, le-leb, lt-leb}
 use Rattle.words.proofs.Signed.{back32}
 use Rattle.words.proofs.Laws.{word-is}
-use Rattle.tables.specs.Sizes.{countWord}
-use Rattle.tables.specs.Records.{recordCount, withRecord}
+use Rattle.tables.specs.Sizes.{count_word}
+use Rattle.tables.specs.Records.{record_count, with_record}
 use borrow.Author.Rules.{rules}
 use Rattle.tables.proofs.records.add_record.Statement.{statement}
 use Rattle.tables.proofs.records.add_record.Tie as tie
@@ -26,7 +26,7 @@ same_length c = search rules
 
 -- src/records.rt:65:9
 returns : tie.Need-returns
-unfolding withRecord
+unfolding with_record
 returns c = rw (le-ltb _ 64 (rw c.before.record-count.ensures at c.if1.true))
 
 -- src/records.rt:68:9
@@ -35,7 +35,7 @@ same-length-2 c = search rules
 
 -- src/records.rt:68:9
 returns-2 : tie.Need-returns-2
-unfolding withRecord
+unfolding with_record
 returns-2 c = rw (lt-ltb _ 64 (rw c.before.before.record-count.ensures at c.before.if1.false), lt-leb c.before.before.before.before.args.n 8 c.if2.true)
 
 -- src/records.rt:70:14
@@ -84,13 +84,13 @@ same-length-3 c = search rules
 
 -- src/records.rt:60:1
 returns-3 : tie.Need-returns-3
-unfolding withRecord countWord
+unfolding with_record count_word
 returns-3 c =
-    let l : recordCount c.before.before.before.before.before.before.before.before.before.before.before.before.before.before.before.args.heap.now < 64 = rw c.before.before.before.before.before.before.before.before.before.before.before.before.before.record-count.ensures at c.before.before.before.before.before.before.before.before.before.before.before.before.if1.false in
+    let l : record_count c.before.before.before.before.before.before.before.before.before.before.before.before.before.before.before.args.heap.now < 64 = rw c.before.before.before.before.before.before.before.before.before.before.before.before.before.record-count.ensures at c.before.before.before.before.before.before.before.before.before.before.before.before.if1.false in
     let p = back32 c.before.before.before.before.before.before.word-of.result (record { sfits = c.before.before.before.before.before.before.word-of.type-inv }) in
     let q = back32 c.before.before.word-of2.result (record { sfits = c.before.before.word-of2.type-inv }) in
     let v = word-is c.before.before.before.before.before.before.before.before.before.before.before.before.before.before.before.args.n (omega (arith, c.before.before.before.before.before.before.before.before.before.before.before.if2.false)) in
-    let w = word-is (recordCount c.before.before.before.before.before.before.before.before.before.before.before.before.before.before.before.args.heap.now + 1) (omega arith) in
+    let w = word-is (record_count c.before.before.before.before.before.before.before.before.before.before.before.before.before.before.before.args.heap.now + 1) (omega arith) in
     rw (lt-ltb _ 64 l, le-leb c.before.before.before.before.before.before.before.before.before.before.before.before.before.before.before.args.n 8 c.before.before.before.before.before.before.before.before.before.before.before.if2.false) (cc)
 
 pub add-record-spec : {M : Type 1} → statement M

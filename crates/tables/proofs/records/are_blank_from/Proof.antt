@@ -1,7 +1,7 @@
 use mathlib.Core.Path.{◌∙◌}
 use native.Mathlib.Omega.{arith}
 use Prim.Native.Nat.{◌+◌, ◌*◌, ◌-◌}
-use Rattle.tables.specs.Sizes.{countWord}
+use Rattle.tables.specs.Sizes.{count_word}
 use Rattle.tables.proofs.ClearLaws.{clear-part, from-clear, from-full}
 use borrow.Author.Rules.{rules}
 use Rattle.tables.proofs.records.are_blank_from.Statement.{statement}
@@ -46,7 +46,7 @@ is-clear-requires c κs = search rules
 
 -- src/records.rt:88:1
 returns-2 : tie.Need-returns-2
-unfolding countWord
+unfolding count_word
 returns-2 c =
     clear-part c.before.before.before.before.args.heap.now (25 * c.before.before.before.before.args.n + 1) (1600 - 25 * c.before.before.before.before.args.n) c.before.before.part-from.ensures c.before.part-to.ensures c.is-clear.ensures
     ∙ from-clear c.before.before.before.before.args.heap.now c.before.before.before.before.args.n (omega (arith, c.before.before.before.if1.false))

@@ -2,8 +2,8 @@ use mathlib.Core.Path.{◌≡◌, sym, ◌∙◌}
 use Prim.Native.Nat.{◌<◌, ◌≤◌}
 use borrow.Author.Tests.{lt-ltb, le-ltb}
 use Rattle.words.proofs.Signed.{back32}
-use Rattle.tables.specs.Sizes.{countWord}
-use Rattle.tables.specs.Records.{broughtBack}
+use Rattle.tables.specs.Sizes.{count_word}
+use Rattle.tables.specs.Records.{brought_back}
 use borrow.Author.Rules.{rules}
 use Rattle.tables.proofs.records.bring_back.Statement.{statement}
 use Rattle.tables.proofs.records.bring_back.Tie as tie
@@ -33,7 +33,7 @@ same_length c = search rules
 
 -- src/records.rt:110:9
 returns : tie.Need-returns
-unfolding broughtBack
+unfolding brought_back
 returns c =
     let v = back32 c.before.before.before.before.word_at.result (record { sfits = c.before.before.before.before.word_at.type-inv }) in
     rw (le-ltb _ 64 (rw c.before.number_at.ensures at c.if1.true)) (cc)
@@ -60,7 +60,7 @@ same-length-2 c = search rules
 
 -- src/records.rt:104:1
 returns-2 : tie.Need-returns-2
-unfolding broughtBack countWord
+unfolding brought_back count_word
 returns-2 c =
     let v = back32 c.before.before.before.before.before.before.before.before.word_at.result (record { sfits = c.before.before.before.before.before.before.before.before.word_at.type-inv }) in
     rw (lt-ltb _ 64 (rw c.before.before.before.before.before.number_at.ensures at c.before.before.before.before.if1.false)) (cc)

@@ -4,8 +4,8 @@ use native.Mathlib.Omega.{arith}
 use borrow.Author.Tests.{lt-ltb, le-ltb, le-leb, lt-leb}
 use Rattle.words.proofs.Signed.{back32}
 use Rattle.words.proofs.Laws.{word-is}
-use Rattle.tables.specs.Sizes.{countWord}
-use Rattle.tables.specs.Records.{recordCount, withoutRecord}
+use Rattle.tables.specs.Sizes.{count_word}
+use Rattle.tables.specs.Records.{record_count, without_record}
 use borrow.Author.Rules.{rules}
 use Rattle.tables.proofs.records.drop_record.Statement.{statement}
 use Rattle.tables.proofs.records.drop_record.Tie as tie
@@ -26,9 +26,9 @@ same_length c = search rules
 
 -- src/records.rt:82:9
 returns : tie.Need-returns
-unfolding withoutRecord
+unfolding without_record
 returns c =
-    let l : recordCount c.before.before.before.args.heap.now ≤ 0 = omega (arith, c.before.record-count.ensures, c.if1.true) in
+    let l : record_count c.before.before.before.args.heap.now ≤ 0 = omega (arith, c.before.record-count.ensures, c.if1.true) in
     rw (le-ltb 0 _ l)
 
 -- src/records.rt:85:9
@@ -37,9 +37,9 @@ same-length-2 c = search rules
 
 -- src/records.rt:85:9
 returns-2 : tie.Need-returns-2
-unfolding withoutRecord
+unfolding without_record
 returns-2 c =
-    let l : 0 < recordCount c.before.before.before.before.args.heap.now = omega (arith, c.before.before.record-count.ensures, c.before.if1.false) in
+    let l : 0 < record_count c.before.before.before.before.args.heap.now = omega (arith, c.before.before.record-count.ensures, c.before.if1.false) in
     rw (lt-ltb 0 _ l, lt-leb _ 64 (rw c.before.before.record-count.ensures at c.if2.true))
 
 -- src/records.rt:87:30
@@ -76,12 +76,12 @@ same-length-3 c = search rules
 
 -- src/records.rt:77:1
 returns-3 : tie.Need-returns-3
-unfolding withoutRecord countWord
+unfolding without_record count_word
 returns-3 c =
-    let l : 0 < recordCount c.before.before.before.before.before.before.before.before.before.before.before.args.heap.now = omega (arith, c.before.before.before.before.before.before.before.before.before.record-count.ensures, c.before.before.before.before.before.before.before.before.if1.false) in
-    let m : recordCount c.before.before.before.before.before.before.before.before.before.before.before.args.heap.now ≤ 64 = rw c.before.before.before.before.before.before.before.before.before.record-count.ensures at c.before.before.before.before.before.before.before.if2.false in
+    let l : 0 < record_count c.before.before.before.before.before.before.before.before.before.before.before.args.heap.now = omega (arith, c.before.before.before.before.before.before.before.before.before.record-count.ensures, c.before.before.before.before.before.before.before.before.if1.false) in
+    let m : record_count c.before.before.before.before.before.before.before.before.before.before.before.args.heap.now ≤ 64 = rw c.before.before.before.before.before.before.before.before.before.record-count.ensures at c.before.before.before.before.before.before.before.if2.false in
     let q = back32 c.before.before.word-of.result (record { sfits = c.before.before.word-of.type-inv }) in
-    let w = word-is (recordCount c.before.before.before.before.before.before.before.before.before.before.before.args.heap.now - 1) (omega arith) in
+    let w = word-is (record_count c.before.before.before.before.before.before.before.before.before.before.before.args.heap.now - 1) (omega arith) in
     rw (lt-ltb 0 _ l, le-leb _ 64 m) (cc)
 
 pub drop-record-spec : {M : Type 1} → statement M

@@ -1,5 +1,5 @@
 use borrow.Author.Tests.{lt-ltb, le-ltb}
-use Rattle.tables.specs.Sizes.{fieldWord}
+use Rattle.tables.specs.Sizes.{field_word}
 use Rattle.tables.specs.Records.{field_at}
 use borrow.Author.Rules.{rules}
 use Rattle.tables.proofs.records.field_at.Statement.{statement}
@@ -40,7 +40,7 @@ pair-at-requires c κs = search rules
 
 -- src/records.rt:56:1
 returns-3 : tie.Need-returns-3
-unfolding field_at fieldWord
+unfolding field_at field_word
 returns-3 c = rw (lt-ltb c.before.before.before.args.r 64 c.before.before.if1.false, lt-ltb c.before.before.before.args.f 8 c.before.if2.false) c.pair-at.ensures
 
 pub field-at-spec : {M : Type 1} → statement M

@@ -1,5 +1,5 @@
 use borrow.Author.Tests.{le-leb, lt-leb}
-use Rattle.tables.specs.Records.{fieldCount}
+use Rattle.tables.specs.Records.{field_count}
 use borrow.Author.Rules.{rules}
 use Rattle.tables.proofs.records.field_count.Statement.{statement}
 use Rattle.tables.proofs.records.field_count.Tie as tie
@@ -13,12 +13,12 @@ count-at-requires c κs = search rules
 
 -- src/records.rt:37:9
 returns : tie.Need-returns
-unfolding fieldCount
+unfolding field_count
 returns c = rw (lt-leb _ 8 (rw c.before.count_at.ensures at c.if1.true))
 
 -- src/records.rt:32:1
 returns-2 : tie.Need-returns-2
-unfolding fieldCount
+unfolding field_count
 returns-2 c = rw (le-leb _ 8 (rw c.before.count_at.ensures at c.if1.false)) c.before.count_at.ensures
 
 pub field-count-spec : {M : Type 1} → statement M

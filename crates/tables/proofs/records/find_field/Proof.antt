@@ -4,8 +4,8 @@ use Prim.Native.Nat.{◌-◌, ◌≤◌, ◌<◌}
 use native.Mathlib.Omega.{arith}
 use lib.Dec.{eqb}
 use borrow.Author.Tests.{ne_eqb}
-use Rattle.tables.specs.Sizes.{fieldLocation}
-use Rattle.tables.specs.Records.{fieldCount, labelAt}
+use Rattle.tables.specs.Sizes.{field_location}
+use Rattle.tables.specs.Records.{field_count, label_at}
 use Rattle.tables.proofs.SearchLaws.{Seeking, seeking-starts, seeking-goes-on}
 use Rattle.tables.proofs.FindLaws.{field_in, find-hits, find-ends}
 use Rattle.tables.proofs.records.find_field.Statement.{statement}
@@ -16,7 +16,7 @@ use Rattle.tables.proofs.records.field_count.Reads as field-count-reads
 use Rattle.tables.proofs.records.label_at.Reads as label-at-reads
 
 abbrev invariant-loop : tie.invariant-loop
-invariant-loop heap r label n f₀ f = (n ≡ fieldCount heap r) × Seeking (λ g. eqb (labelAt heap r g) label) (fieldCount heap r) f
+invariant-loop heap r label n f₀ f = (n ≡ field_count heap r) × Seeking (λ g. eqb (label_at heap r g) label) (field_count heap r) f
 
 abbrev decreases-loop : tie.decreases-loop
 decreases-loop heap r label n f₀ f = n - f
@@ -47,7 +47,7 @@ add-t10 c = omega (arith, (field_in c.before.before.before.before.before.args.he
 
 -- src/records.rt:52:13
 returns : tie.Need-returns invariant-loop decreases-loop
-unfolding fieldLocation
+unfolding field_location
 returns c = find-hits c.before.before.before.before.before.args.heap.now c.before.before.before.before.before.args.r c.before.before.before.before.before.args.label c.before.before.before.loop.f c.before.before.before.loop.invariant.1 (rw c.before.before.before.loop.invariant.0 at c.before.before.loop-test.true) (sym c.before.label_at.ensures ∙ c.if1.true)
 
 -- src/records.rt:54:9

@@ -1,6 +1,6 @@
 use borrow.Author.Tests.{lt-ltb, le-ltb}
-use Rattle.tables.specs.Sizes.{labelWord}
-use Rattle.tables.specs.Records.{blankPlace}
+use Rattle.tables.specs.Sizes.{label_word}
+use Rattle.tables.specs.Records.{blank_place}
 use borrow.Author.Rules.{rules}
 use Rattle.tables.proofs.records.is_blank.Statement.{statement}
 use Rattle.tables.proofs.records.is_blank.Tie as tie
@@ -10,12 +10,12 @@ use Rattle.tables.proofs.cells.are_zeros.Reads as are-zeros-reads
 
 -- src/records.rt:79:9
 returns : tie.Need-returns
-unfolding blankPlace
+unfolding blank_place
 returns c = rw (le-ltb c.before.args.r 64 c.if1.true)
 
 -- src/records.rt:82:9
 returns-2 : tie.Need-returns-2
-unfolding blankPlace
+unfolding blank_place
 returns-2 c = rw (lt-ltb c.before.before.args.r 64 c.before.if1.false, le-ltb c.before.before.args.f 8 c.if2.true)
 
 -- src/records.rt:84:21
@@ -40,7 +40,7 @@ are-zeros-requires c κs = search rules
 
 -- src/records.rt:75:1
 returns-3 : tie.Need-returns-3
-unfolding blankPlace labelWord
+unfolding blank_place label_word
 returns-3 c = rw (lt-ltb c.before.before.before.args.r 64 c.before.before.if1.false, lt-ltb c.before.before.before.args.f 8 c.before.if2.false) c.are-zeros.ensures
 
 pub is-blank-spec : {M : Type 1} → statement M

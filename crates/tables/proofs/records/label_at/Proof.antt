@@ -1,6 +1,6 @@
 use borrow.Author.Tests.{lt-ltb, le-ltb}
-use Rattle.tables.specs.Sizes.{labelWord}
-use Rattle.tables.specs.Records.{labelAt}
+use Rattle.tables.specs.Sizes.{label_word}
+use Rattle.tables.specs.Records.{label_at}
 use borrow.Author.Rules.{rules}
 use Rattle.tables.proofs.records.label_at.Statement.{statement}
 use Rattle.tables.proofs.records.label_at.Tie as tie
@@ -10,12 +10,12 @@ use Rattle.words.proofs.number_at.Reads as number-at-reads
 
 -- src/records.rt:36:9
 returns : tie.Need-returns
-unfolding labelAt
+unfolding label_at
 returns c = rw (le-ltb c.before.args.r 64 c.if1.true)
 
 -- src/records.rt:39:9
 returns-2 : tie.Need-returns-2
-unfolding labelAt
+unfolding label_at
 returns-2 c = rw (lt-ltb c.before.before.args.r 64 c.before.if1.false, le-ltb c.before.before.args.f 8 c.if2.true)
 
 -- src/records.rt:41:28
@@ -40,7 +40,7 @@ number-at-requires c κs = search rules
 
 -- src/records.rt:32:1
 returns-3 : tie.Need-returns-3
-unfolding labelAt labelWord
+unfolding label_at label_word
 returns-3 c = rw (lt-ltb c.before.before.before.args.r 64 c.before.before.if1.false, lt-ltb c.before.before.before.args.f 8 c.before.if2.false) c.number_at.ensures
 
 pub label-at-spec : {M : Type 1} → statement M

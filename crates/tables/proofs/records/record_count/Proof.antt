@@ -1,4 +1,4 @@
-use Rattle.tables.specs.Records.{recordCount}
+use Rattle.tables.specs.Records.{record_count}
 use borrow.Author.Rules.{rules}
 use Rattle.tables.proofs.records.record_count.Statement.{statement}
 use Rattle.tables.proofs.records.record_count.Tie as tie
@@ -12,7 +12,7 @@ number-at-requires c κs = search rules
 
 -- src/records.rt:11:1
 returns : tie.Need-returns
-unfolding recordCount
+unfolding record_count
 returns c = c.number_at.ensures
 
 pub record-count-spec : {M : Type 1} → statement M

@@ -1,5 +1,5 @@
 use borrow.Author.Tests.{lt-ltb}
-use Rattle.text.specs.Told.{tableWith}
+use Rattle.text.specs.Told.{table_with}
 use Rattle.text.proofs.NamingLaws.{table-with}
 use borrow.Author.Rules.{rules}
 use Rattle.text.proofs.naming.with_name.Statement.{statement}
@@ -11,7 +11,7 @@ use Rattle.words.proofs.less.Reads as less-reads
 
 -- src/naming.rt:73:9
 returns : tie.Need-returns
-unfolding tableWith
+unfolding table_with
 returns c = rw (lt-ltb c.before.before.args.number c.before.before.args.count c.if1.true)
 
 -- src/naming.rt:75:20

@@ -1,5 +1,5 @@
 use mathlib.Core.Path.{refl}
-use Rattle.text.specs.Reading.{dueAfter}
+use Rattle.text.specs.Reading.{due_after}
 use Rattle.text.proofs.reading.due_after.Statement.{statement}
 use Rattle.text.proofs.reading.due_after.Tie as tie
 use Rattle.text.proofs.reading.due_after.Reads as reads
@@ -7,7 +7,7 @@ use Rattle.text.proofs.reading.due_after.Lts as lts
 
 -- src/reading.rt:18:1
 returns : tie.Need-returns
-unfolding dueAfter
+unfolding due_after
 returns c = refl
 
 pub due-after-spec : {M : Type 1} → statement M

@@ -1,7 +1,7 @@
 use mathlib.Core.Path.{◌≡◌, refl, sym, ap, ◌∙◌}
 use native.Mathlib.Omega.{arith}
 use lib.ListN.{get_or, set}
-use Rattle.text.specs.Told.{carried, next_of, tookBy, namedLabel}
+use Rattle.text.specs.Told.{carried, next_of, took_by, named_label}
 use Rattle.text.proofs.NamingLaws.{most-small}
 use Rattle.text.proofs.ToldLaws.{numbers-stopped, label-unnamed, label-full, label-seen, label-stopped, label-named}
 use Rattle.text.proofs.StateLaws.{row_label, took_number, took_numbers, took-label}
@@ -209,15 +209,15 @@ returns-6 c =
     let r = carried a.s.now in
     let m = c.before.count-with.result in
     let n = e.before.before.number_in.result in
-    let is : carried (set c.put.new.0 9 n) ≡ namedLabel m n (tookBy a.text.now 1 r) =
-    rw c.put.ensures (row_label d.before.taken.new.1.0 c.before.before.put-arg2.given.0.1 m n ∙ ap (namedLabel m n) d.before.taken.ensures) in (
+    let is : carried (set c.put.new.0 9 n) ≡ named_label m n (took_by a.text.now 1 r) =
+    rw c.put.ensures (row_label d.before.taken.new.1.0 c.before.before.put-arg2.given.0.1 m n ∙ ap (named_label m n) d.before.taken.ensures) in (
       λ h.
           took-label a.text.now 1 r m n is
           (label-named a.text.now a.names.now r (next_of r) g.before.before.before.if1.false h g.before.if2.false f.at_most.ensures
           e.before.before.number_in.ensures a.seen.now (sym e.before.is_among.ensures ∙ e.if3.false) d.before.before.before.if4.false refl
           (sym (took_number a.text.now 1 r) ∙ sym (ap (λ q. q.number) d.before.taken.ensures) ∙ b.before.before.before.if5.false) b.before.with-name.ensures
           c.before.count-with.ensures refl),
-      λ h. ahead-label a.text.now (tookBy a.text.now 1 r) m n is (ahead-took a.text.now r 1 refl h),
+      λ h. ahead-label a.text.now (took_by a.text.now 1 r) m n is (ahead-took a.text.now r 1 refl h),
     )
 
 pub label-spec : {M : Type 1} → statement M

@@ -1,6 +1,6 @@
 use borrow.Author.Tests.{eq-eqb, ne_eqb}
 use lib.ListN.{get_or}
-use Rattle.text.specs.Told.{carried, refusedBy}
+use Rattle.text.specs.Told.{carried, refused_by}
 use borrow.Author.Rules.{rules}
 use Rattle.text.proofs.reading.refused.Statement.{statement}
 use Rattle.text.proofs.reading.refused.Tie as tie
@@ -18,7 +18,7 @@ refused-at-requires c κs = search rules
 
 -- src/reading.rt:67:9
 returns : tie.Need-returns
-unfolding refusedBy carried
+unfolding refused_by carried
 returns c = rw (eq-eqb (get_or c.before.before.before.before.args.s.now 12 0) 4 c.before.before.if1.true) c.refused-at.ensures
 
 -- src/reading.rt:69:5
@@ -27,7 +27,7 @@ refused-at-requires-2 c κs = search rules
 
 -- src/reading.rt:62:1
 returns-2 : tie.Need-returns-2
-unfolding refusedBy carried
+unfolding refused_by carried
 returns-2 c = rw (ne_eqb (get_or c.before.before.before.before.args.s.now 12 0) 4 c.before.before.if1.false) c.refused-at2.ensures
 
 pub refused-spec : {M : Type 1} → statement M

@@ -1,7 +1,7 @@
 use mathlib.Core.Path.{◌≡◌, refl, sym, ap, ◌∙◌}
 use native.Mathlib.Omega.{arith}
 use lib.ListN.{get_or, set}
-use Rattle.text.specs.Told.{carried, next_of, tookBy, namedVariable}
+use Rattle.text.specs.Told.{carried, next_of, took_by, named_variable}
 use Rattle.text.proofs.NamingLaws.{most-small}
 use Rattle.text.proofs.ToldLaws.{numbers-stopped, variable-unnamed, variable-full, variable-stopped, variable-named}
 use Rattle.text.proofs.StateLaws.{row-variable, took_number, took_numbers, took-variable}
@@ -175,15 +175,15 @@ returns-5 c =
     let r = carried a.s.now in
     let m = c.before.count-with.result in
     let n = e.number_in.result in
-    let is : carried (set c.put.new.0 9 n) ≡ namedVariable m n (tookBy a.text.now a.k r) =
-    rw c.put.ensures (row-variable d.before.taken.new.1.0 c.before.before.put-arg2.given.0.1 m n ∙ ap (namedVariable m n) d.before.taken.ensures) in (
+    let is : carried (set c.put.new.0 9 n) ≡ named_variable m n (took_by a.text.now a.k r) =
+    rw c.put.ensures (row-variable d.before.taken.new.1.0 c.before.before.put-arg2.given.0.1 m n ∙ ap (named_variable m n) d.before.taken.ensures) in (
       λ h.
           took-variable a.text.now a.k r m n is
           (variable-named a.text.now a.names.now r (next_of r) g.before.if1.false h f.before.before.before.if2.false e.before.before.at_most.ensures
           e.number_in.ensures a.k d.before.before.before.if3.false refl
           (sym (took_number a.text.now a.k r) ∙ sym (ap (λ q. q.number) d.before.taken.ensures) ∙ b.before.before.before.if4.false) b.before.with-name.ensures
           c.before.count-with.ensures refl),
-      λ h. ahead-variable a.text.now (tookBy a.text.now a.k r) m n is (ahead-took a.text.now r a.k refl h),
+      λ h. ahead-variable a.text.now (took_by a.text.now a.k r) m n is (ahead-took a.text.now r a.k refl h),
     )
 
 pub variable-spec : {M : Type 1} → statement M

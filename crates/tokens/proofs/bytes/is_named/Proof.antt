@@ -1,5 +1,5 @@
 use mathlib.Core.Path.{sym, ◌∙◌}
-use Rattle.tokens.specs.Bytes.{isNamed}
+use Rattle.tokens.specs.Bytes.{is_named}
 use borrow.Author.Rules.{rules}
 use Rattle.tokens.proofs.bytes.is_named.Statement.{statement}
 use Rattle.tokens.proofs.bytes.is_named.Tie as tie
@@ -13,7 +13,7 @@ is-between-requires c κs = search rules
 
 -- src/bytes.rt:57:9
 returns : tie.Need-returns
-unfolding isNamed
+unfolding is_named
 returns c = rw (sym c.before.is-between.ensures ∙ c.if1.true)
 
 -- src/bytes.rt:59:8
@@ -22,7 +22,7 @@ is-between-requires-2 c κs = search rules
 
 -- src/bytes.rt:60:9
 returns-2 : tie.Need-returns-2
-unfolding isNamed
+unfolding is_named
 returns-2 c = rw (sym c.before.before.before.is-between.ensures ∙ c.before.before.if1.false, sym c.before.is-between2.ensures ∙ c.if2.true)
 
 -- src/bytes.rt:62:8
@@ -31,7 +31,7 @@ is-between-requires-3 c κs = search rules
 
 -- src/bytes.rt:63:9
 returns-3 : tie.Need-returns-3
-unfolding isNamed
+unfolding is_named
 returns-3 c =
     let a = c.before.before.before in
     let b = a.before in
@@ -41,7 +41,7 @@ returns-3 c =
 
 -- src/bytes.rt:53:1
 returns-4 : tie.Need-returns-4
-unfolding isNamed
+unfolding is_named
 returns-4 c =
     let a = c.before.before.before in
     let b = a.before in

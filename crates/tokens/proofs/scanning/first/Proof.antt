@@ -1,8 +1,8 @@
 use mathlib.Core.Path.{sym, ap, ◌∙◌}
 use native.Mathlib.Omega.{arith}
 use lib.ListN.{drop, length-drop}
-use Rattle.tokens.specs.Bytes.{isDigit, run}
-use Rattle.tokens.specs.Codes.{numberCode}
+use Rattle.tokens.specs.Bytes.{is_digit, run}
+use Rattle.tokens.specs.Codes.{number_code}
 use Rattle.tokens.specs.Tokens.{piece}
 use Rattle.tokens.proofs.ByteLaws.{run_length}
 use Rattle.tokens.proofs.TokenLaws.{first-end, first-name, first-number, signed-told, first-mark}
@@ -60,7 +60,7 @@ returns-3 c =
     let b = a.before in
     let d = b.before.before in
     let e = d.before.before in
-    ap (λ k. piece numberCode k) c.run.ensures ∙ first-number e.args.due e.args.s.now d.if1.false (sym b.is-of.ensures ∙ a.if2.false)
+    ap (λ k. piece number_code k) c.run.ensures ∙ first-number e.args.due e.args.s.now d.if1.false (sym b.is-of.ensures ∙ a.if2.false)
     (sym c.before.before.is-of2.ensures ∙ c.before.if3.true)
 
 -- src/scanning.rt:99:8
@@ -79,7 +79,7 @@ run-requires-2 c κs = search rules
 add-t17 : tie.Need-overflow-add-t17
 add-t17 c =
     let a = c.before.before.before.before.before.before.before.before.before.before.before.before in
-    omega (arith, run_length isDigit (drop 1 a.args.s.now), length-drop 1 a.args.s.now, c.run2.ensures ∙ ap (run isDigit) c.before.bytes-from.ensures)
+    omega (arith, run_length is_digit (drop 1 a.args.s.now), length-drop 1 a.args.s.now, c.run2.ensures ∙ ap (run is_digit) c.before.bytes-from.ensures)
 
 -- src/scanning.rt:100:9
 returns-4 : tie.Need-returns-4
@@ -92,7 +92,7 @@ returns-4 c =
     let g = f.before.before in
     let j = g.before.before in
     signed-told j.args.due j.args.s.now g.if1.false (sym f.is-of.ensures ∙ e.if2.false) (sym d.is-of2.ensures ∙ b.if3.false)
-    (sym a.is_Signed.ensures ∙ c.before.before.if4.true) (c.run2.ensures ∙ ap (run isDigit) c.before.bytes-from.ensures)
+    (sym a.is_Signed.ensures ∙ c.before.before.if4.true) (c.run2.ensures ∙ ap (run is_digit) c.before.bytes-from.ensures)
 
 -- src/scanning.rt:105:5
 mark-requires : tie.Need-mark-requires

@@ -1,7 +1,7 @@
 use mathlib.Core.Path.{sym, ap, ◌∙◌}
 use borrow.Author.Tests.{not-true, not-false, eq-eqb, ne_eqb}
 use lib.ListN.{get_or}
-use Rattle.tokens.specs.Bytes.{isDigit}
+use Rattle.tokens.specs.Bytes.{is_digit}
 use Rattle.tokens.specs.Tokens.{signs}
 use borrow.Author.Rules.{rules}
 use Rattle.tokens.proofs.scanning.is_signed.Statement.{statement}
@@ -43,7 +43,7 @@ returns-3 c =
     let b = a.before in
     let d = b.before.before in
     rw (not-false d.args.due b.if1.false, eq-eqb (get_or d.args.s.now 0 0) 45 (sym a.byte.ensures ∙ c.before.before.if2.false))
-    (c.is-of.ensures ∙ ap isDigit c.before.byte2.ensures)
+    (c.is-of.ensures ∙ ap is_digit c.before.byte2.ensures)
 
 pub is-signed-spec : {M : Type 1} → statement M
 is-signed-spec =

@@ -1,9 +1,9 @@
 use mathlib.Core.Path.{sym, ap, ◌∙◌}
 use mathlib.Core.List.{◌∷◌, []}
 use lib.ListN.{get_or}
-use Rattle.tokens.specs.Codes.{noToken}
+use Rattle.tokens.specs.Codes.{no_token}
 use Rattle.tokens.specs.Spelling.{code_of, pairs}
-use Rattle.tokens.specs.Tokens.{piece, singleAt}
+use Rattle.tokens.specs.Tokens.{piece, single_at}
 use Rattle.tokens.proofs.TokenLaws.{mark-last, mark-single, mark-pair}
 use borrow.Author.Rules.{rules}
 use Rattle.tokens.proofs.scanning.mark.Statement.{statement}
@@ -26,7 +26,7 @@ single-mark-requires c κs = search rules
 returns : tie.Need-returns
 returns c =
     let a = c.before.before.before.before in
-    c.single-mark.ensures ∙ ap singleAt c.before.before.byte.ensures ∙ mark-last a.args.s.now c.before.if1.true
+    c.single-mark.ensures ∙ ap single_at c.before.before.byte.ensures ∙ mark-last a.args.s.now c.before.if1.true
 
 -- src/scanning.rt:57:24
 shared-slice-read-pair : tie.Need-shared-slice-read-pair
@@ -46,8 +46,8 @@ returns-2 c =
     let a = c.before.before.before.before in
     let d = a.before in
     let e = d.before.before in
-    c.single-mark2.ensures ∙ ap singleAt d.byte.ensures ∙ mark-single e.args.s.now a.if1.false
-    (sym (c.before.before.pair.ensures ∙ ap (λ b. code_of noToken pairs (b ∷ get_or e.args.s.now 1 0 ∷ [])) d.byte.ensures) ∙ c.before.if2.true)
+    c.single-mark2.ensures ∙ ap single_at d.byte.ensures ∙ mark-single e.args.s.now a.if1.false
+    (sym (c.before.before.pair.ensures ∙ ap (λ b. code_of no_token pairs (b ∷ get_or e.args.s.now 1 0 ∷ [])) d.byte.ensures) ∙ c.before.if2.true)
 
 -- src/scanning.rt:50:1
 returns-3 : tie.Need-returns-3
@@ -55,7 +55,7 @@ returns-3 c =
     let a = c.before.before.before in
     let d = a.before in
     let f = d.before.before in
-    let e = (c.before.pair.ensures ∙ ap (λ b. code_of noToken pairs (b ∷ get_or f.args.s.now 1 0 ∷ [])) d.byte.ensures) in ap (λ k. piece k 2) e ∙ mark-pair
+    let e = (c.before.pair.ensures ∙ ap (λ b. code_of no_token pairs (b ∷ get_or f.args.s.now 1 0 ∷ [])) d.byte.ensures) in ap (λ k. piece k 2) e ∙ mark-pair
     f.args.s.now a.if1.false (λ z. c.if2.false (e ∙ z))
 
 pub mark_spec : {M : Type 1} → statement M

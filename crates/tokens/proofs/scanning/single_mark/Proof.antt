@@ -1,5 +1,5 @@
 use mathlib.Core.Path.{ap}
-use Rattle.tokens.specs.Tokens.{piece, singleAt}
+use Rattle.tokens.specs.Tokens.{piece, single_at}
 use borrow.Author.Rules.{rules}
 use Rattle.tokens.proofs.scanning.single_mark.Statement.{statement}
 use Rattle.tokens.proofs.scanning.single_mark.Tie as tie
@@ -13,7 +13,7 @@ single-requires c κs = search rules
 
 -- src/scanning.rt:40:1
 returns : tie.Need-returns
-unfolding singleAt
+unfolding single_at
 returns c = ap (λ k. piece k 1) c.single.ensures
 
 pub single-mark-spec : {M : Type 1} → statement M

@@ -1,7 +1,7 @@
 use mathlib.Core.Path.{ap, ◌∙◌}
 use native.Mathlib.Omega.{arith}
 use Rattle.tokens.specs.Bytes.{trimmed}
-use Rattle.tokens.specs.Tokens.{restFrom}
+use Rattle.tokens.specs.Tokens.{rest_from}
 use Rattle.tokens.proofs.TokenLaws.{rest-shorter, token-past, token-in}
 use Rattle.tokens.proofs.TokenRules.{end-inside}
 use borrow.Author.Rules.{rules}
@@ -27,14 +27,14 @@ first-requires c κs = search rules
 
 -- src/scanning.rt:114:17
 sub-place : tie.Need-overflow-sub-place
-unfolding restFrom
+unfolding rest_from
 sub-place c =
     let a = c.before.before.before.before in
     rest-shorter a.args.due a.args.text.now a.args.at (c.before.behind-white.ensures ∙ ap trimmed c.before.before.bytes-from.ensures)
 
 -- src/scanning.rt:115:15
 add-end : tie.Need-overflow-add-end
-unfolding restFrom
+unfolding rest_from
 add-end c =
     let a = c.before.before.before in
     let b = a.before.before in
@@ -46,7 +46,7 @@ add-end c =
 
 -- src/scanning.rt:117:9
 returns : tie.Need-returns
-unfolding restFrom
+unfolding rest_from
 returns c =
     let a = c.before.before.before in
     let b = a.before in
@@ -56,7 +56,7 @@ returns c =
 
 -- src/scanning.rt:109:1
 returns-2 : tie.Need-returns-2
-unfolding restFrom
+unfolding rest_from
 returns-2 c =
     let a = c.before.before.before in
     let b = a.before in

@@ -1,4 +1,4 @@
-use Rattle.tokens.specs.Codes.{nameCode}
+use Rattle.tokens.specs.Codes.{name_code}
 use Rattle.tokens.proofs.SpellingLaws.{passed, row_at}
 use mathlib.Core.Path.{refl, sym, ◌∙◌}
 use Rattle.tokens.specs.Spelling.{keywords}
@@ -21,7 +21,7 @@ spells-requires c κs = search rules
 -- src/spelling.rt:13:9
 returns : tie.Need-returns
 unfolding keywords
-returns c = row_at nameCode 0 keywords c.before.before.before.before.args.word.now tt refl (sym c.before.spells.ensures ∙ c.if1.true)
+returns c = row_at name_code 0 keywords c.before.before.before.before.args.word.now tt refl (sym c.before.spells.ensures ∙ c.if1.true)
 
 -- src/spelling.rt:15:21
 slice-aggregate-spells-2 : tie.Need-slice-aggregate-spells-2
@@ -38,7 +38,7 @@ returns-2 c =
     let a = c.before.before.before in
     let b = a.before in
     let d = b.before.before.before in
-    row_at nameCode 1 keywords d.args.word.now (sym b.spells.ensures ∙ a.if1.false, tt) refl (sym c.before.spells2.ensures ∙ c.if2.true)
+    row_at name_code 1 keywords d.args.word.now (sym b.spells.ensures ∙ a.if1.false, tt) refl (sym c.before.spells2.ensures ∙ c.if2.true)
 
 -- src/spelling.rt:18:21
 slice-aggregate-spells-3 : tie.Need-slice-aggregate-spells-3
@@ -57,7 +57,7 @@ returns-3 c =
     let d = b.before.before in
     let e = d.before in
     let f = e.before.before.before in
-    row_at nameCode 2 keywords f.args.word.now (sym e.spells.ensures ∙ d.if1.false, (sym b.spells2.ensures ∙ a.if2.false, tt)) refl
+    row_at name_code 2 keywords f.args.word.now (sym e.spells.ensures ∙ d.if1.false, (sym b.spells2.ensures ∙ a.if2.false, tt)) refl
     (sym c.before.spells3.ensures ∙ c.if3.true)
 
 -- src/spelling.rt:21:21
@@ -79,7 +79,7 @@ returns-4 c =
     let f = e.before.before in
     let g = f.before in
     let j = g.before.before.before in
-    row_at nameCode 3 keywords j.args.word.now
+    row_at name_code 3 keywords j.args.word.now
     (sym g.spells.ensures ∙ f.if1.false, (sym e.spells2.ensures ∙ d.if2.false, (sym b.spells3.ensures ∙ a.if3.false, tt))) refl
     (sym c.before.spells4.ensures ∙ c.if4.true)
 
@@ -104,7 +104,7 @@ returns-5 c =
     let j = g.before.before in
     let k = j.before in
     let l = k.before.before.before in
-    row_at nameCode 4 keywords l.args.word.now (
+    row_at name_code 4 keywords l.args.word.now (
       sym k.spells.ensures ∙ j.if1.false,
       (sym g.spells2.ensures ∙ f.if2.false, (sym e.spells3.ensures ∙ d.if3.false, (sym b.spells4.ensures ∙ a.if4.false, tt))),
     ) refl (sym c.before.spells5.ensures ∙ c.if5.true)
@@ -132,7 +132,7 @@ returns-6 c =
     let l = k.before.before in
     let m = l.before in
     let n = m.before.before.before in
-    row_at nameCode 5 keywords n.args.word.now (
+    row_at name_code 5 keywords n.args.word.now (
       sym m.spells.ensures ∙ l.if1.false,
       (
         sym k.spells2.ensures ∙ j.if2.false,
@@ -165,7 +165,7 @@ returns-7 c =
     let n = m.before.before in
     let o = n.before in
     let p = o.before.before.before in
-    row_at nameCode 6 keywords p.args.word.now (
+    row_at name_code 6 keywords p.args.word.now (
       sym o.spells.ensures ∙ n.if1.false,
       (
         sym m.spells2.ensures ∙ l.if2.false,
@@ -203,7 +203,7 @@ returns-8 c =
     let p = o.before.before in
     let q = p.before in
     let u = q.before.before.before in
-    row_at nameCode 7 keywords u.args.word.now (
+    row_at name_code 7 keywords u.args.word.now (
       sym q.spells.ensures ∙ p.if1.false,
       (
         sym o.spells2.ensures ∙ n.if2.false,
@@ -240,7 +240,7 @@ returns-9 c =
     let p = o.before.before in
     let q = p.before in
     let u = q.before.before.before in
-    c.later-keyword.ensures ∙ passed nameCode 8 keywords u.args.word.now (
+    c.later-keyword.ensures ∙ passed name_code 8 keywords u.args.word.now (
       sym q.spells.ensures ∙ p.if1.false,
       (
         sym o.spells2.ensures ∙ n.if2.false,

@@ -1,7 +1,7 @@
-use Rattle.tokens.specs.Codes.{nameCode}
+use Rattle.tokens.specs.Codes.{name_code}
 use Rattle.tokens.proofs.SpellingLaws.{code-none, passed, row_at}
 use mathlib.Core.Path.{refl, sym, ◌∙◌}
-use Rattle.tokens.specs.Spelling.{laterKeywords}
+use Rattle.tokens.specs.Spelling.{later_keywords}
 use borrow.Author.Rules.{rules}
 use Rattle.tokens.proofs.spelling.later_keyword.Statement.{statement}
 use Rattle.tokens.proofs.spelling.later_keyword.Tie as tie
@@ -19,8 +19,8 @@ spells-requires c κs = search rules
 
 -- src/spelling.rt:43:9
 returns : tie.Need-returns
-unfolding laterKeywords
-returns c = row_at nameCode 0 laterKeywords c.before.before.before.before.args.word.now tt refl (sym c.before.spells.ensures ∙ c.if1.true)
+unfolding later_keywords
+returns c = row_at name_code 0 later_keywords c.before.before.before.before.args.word.now tt refl (sym c.before.spells.ensures ∙ c.if1.true)
 
 -- src/spelling.rt:45:21
 slice-aggregate-spells-2 : tie.Need-slice-aggregate-spells-2
@@ -32,12 +32,12 @@ spells-requires-2 c κs = search rules
 
 -- src/spelling.rt:46:9
 returns-2 : tie.Need-returns-2
-unfolding laterKeywords
+unfolding later_keywords
 returns-2 c =
     let a = c.before.before.before in
     let b = a.before in
     let d = b.before.before.before in
-    row_at nameCode 1 laterKeywords d.args.word.now (sym b.spells.ensures ∙ a.if1.false, tt) refl (sym c.before.spells2.ensures ∙ c.if2.true)
+    row_at name_code 1 later_keywords d.args.word.now (sym b.spells.ensures ∙ a.if1.false, tt) refl (sym c.before.spells2.ensures ∙ c.if2.true)
 
 -- src/spelling.rt:48:21
 slice-aggregate-spells-3 : tie.Need-slice-aggregate-spells-3
@@ -49,14 +49,14 @@ spells-requires-3 c κs = search rules
 
 -- src/spelling.rt:49:9
 returns-3 : tie.Need-returns-3
-unfolding laterKeywords
+unfolding later_keywords
 returns-3 c =
     let a = c.before.before.before in
     let b = a.before in
     let d = b.before.before in
     let e = d.before in
     let f = e.before.before.before in
-    row_at nameCode 2 laterKeywords f.args.word.now (sym e.spells.ensures ∙ d.if1.false, (sym b.spells2.ensures ∙ a.if2.false, tt)) refl
+    row_at name_code 2 later_keywords f.args.word.now (sym e.spells.ensures ∙ d.if1.false, (sym b.spells2.ensures ∙ a.if2.false, tt)) refl
     (sym c.before.spells3.ensures ∙ c.if3.true)
 
 -- src/spelling.rt:51:21
@@ -69,7 +69,7 @@ spells-requires-4 c κs = search rules
 
 -- src/spelling.rt:52:9
 returns-4 : tie.Need-returns-4
-unfolding laterKeywords
+unfolding later_keywords
 returns-4 c =
     let a = c.before.before.before in
     let b = a.before in
@@ -78,7 +78,7 @@ returns-4 c =
     let f = e.before.before in
     let g = f.before in
     let j = g.before.before.before in
-    row_at nameCode 3 laterKeywords j.args.word.now
+    row_at name_code 3 later_keywords j.args.word.now
     (sym g.spells.ensures ∙ f.if1.false, (sym e.spells2.ensures ∙ d.if2.false, (sym b.spells3.ensures ∙ a.if3.false, tt))) refl
     (sym c.before.spells4.ensures ∙ c.if4.true)
 
@@ -92,7 +92,7 @@ spells-requires-5 c κs = search rules
 
 -- src/spelling.rt:55:9
 returns-5 : tie.Need-returns-5
-unfolding laterKeywords
+unfolding later_keywords
 returns-5 c =
     let a = c.before.before.before in
     let b = a.before in
@@ -103,7 +103,7 @@ returns-5 c =
     let j = g.before.before in
     let k = j.before in
     let l = k.before.before.before in
-    row_at nameCode 4 laterKeywords l.args.word.now (
+    row_at name_code 4 later_keywords l.args.word.now (
       sym k.spells.ensures ∙ j.if1.false,
       (sym g.spells2.ensures ∙ f.if2.false, (sym e.spells3.ensures ∙ d.if3.false, (sym b.spells4.ensures ∙ a.if4.false, tt))),
     ) refl (sym c.before.spells5.ensures ∙ c.if5.true)
@@ -118,7 +118,7 @@ spells-requires-6 c κs = search rules
 
 -- src/spelling.rt:58:9
 returns-6 : tie.Need-returns-6
-unfolding laterKeywords
+unfolding later_keywords
 returns-6 c =
     let a = c.before.before.before in
     let b = a.before in
@@ -131,7 +131,7 @@ returns-6 c =
     let l = k.before.before in
     let m = l.before in
     let n = m.before.before.before in
-    row_at nameCode 5 laterKeywords n.args.word.now (
+    row_at name_code 5 later_keywords n.args.word.now (
       sym m.spells.ensures ∙ l.if1.false,
       (
         sym k.spells2.ensures ∙ j.if2.false,
@@ -149,7 +149,7 @@ spells-requires-7 c κs = search rules
 
 -- src/spelling.rt:61:9
 returns-7 : tie.Need-returns-7
-unfolding laterKeywords
+unfolding later_keywords
 returns-7 c =
     let a = c.before.before.before in
     let b = a.before in
@@ -164,7 +164,7 @@ returns-7 c =
     let n = m.before.before in
     let o = n.before in
     let p = o.before.before.before in
-    row_at nameCode 6 laterKeywords p.args.word.now (
+    row_at name_code 6 later_keywords p.args.word.now (
       sym o.spells.ensures ∙ n.if1.false,
       (
         sym m.spells2.ensures ∙ l.if2.false,
@@ -185,7 +185,7 @@ spells-requires-8 c κs = search rules
 
 -- src/spelling.rt:64:9
 returns-8 : tie.Need-returns-8
-unfolding laterKeywords
+unfolding later_keywords
 returns-8 c =
     let a = c.before.before.before in
     let b = a.before in
@@ -202,7 +202,7 @@ returns-8 c =
     let p = o.before.before in
     let q = p.before in
     let u = q.before.before.before in
-    row_at nameCode 7 laterKeywords u.args.word.now (
+    row_at name_code 7 later_keywords u.args.word.now (
       sym q.spells.ensures ∙ p.if1.false,
       (
         sym o.spells2.ensures ∙ n.if2.false,
@@ -226,7 +226,7 @@ spells-requires-9 c κs = search rules
 
 -- src/spelling.rt:67:9
 returns-9 : tie.Need-returns-9
-unfolding laterKeywords
+unfolding later_keywords
 returns-9 c =
     let a = c.before.before.before in
     let b = a.before in
@@ -245,7 +245,7 @@ returns-9 c =
     let u = q.before.before in
     let v = u.before in
     let w = v.before.before.before in
-    row_at nameCode 8 laterKeywords w.args.word.now (
+    row_at name_code 8 later_keywords w.args.word.now (
       sym v.spells.ensures ∙ u.if1.false,
       (
         sym q.spells2.ensures ∙ p.if2.false,
@@ -264,7 +264,7 @@ returns-9 c =
 
 -- src/spelling.rt:39:1
 returns-10 : tie.Need-returns-10
-unfolding laterKeywords
+unfolding later_keywords
 returns-10 c =
     let a = c.before.before.before in
     let b = a.before in
@@ -283,7 +283,7 @@ returns-10 c =
     let u = q.before.before in
     let v = u.before in
     let w = v.before.before.before in
-    code-none nameCode w.args.word.now ∙ passed nameCode 9 laterKeywords w.args.word.now (
+    code-none name_code w.args.word.now ∙ passed name_code 9 later_keywords w.args.word.now (
       sym v.spells.ensures ∙ u.if1.false,
       (
         sym q.spells2.ensures ∙ p.if2.false,

@@ -3,7 +3,7 @@ use native.Mathlib.Omega.{arith}
 use lib.Bits.{bit_or}
 use lib.ListN.{get_or, set}
 use Prim.Native.Nat.{ℕ, ◌/◌, ◌%◌}
-use Rattle.words.specs.Bits.{withMark}
+use Rattle.words.specs.Bits.{with_mark}
 use Rattle.words.proofs.BitLaws.{one_shifted, mark-past}
 use borrow.Author.Rules.{rules}
 use Rattle.words.proofs.bits.mark.Statement.{statement}
@@ -37,7 +37,7 @@ same_length c = search rules
 
 -- src/bits.rt:17:1
 returns : tie.Need-returns
-unfolding withMark
+unfolding with_mark
 returns c = ap (λ (x : ℕ). set c.before.before.args.s.now (c.before.before.args.l / 64) (bit_or (get_or c.before.before.args.s.now (c.before.before.args.l / 64) 0) x)) (one_shifted (c.before.before.args.l % 64) (omega arith))
 
 -- src/bits.rt:17:1
