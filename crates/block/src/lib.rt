@@ -1,4 +1,6 @@
 // Statements that hold blocks, and the block: each calls the other, and the nesting left falls. A statement that holds no block is `lent::step`'s.
+#![tactic(auto)]
+
 ghost use Rattle.std.specs.Prelude.{[]};
 ghost use Rattle.program.specs.Reading.{read_block, after};
 ghost use Rattle.program.specs.Forms.{branch, loop};

@@ -1,4 +1,6 @@
 // Hands proved functions to the comparison program of hosts/compare, as numbers; it has no other use.
+#![tactic(auto)]
+
 pub mod answers; // answers.rt: paths, expressions and constraints, in four words
 
 ghost use Rattle.std.specs.Prelude.{◌≡◌, cond};

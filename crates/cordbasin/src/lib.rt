@@ -1,4 +1,6 @@
 // The calls for a host in C or Rust.
+#![tactic(auto)]
+
 pub mod lists; // lists.rt: the call for a list of entries
 pub mod asking; // asking.rt: the call for two solvers on one statement
 

@@ -1,4 +1,6 @@
 // A list of entries: assignments one by one, over a state and program as a run has them.
+#![tactic(auto)]
+
 pub mod reading; // reading.rt: an entry
 pub mod whole; // whole.rt: the assignment that an entry is, and the list
 

@@ -1,5 +1,7 @@
 // Which tables are fit.
 // Nothing here asks anything of its caller; each function is defined for tables of any length and content.
+#![tactic(auto)]
+
 ghost use Rattle.std.specs.Prelude.{◌≡◌};
 ghost use Rattle.words.specs.Words.{word_at};
 ghost use Rattle.fit.specs.Fit.{sized, cell_fits, environment_fits, label_fits, field_fits, place_fits, record_fits, heap_fits, position_fits, sort_fits, constraints_fit};

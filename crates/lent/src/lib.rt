@@ -1,4 +1,6 @@
 // The run's tally. One function does a statement that holds no block, and brings the tally, lent by `&mut`, up to date.
+#![tactic(auto)]
+
 pub mod counting; // counting.rt: a step is paid, a run is ended, a statement is counted
 pub mod stepping; // stepping.rt: the statement with the tally by value
 
@@ -7,7 +9,7 @@ ghost use Rattle.lent.specs.Lending.{one_statement, Steps};
 ghost use Rattle.phases.specs.Told.{tables};
 
 // Steps, accepted proposals, and how many words of the proposals are unread; the outcome and place where a statement ended the run, 0 while it goes on.
-#[derive(Drop)]
+#[derive(Clone, Copy)]
 pub struct Tally {
     pub steps: usize,
     pub accepted: usize,

@@ -1,5 +1,6 @@
 // The run lister: the text of a sheet from standard input, and its output, whole, to standard output.
 // What is written is sheet::answer_text's, proved; the reading and the writing are the kit's io.
+#![tactic(auto)]
 
 // One byte more than an input may have, so that one that is too long shows.
 const TEXT_BYTES: usize = 65537;

@@ -1,5 +1,7 @@
 // The text of the run lister, on bytes that the caller lends: the three lines that it reads and the lines that it writes.
 // Nothing here asks anything of its caller.
+#![tactic(auto)]
+
 pub mod bytes; // bytes.rt: parts of a text, and bytes stored in a row
 pub mod numerals; // numerals.rt: decimal numbers, read and written
 pub mod reading; // reading.rt: the three lines of the input
@@ -13,21 +15,21 @@ pub const MOST_NUMBERS: usize = 4096;
 pub const LISTING_BYTES: usize = 30930;
 
 // What a text is as a number.
-#[derive(Drop)]
+#[derive(Clone, Copy)]
 pub enum Numeral {
     Number(i32),
     Unfit,
 }
 
 // How many numbers a line has.
-#[derive(Drop)]
+#[derive(Clone, Copy)]
 pub enum Row {
     Numbers(usize),
     Unfit,
 }
 
 // The input: how many numbers the program and the proposals have, and the budget; or the number of the first unfit line.
-#[derive(Drop)]
+#[derive(Clone, Copy)]
 pub enum Input {
     Reads(usize, usize, i32),
     Unfit(usize),

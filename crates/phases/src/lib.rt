@@ -1,4 +1,6 @@
 // The identity phase, and then the value phase. The tables are changed in place, and a refusal leaves every word as it was.
+#![tactic(auto)]
+
 pub mod classes; // classes.rt: the ties of kept identities, and the class of a target
 pub mod giving; // giving.rt: a target's class takes a value, and then one proposal is read
 
@@ -12,35 +14,35 @@ pub const CLASS_WORDS: usize = 2 + 2 * tables::IDENTITY_POSITIONS;
 pub const ROOM_WORDS: usize = 1 + tables::RECORD_WORDS;
 
 // The two cells that an identity names; or a refusal's number and word.
-#[derive(Drop)]
+#[derive(Clone, Copy)]
 pub enum Tied {
     Ends(usize, usize),
     Lost(usize, usize),
 }
 
 // A tie that is walked: whether a mark is new, and whether it stays apart, with no end marked.
-#[derive(Drop)]
+#[derive(Clone, Copy)]
 pub struct Grown {
     pub new: bool,
     pub apart: bool,
 }
 
 // All ties are walked: whether one names the target, and whether another pass is due; or a refusal's number and word.
-#[derive(Drop)]
+#[derive(Clone, Copy)]
 pub enum Passed {
     Over(bool, bool),
     Lost(usize, usize),
 }
 
 // The class is marked and may take the value; or a refusal's number and word.
-#[derive(Drop)]
+#[derive(Clone, Copy)]
 pub enum Classed {
     May,
     Refuses(usize, usize),
 }
 
 // An accepted statement: how many words of the proposals are unread, and how many proposals it took; or a refusal's number and word.
-#[derive(Drop)]
+#[derive(Clone, Copy)]
 pub enum Done {
     Accepted(usize, usize),
     Refused(usize, usize),

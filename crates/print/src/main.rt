@@ -1,5 +1,6 @@
 // The program of a sheet, typed: the text of the sheet from standard input, and the program's text to standard output.
 // What is written is typed::typed_text's, proved; the reading and the writing are the kit's io.
+#![tactic(auto)]
 
 // One byte more than an input may have, so that one that is too long shows.
 const TEXT_BYTES: usize = 65537;

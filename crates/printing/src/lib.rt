@@ -1,4 +1,6 @@
 // A program as a text in the papers' notation.
+#![tactic(auto)]
+
 mod page; // page.rt: bytes that are written, or only counted
 mod names; // names.rt: the names of variables and labels, and in which order they are used
 mod paths; // paths.rt: an L, and L == L

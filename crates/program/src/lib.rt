@@ -1,4 +1,6 @@
 // The program's words: which programs read, where the first unfit word is, and where the statements are.
+#![tactic(auto)]
+
 pub mod reading; // reading.rt: paths, expressions, constraints
 pub mod blocks; // blocks.rt: statements, blocks, the whole program
 pub mod places; // places.rt: where the statements are
@@ -21,21 +23,21 @@ pub const REQUIRED: usize = 3;
 pub const OPERATORS: usize = 11;
 
 // A piece that begins a part: whether it reads, and how many words are left after it, or from the first unfit word on.
-#[derive(Drop)]
+#[derive(Clone, Copy)]
 pub struct Piece {
     pub fits: bool,
     pub left: usize,
 }
 
 // What is said of a whole program: it reads, or the place of its first unfit word.
-#[derive(Drop)]
+#[derive(Clone, Copy)]
 pub enum Verdict {
     Reads,
     Unfit(usize),
 }
 
 // A statement: its verb's number, and how deep its own blocks may nest.
-#[derive(Drop)]
+#[derive(Clone, Copy)]
 pub enum Spot {
     At(usize, usize),
     Nowhere,

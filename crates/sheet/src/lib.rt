@@ -1,4 +1,6 @@
 // A whole sheet: the text of its three lines comes in, the text of its answer goes out. Nothing here asks anything of its caller.
+#![tactic(auto)]
+
 ghost use Rattle.rules.specs.Start.{run as run_by};
 ghost use Rattle.lister.specs.Listing.{Listed};
 ghost use Rattle.sheet.specs.Answering.{fresh_tables, ended_text, answer_to};

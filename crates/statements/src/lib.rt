@@ -1,4 +1,6 @@
 // Each statement that holds no block. The tables are changed in place, and a refusal leaves every word as it was.
+#![tactic(auto)]
+
 pub mod identities; // identities.rt: L == L, now
 pub mod simple; // simple.rt: each statement that holds no block
 
@@ -6,14 +8,14 @@ pub mod simple; // simple.rt: each statement that holds no block
 pub const FIELDS_WORDS: usize = 3 * tables::FIELDS;
 
 // The fields of a new record are evaluated; or a refusal's number and word.
-#[derive(Drop)]
+#[derive(Clone, Copy)]
 pub enum Fields {
     All,
     Fails(usize, usize),
 }
 
 // An identity holds now; or a refusal's number and word.
-#[derive(Drop)]
+#[derive(Clone, Copy)]
 pub enum Sameness {
     Holds,
     Fails(usize, usize),

@@ -1,5 +1,7 @@
 // The lent tables: the environment and the heap with their cells, and the constraints with the kept positions.
 // Nothing here asks anything of its caller; each function is defined for tables of any length and content.
+#![tactic(auto)]
+
 pub mod cells; // cells.rt: values, and the cell at a location
 pub mod records; // records.rt: counts, labels, cells, a record more and a record less
 pub mod kept; // kept.rt: kept positions of both sorts
@@ -27,7 +29,7 @@ pub const VALUE_POSITIONS: usize = 64;
 pub const IDENTITY_POSITIONS: usize = 32;
 
 // A value in the program's own hands.
-#[derive(Drop)]
+#[derive(Clone, Copy)]
 pub enum Value {
     Nil,
     Bool(bool),
@@ -36,28 +38,28 @@ pub enum Value {
 }
 
 // A cell as it is lent: two words.
-#[derive(Drop)]
+#[derive(Clone, Copy)]
 pub struct Cell {
     pub kind: i32,
     pub payload: i32,
 }
 
 // What a cell holds.
-#[derive(Drop)]
+#[derive(Clone, Copy)]
 pub enum Slot {
     Absent,
     Has(Value),
 }
 
 // The location of a field, if the record has it.
-#[derive(Drop)]
+#[derive(Clone, Copy)]
 pub enum Found {
     At(usize),
     Nothing,
 }
 
 // The two sorts of kept positions: always C, and always L == L.
-#[derive(Drop)]
+#[derive(Clone, Copy)]
 pub enum Sort {
     Values,
     Identities,

@@ -1,4 +1,6 @@
 // The papers' notation.
+#![tactic(auto)]
+
 mod naming; // naming.rt: the table of names, and the number of a name
 mod reading; // reading.rt: the token to be judged, taking it, names
 mod writing; // writing.rt: words and the places that they come from

@@ -1,4 +1,6 @@
 // The tokens of a typed text, on bytes that the caller lends. Nothing here asks anything of its caller.
+#![tactic(auto)]
+
 pub mod bytes; // bytes.rt: classes, runs and parts of bytes
 pub mod spelling; // spelling.rt: the codes of keywords and marks
 pub mod scanning; // scanning.rt: the token that begins at a byte
@@ -96,7 +98,7 @@ pub const AND: usize = 50;
 pub const OR: usize = 51;
 
 // The classes of bytes.
-#[derive(Drop)]
+#[derive(Clone, Copy)]
 pub enum Class {
     White,
     Lower,
@@ -105,14 +107,14 @@ pub enum Class {
 }
 
 // What bytes begin with, and how many of them it takes.
-#[derive(Drop)]
+#[derive(Clone, Copy)]
 pub struct Piece {
     pub code: usize,
     pub length: usize,
 }
 
 // A token of a text: what it is, its first byte, and the byte behind its last.
-#[derive(Drop)]
+#[derive(Clone, Copy)]
 pub struct Token {
     pub code: usize,
     pub place: usize,

@@ -1,4 +1,6 @@
 // The program of a sheet in the papers' notation: the text of the sheet's three lines comes in, the program's text goes out. Nothing here asks anything of its caller.
+#![tactic(auto)]
+
 ghost use Rattle.lister.specs.Bytes.{Puts};
 ghost use Rattle.lister.specs.Listing.{Listed};
 ghost use Rattle.typed.specs.Typing.{refused_text, program_typed, typed_to};

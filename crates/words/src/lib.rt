@@ -1,4 +1,6 @@
 // Tables and programs as slices of 32-bit signed words. Nothing here asks anything of its caller.
+#![tactic(auto)]
+
 pub mod bits; // bits.rt: a mark of one bit for each number
 
 ghost use Rattle.std.specs.Prelude.{◌≡◌, [], ◌∷◌, ◌-◌, pos, ◌+ℤ◌, ◌-ℤ◌, ◌*ℤ◌, drop, set, take};
@@ -124,7 +126,7 @@ pub fn bytes_to(s: &[u8], k: usize) -> &[u8]
 }
 
 // The result of arithmetic on words, where it is a word.
-#[derive(Drop)]
+#[derive(Clone, Copy)]
 pub enum Ranged {
     Within(i32),
     Outside,

@@ -1,0 +1,18 @@
+use mathlib.Core.Path.{◌∙◌}
+use Rattle.printing.specs.Naming.{naming}
+use Rattle.printing.proofs.NameLaws.{name-given, name-default}
+use Rattle.printing.proofs.faults.is_called.Goals as goal
+
+-- src/faults.rt:59:9
+pub returns-then-length_of-ne0 : goal.returns-then-length_of-ne0
+returns-then-length_of-ne0 c =
+    let a = c.args in
+    rw (name-given (naming a.source.now a.names.now) a.i c.length_of.ensures c.if-length_of-ne0.true c.given_name.ensures) at c.spells.ensures
+
+-- src/faults.rt:55:1
+pub returns : goal.returns
+returns c =
+    let b = c in
+    let a = b.args in
+    let e = c.bytes_to.ensures ∙ c.default_name-n.ensures.b_after in
+    rw (name-default (naming a.source.now a.names.now) a.i b.length_of.ensures b.if-length_of-ne0.false e) at c.spells-2.ensures

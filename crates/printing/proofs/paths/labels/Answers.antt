@@ -1,0 +1,25 @@
+use mathlib.Core.Path.{refl}
+use mathlib.Core.List.{◌∷◌}
+use Rattle.printing.specs.Signs.{dot_sign}
+use Prim.Native.Nat.{◌-◌}
+use Rattle.printing.proofs.PageLaws.{wrote-length, wrote_then, wrote-plain, wrote-label}
+use Rattle.printing.proofs.RowLaws.{labels-start, labels-go-on, labels-end}
+use Rattle.printing.proofs.paths.labels.Goals as goal
+
+-- src/paths.rt:36:5
+pub loop-i-init : goal.loop-i-init
+loop-i-init c = labels-start
+
+-- src/paths.rt:36:5
+pub loop-i-preserved : goal.loop-i-preserved
+loop-i-preserved c =
+    labels-go-on c.loop-i.invariant c.loop-i-test.true
+    (wrote_then {ss = dot_sign ∷ []} (wrote-plain c.add.ensures refl) (wrote-label (rw c.label_at.ensures at c.name.ensures.at_after) (rw c.label_at.ensures at c.name.ensures.seen_after)))
+
+-- src/paths.rt:24:1
+pub shape_of-out : goal.shape_of-out
+shape_of-out c = wrote-length c.loop-i.invariant.wrote
+
+-- src/paths.rt:24:1
+pub returns : goal.returns
+returns c = labels-end c.loop-i.invariant c.loop-i-test.false

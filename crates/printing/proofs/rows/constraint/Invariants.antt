@@ -1,0 +1,15 @@
+use Prim.Native.Nat.{◌-◌}
+use mathlib.Core.List.{◌∷◌}
+use Rattle.printing.specs.Signs.{space, beside_sign}
+use Rattle.printing.specs.Naming.{naming}
+use Rattle.printing.specs.Printing.{part_text, constraint_text}
+use Rattle.printing.specs.Page.{page}
+use Rattle.printing.proofs.RowLaws.{InRow}
+use Rattle.printing.proofs.rows.constraint.Given as goal
+
+abbrev pub invariant-loop-i : goal.invariant-loop-i
+invariant-loop-i l =
+    InRow (naming l.source l.names) (page l.initial.out l.initial.at l.initial.seen) (space ∷ beside_sign ∷ space ∷ []) part_text l.m l.p (constraint_text l.p) i l.i (page l.at l.seen l.left)
+
+abbrev pub decreases-loop-i : goal.decreases-loop-i
+decreases-loop-i l = l.m - i

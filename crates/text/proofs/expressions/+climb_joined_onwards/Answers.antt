@@ -1,0 +1,248 @@
+use mathlib.Core.Path.{◌≡◌, refl, sym, ap, subst, ◌∙◌}
+use mathlib.Core.Bool.{cond}
+use Prim.Native.Nat.{suc, ◌-◌, ◌≤◌}
+use native.Mathlib.Omega.{arith}
+use mathlib.Core.Logic.{⊎_elim}
+use borrow.Author.Tests.{ltb-true, not-true, not-false}
+use lib.Dec.{eqb, ltb}
+use lib.ListN.{length}
+use Rattle.tables.proofs.SearchLaws.{and_left, and_right}
+use Rattle.text.specs.Told.{carried, next_of, Ahead}
+use Rattle.text.proofs.AnswerSteps.{refused-stops}
+use Rattle.text.proofs.DoesLaws.{does-stopped}
+use Rattle.text.proofs.WrittenLaws.{passes}
+use Rattle.text.proofs.AheadLaws.{ahead-passed, ahead-deep, ahead-refused}
+use Rattle.text.proofs.ClimbCode.{taken-shallow, joined-untaken, joined-stopped, joined-deep, joined-shallow, climb-none, climb-on, level-small, operator-word, operator-level}
+use Rattle.words.proofs.Signed.{back32}
+use Rattle.text.proofs.OnwardsCode.{turns-start, turns-stop, turns-over, turns-close, turns-join, turns-refuse, turns-end, turns_as}
+use Rattle.text.proofs.expressions.+climb_joined_onwards.Goals as goal
+
+-- src/expressions.rt:320:9
+pub climb-returns-then-s-ne0 : goal.climb-returns-then-s-ne0
+unfolding carried
+climb-returns-then-s-ne0 t c =
+    record { expression = (λ ahead. does-stopped c.if-s-ne0.true); s_bound = λ ahead z. absurd (c.if-s-ne0.true z); ahead = λ ahead. ahead }
+
+-- src/expressions.rt:324:9
+pub climb-returns-then-left-eq0 : goal.climb-returns-then-left-eq0
+unfolding carried
+climb-returns-then-left-eq0 t c =
+    let a = c.args in
+    let r = carried a.s.now in (
+      (λ ahead. climb-none a.text.now a.left a.in_c a.low c.if-s-ne0.false c.if-left-eq0.true ahead c.refused.ensures),
+      (λ ahead z. absurd (refused-stops (next_of r) r c.refused.ensures z), λ ahead. ahead-refused a.text.now r c.refused.ensures ahead),
+    )
+
+-- src/expressions.rt:331:5
+pub climb-onwards-requires : goal.climb-onwards-requires
+climb-onwards-requires t c =
+    let e = c in
+    let o = e in
+    omega (arith, o.decreases, o.requires, e.if-left-eq0.false)
+
+-- src/expressions.rt:304:1
+pub climb-returns : goal.climb-returns
+unfolding carried
+climb-returns t c =
+    let n = c.onwards in
+    let d = c in
+    let e = d in
+    let o = e in
+    let z = o.if-left-eq0.false in
+    let a = o.args in
+    let read : Ahead a.text.now (carried a.s.now) → Ahead a.text.now (carried d.deepen.new.s) =
+    λ h. ahead-deep a.text.now (carried e.operand.new.s) 1 d.deepen.ensures (e.operand.ensures.ahead (o.opened.ensures.ahead h)) in (
+      (λ h. climb-on a.text.now a.left a.in_c a.low (o.opened.ensures.opens h) (e.operand.ensures.piece (o.opened.ensures.ahead h)) d.deepen.ensures z (n.ensures.0 (read h))),
+      (λ h y. omega (arith, n.ensures.1.0 (read h) (λ x. omega (arith, ap (λ x. x.depth) d.deepen.ensures)) y, z), λ h. n.ensures.1.1 (read h)),
+    )
+
+-- src/expressions.rt:246:9
+pub joined-returns-then-s-ne0 : goal.joined-returns-then-s-ne0
+unfolding carried
+joined-returns-then-s-ne0 t c =
+    let k = c.take in
+    let p = c.pass in
+    let a = c.args in
+    let r = carried a.s.now in
+    let read : Ahead a.text.now r → Ahead a.text.now (carried p.new.0) = λ h. ahead-passed a.text.now r (ltb a.left r.depth) p.ensures h in (
+      (λ h op most le. joined-untaken a.text.now a.left a.in_c (next_of r) (passes (ltb a.left r.depth) r p.ensures) (k.ensures.0 (read h)) a.from most c.if-s-ne0.true),
+      (λ h z. absurd (c.if-s-ne0.true z), λ h. k.ensures.1 (read h)),
+    )
+
+-- src/expressions.rt:250:55
+pub joined-overflow_add-level_of : goal.joined-overflow_add-level_of
+joined-overflow_add-level_of t c =
+    let k = c.less-k.result in
+    omega (arith, c.level_of.ensures, level-small k)
+
+-- src/expressions.rt:250:5
+pub joined-climb-requires : goal.joined-climb-requires
+joined-climb-requires t c =
+    let e = c in
+    let o = e in
+    omega (arith, o.decreases, o.requires)
+
+-- src/expressions.rt:252:9
+pub joined-returns-then-s-ne0-2 : goal.joined-returns-then-s-ne0-2
+unfolding carried
+joined-returns-then-s-ne0-2 t c =
+    let m = c in
+    let l = m.level_of in
+    let i = m.insert in
+    let w = m.word_of in
+    let y = m.if-s-ne0.false in
+    let k = m.take in
+    let p = m.pass in
+    let e = m in
+    let q = e.less-k in
+    let o = e in
+    let a = o.args in
+    let r = carried a.s.now in
+    let passed = passes (ltb a.left r.depth) r p.ensures in
+    let read : Ahead a.text.now r → Ahead a.text.now (carried p.new.0) = λ h. ahead-passed a.text.now r (ltb a.left r.depth) p.ensures h in
+    let into : Ahead a.text.now r → Ahead a.text.now (carried i.new.1.1.1.0) = λ h. i.ensures.1 a.text.now (k.ensures.1 (read h)) in (
+      (λ h op most le. joined-stopped a.text.now a.left a.in_c (next_of r) passed (k.ensures.0 (read h)) a.from most
+          (back32 w.result (record { sfits = w.type-inv }) ∙ operator-word r.code q.result op q.ensures w.ensures)
+          i.ensures.0 (operator-level r.code q.ensures l.ensures) (m.climb.ensures.expression (into h)) c.if-s-ne0-2.true),
+      (λ h z. absurd (c.if-s-ne0-2.true z), λ h. m.climb.ensures.ahead (into h)),
+    )
+
+-- src/expressions.rt:225:1
+pub joined-shape_of-words : goal.joined-shape_of-words
+joined-shape_of-words t c =
+    let m = c in
+    m.climb.auto.words ∙ m.insert.auto.words
+
+-- src/expressions.rt:225:1
+pub joined-returns : goal.joined-returns
+unfolding carried
+joined-returns t c =
+    let m = c in
+    let l = m.level_of in
+    let i = m.insert in
+    let w = m.word_of in
+    let y = m.if-s-ne0.false in
+    let k = m.take in
+    let p = m.pass in
+    let e = m in
+    let q = e.less-k in
+    let o = e in
+    let a = o.args in
+    let r = carried a.s.now in
+    let passed = passes (ltb a.left r.depth) r p.ensures in
+    let read : Ahead a.text.now r → Ahead a.text.now (carried p.new.0) = λ h. ahead-passed a.text.now r (ltb a.left r.depth) p.ensures h in
+    let into : Ahead a.text.now r → Ahead a.text.now (carried i.new.1.1.1.0) = λ h. i.ensures.1 a.text.now (k.ensures.1 (read h)) in
+    let v = carried m.climb.new.s in
+    let left : Ahead a.text.now r → r.depth ≤ a.left = λ h. taken-shallow a.text.now passed (k.ensures.0 (read h)) y in
+    let right : Ahead a.text.now r → v.depth ≤ a.left = λ h. m.climb.ensures.s_bound (into h) c.if-s-ne0-2.false in
+    let over : Ahead a.text.now r → c.above.result ≡ suc (cond (ltb r.depth v.depth) v.depth r.depth) =
+    λ h. c.above.ensures (omega (arith, left h, o.requires)) (omega (arith, right h, o.requires)) in (
+      (λ h op most le. joined-deep a.text.now a.left a.in_c (next_of r) passed (k.ensures.0 (read h)) a.from most
+          (back32 w.result (record { sfits = w.type-inv }) ∙ operator-word r.code q.result op q.ensures w.ensures)
+          i.ensures.0 (operator-level r.code q.ensures l.ensures) (m.climb.ensures.expression (into h)) (over h) c.deepen.ensures),
+      (
+        λ h z. joined-shallow (ap (λ x. x.depth) c.deepen.ensures ∙ over h) (left h) (right h),
+        λ h. ahead-deep a.text.now v c.above.result c.deepen.ensures (m.climb.ensures.ahead (into h)),
+      ),
+    )
+
+-- src/expressions.rt:278:5
+pub onwards-loop-round-init : goal.onwards-loop-round-init
+onwards-loop-round-init t c =
+    (refl, refl, refl, λ ahead. (ahead, turns-start))
+
+-- src/expressions.rt:280:13
+pub onwards-returns-then-s-ne0 : goal.onwards-returns-then-s-ne0
+unfolding carried
+onwards-returns-then-s-ne0 t c =
+    let i = c.loop-round.invariant in
+    ((λ h. turns-stop (i.3 h).1 c.if-s-ne0.true), (λ h d z. absurd (c.if-s-ne0.true z), λ h. (i.3 h).0))
+
+-- src/expressions.rt:285:13
+pub onwards-overflow_sub-b : goal.onwards-overflow_sub-b
+unfolding carried
+onwards-overflow_sub-b t c =
+    let l = c.loop-round in
+    omega (arith, ltb-true 0 l.b (and_right (eqb (carried l.s).code 38) (ltb 0 l.b) c.if-code-b.true))
+
+-- src/expressions.rt:291:17
+pub onwards-returns-then-b-gt0 : goal.onwards-returns-then-b-gt0
+unfolding carried
+onwards-returns-then-b-gt0 t c =
+    let e = c in
+    let l = e in
+    let i = l.loop-round.invariant in
+    let r = carried l.loop-round.s in
+    let text = l.args.text.now in
+    let j = c.joins in (
+      (λ h. turns-refuse (i.3 h).1 e.loop-round-test.true e.if-s-ne0.false (i.3 h).0 e.if-code-b.false
+          (sym j.ensures ∙ not-true j.result c.if-not-joins.true) c.if-b-gt0.true c.refused.ensures),
+      (λ h d z. absurd (refused-stops (next_of r) r c.refused.ensures z), λ h. ahead-refused text r c.refused.ensures (i.3 h).0),
+    )
+
+-- src/expressions.rt:291:17
+pub onwards-returns-else-b-gt0 : goal.onwards-returns-else-b-gt0
+unfolding carried
+onwards-returns-else-b-gt0 t c =
+    let e = c in
+    let i = e.loop-round.invariant in
+    let j = c.joins in (
+      (λ h. turns-end (i.3 h).1 e.loop-round-test.true e.if-s-ne0.false (i.3 h).0 e.if-code-b.false
+          (sym j.ensures ∙ not-true j.result c.if-not-joins.true) c.if-b-gt0.false),
+      (λ h d z. (i.3 h).1.deep d z, λ h. (i.3 h).0),
+    )
+
+-- src/expressions.rt:293:13
+pub onwards-joined-requires : goal.onwards-joined-requires
+onwards-joined-requires t c =
+    let o = c in
+    omega (arith, o.decreases, o.requires)
+
+-- src/expressions.rt:278:5
+pub onwards-loop-round-preserved : goal.onwards-loop-round-preserved
+unfolding carried
+onwards-loop-round-preserved t c =
+    let i = c.loop-round.invariant in
+    let more = c.loop-round-test.true in
+    let z = c.if-s-ne0.false in
+    let text = c.args.text.now in
+    ⊎_elim
+    (λ w. (
+      ap length w.3 ∙ i.0,
+      ap length w.4 ∙ i.1,
+      ap length w.5 ∙ i.2,
+      λ h. (
+        subst (λ x. Ahead text (carried x)) (sym w.6) (w.2.ensures.1 (i.3 h).0),
+        turns_as w.3 w.4 w.5 (ap carried w.6) w.7 (turns-close (i.3 h).1 more z (i.3 h).0 w.0.taken (w.2.ensures.0 (i.3 h).0)),
+      ),
+    ))
+    (λ w. let j = sym w.1.ensures ∙ not-false w.1.result w.2.left in (
+      ap length w.13 ∙ w.7.kept.1.0 ∙ i.0,
+      ap length w.14 ∙ w.7.kept.1.1.0 ∙ i.1,
+      ap length w.15 ∙ w.7.kept.1.1.1.0 ∙ i.2,
+      λ h. (
+        subst (λ x. Ahead text (carried x)) (sym w.16) (w.7.ensures.1.1 (i.3 h).0),
+        turns_as w.13 w.14 w.15 (ap carried w.16) w.17
+            (turns-join (i.3 h).1 more z (i.3 h).0 w.0.left j (w.7.ensures.0 (i.3 h).0 (and_left _ _ j)) (w.7.ensures.1.0 (i.3 h).0) w.7.kept.1.0 w.7.kept.1.1.0
+            w.7.kept.1.1.1.0),
+      ),
+    ))
+    c.if-code-b.branch
+
+-- src/expressions.rt:298:9
+pub onwards-returns-then-s-ne0-2 : goal.onwards-returns-then-s-ne0-2
+unfolding carried
+onwards-returns-then-s-ne0-2 t c =
+    let i = c.loop-round.invariant in
+    ((λ h. turns-stop (i.3 h).1 c.if-s-ne0-2.true), (λ h d z. absurd (c.if-s-ne0-2.true z), λ h. (i.3 h).0))
+
+-- src/expressions.rt:259:1
+pub onwards-returns : goal.onwards-returns
+unfolding carried
+onwards-returns t c =
+    let i = c.loop-round.invariant in
+    let r = carried c.loop-round.s in
+    let text = c.args.text.now in (
+      (λ h. turns-over (i.3 h).1 c.loop-round-test.false c.if-s-ne0-2.false (i.3 h).0 c.refused-2.ensures),
+      (λ h d z. absurd (refused-stops (next_of r) r c.refused-2.ensures z), λ h. ahead-refused text r c.refused-2.ensures (i.3 h).0),
+    )

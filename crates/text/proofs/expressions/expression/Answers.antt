@@ -1,0 +1,7 @@
+use Rattle.text.specs.Reading.{expression}
+use Rattle.text.proofs.expressions.expression.Goals as goal
+
+-- src/expressions.rt:346:1
+pub returns : goal.returns
+unfolding expression
+returns c = let e = c.climb.ensures in (e.0, e.1.1)

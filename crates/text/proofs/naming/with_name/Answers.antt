@@ -1,0 +1,17 @@
+use borrow.Author.Tests.{lt-ltb}
+use Rattle.text.specs.Told.{table_with}
+use Rattle.text.proofs.NamingLaws.{table-with}
+use Rattle.text.proofs.naming.with_name.Goals as goal
+
+-- src/naming.rt:73:9
+pub returns-then-number-count : goal.returns-then-number-count
+unfolding table_with
+returns-then-number-count c = rw (lt-ltb c.args.number c.args.count c.if-number-count.true)
+
+-- src/naming.rt:67:1
+pub returns : goal.returns
+returns c =
+    let b = c in
+    let a = b.args in
+    table-with a.names.now a.from a.count a.number a.t b.if-number-count.false b.put.ensures c.less.ensures
+    c.put-2.ensures

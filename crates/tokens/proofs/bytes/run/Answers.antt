@@ -1,0 +1,28 @@
+use mathlib.Core.Path.{sym, ◌∙◌}
+use Prim.Native.Nat.{◌-◌}
+use borrow.Author.Tests.{not-true, not-false}
+use Rattle.tokens.specs.Bytes.{is_of}
+use Rattle.tokens.proofs.ByteLaws.{running-starts, running-stops, running-goes-on, running-ends}
+use Rattle.tokens.proofs.bytes.run.Goals as goal
+
+-- src/bytes.rt:84:5
+pub loop-i-init : goal.loop-i-init
+loop-i-init c = running-starts
+
+-- src/bytes.rt:86:13
+pub returns-then-not-is_of : goal.returns-then-not-is_of
+returns-then-not-is_of c =
+    let a = c in
+    let b = a in
+    running-stops b.loop-i.invariant a.loop-i-test.true (sym c.is_of.ensures ∙ not-true _ c.if-not-is_of.true)
+
+-- src/bytes.rt:84:5
+pub loop-i-preserved : goal.loop-i-preserved
+loop-i-preserved c =
+    let a = c in
+    let b = a in
+    running-goes-on b.loop-i.invariant a.loop-i-test.true (sym c.is_of.ensures ∙ not-false _ c.if-not-is_of.false)
+
+-- src/bytes.rt:80:1
+pub returns : goal.returns
+returns c = running-ends c.loop-i.invariant c.loop-i-test.false
