@@ -119,17 +119,17 @@ touches-more c d h t e = or_cases (member t.one c) (member t.two c) e
     (λ a. or_left (member t.one d) (member t.two d) (h t.one a))
     (λ b. or_right (member t.one d) (member t.two d) (h t.two b))
 
-grown-reaches : {ts : List Tie} (c : List ℕ) (t : Tie) → OneOf t ts → touches c t ≡ true → holds (grown ts c) t ≡ true
+grown-reaches : (t : Tie) {ts : List Tie} (c : List ℕ) → OneOf t ts → touches c t ≡ true → holds (grown ts c) t ≡ true
 unfolding grown
-grown-reaches c t (OneOf.head {x = u} {xs = ts} q) e =
+grown-reaches t c (OneOf.head {x = u} {xs = ts} q) e =
     let d = u.one ∷ u.two ∷ c in
     rw (sym (ap (touches c) q) ∙ e) (and-true (member t.one (grown ts d)) (member t.two (grown ts d))
     (grown-keeps ts d t.one (member-head t.one u.one (u.two ∷ c) (ap (λ x. x.one) q)))
     (grown-keeps ts d t.two (member-tail t.two u.one (u.two ∷ c) (member-head t.two u.two c (ap (λ x. x.two) q)))))
-grown-reaches c t (OneOf.tail {x = u} {xs = ts} m) e = cases (member u.one c || member u.two c)
-    (λ q. rw q (grown-reaches (u.one ∷ u.two ∷ c) t m (touches-more c (u.one ∷ u.two ∷ c)
+grown-reaches t c (OneOf.tail {x = u} {xs = ts} m) e = cases (member u.one c || member u.two c)
+    (λ q. rw q (grown-reaches t (u.one ∷ u.two ∷ c) m (touches-more c (u.one ∷ u.two ∷ c)
     (λ l h. member-tail l u.one (u.two ∷ c) (member-tail l u.two c h)) t e)))
-    (λ q. rw q (grown-reaches c t m e))
+    (λ q. rw q (grown-reaches t c m e))
 
 -- ---- counting ties
 
@@ -154,14 +154,14 @@ module _ (f g : Tie → Bool) where
       (λ e. rw e (omega (arith, counted-most ts (λ u m. h u (OneOf.tail m)))))
 
   -- no more of the second sort, so there are none but those of the first
-  counted-equal : {ts : List Tie} → Follows ts → counted g ts ≤ counted f ts → (t : Tie) → OneOf t ts → g t ≡ true → f t ≡ true
+  counted-equal : (t : Tie) {ts : List Tie} → Follows ts → counted g ts ≤ counted f ts → OneOf t ts → g t ≡ true → f t ≡ true
   unfolding counted
-  counted-equal h l t (OneOf.head {x = u} {xs = ts} q) e = cases (f u)
+  counted-equal t h l (OneOf.head {x = u} {xs = ts} q) e = cases (f u)
       (λ a. rw q a)
       (λ a. let z : 1 + counted g ts ≤ 0 + counted f ts = rw (a, sym (ap g q) ∙ e) at l in
       let y : ⊥ = omega (arith, counted-most ts (λ w m. h w (OneOf.tail m))) in absurd y)
-  counted-equal h l t (OneOf.tail {x = u} {xs = ts} m) e =
-      counted-equal (λ w n. h w (OneOf.tail n)) (smaller (λ a. h u (OneOf.head refl) a)) t m e
+  counted-equal t h l (OneOf.tail {x = u} {xs = ts} m) e =
+      counted-equal t (λ w n. h w (OneOf.tail n)) (smaller (λ a. h u (OneOf.head refl) a)) m e
     where
       smaller : (f u ≡ true → g u ≡ true) → counted g ts ≤ counted f ts
       smaller k = cases (f u)
@@ -199,12 +199,12 @@ module _ (ts : List Tie) where
   closed_after : (more : List Tie) (c : List ℕ) → length ts ≤ length more + counted (holds c) ts → Closed ts (grown_by more ts c)
   unfolding grown_by
   closed_after [] c l = λ t m e.
-      counted-equal (holds c) (λ u. true) (λ u n q. refl) (rw (counted-all ts) (omega arith)) t m refl
+      counted-equal (holds c) (λ u. true) t (λ u n q. refl) (rw (counted-all ts) (omega arith)) m refl
   closed_after (u ∷ more) c l = go (dec_lt (counted (holds c) ts) (counted (touches c) ts)) (λ d h. closed_after more d h)
     where
       go : Dec (counted (holds c) ts < counted (touches c) ts) → ((d : List ℕ) → length ts ≤ length more + counted (holds d) ts → Closed ts (grown_by more ts d)) → Closed ts (grown_by more ts (grown ts c))
-      go (yes y) r = r (grown ts c) (omega (arith, counted-most (touches c) (holds (grown ts c)) ts (λ t m e. grown-reaches c t m e)))
-      go (no n) r = closed-grown (u ∷ more) c (counted-equal (holds c) (touches c) (λ t m e. holds-touches c t e) (omega arith))
+      go (yes y) r = r (grown ts c) (omega (arith, counted-most (touches c) (holds (grown ts c)) ts (λ t m e. grown-reaches t c m e)))
+      go (no n) r = closed-grown (u ∷ more) c (λ t m e. counted-equal (holds c) (touches c) t (λ v i q. holds-touches c v q) (omega arith) m e)
 
   class-closed : (target : ℕ) → Carries (λ l. member l (class_of ts target) ≡ true) ts
   unfolding class_of

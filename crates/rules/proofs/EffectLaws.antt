@@ -89,7 +89,7 @@ module _ (asked : Asked) (S : Cells) where
       → Near asked S Z → ((l : ℕ) → low ≤ l → cell_at Z l ≡ cell_at S l) → Near asked S Y
   puts-near no_more allowed no_entry near same = near
   puts-near {Z} (next {l = l} {payload = v} a b others) (more allowed still) (entry puts) near same =
-      puts-near others still puts (near-put asked S Z l v near b (same l a) allowed.kind allowed.other)
+      puts-near {Z = put_cell Z l (cell (cell_at Z l).kind v)} others still puts (near-put asked S Z l v near b (same l a) allowed.kind allowed.other)
       (λ k m. read-other Z l k (cell (cell_at Z l).kind v) (λ q. omega arith) ∙ same k (omega arith))
 
   pub formed-near : {Z : Cells} {ws rest : List ℤ} {es : List Entry} → Sized S → Formed ws es rest → Each (Allowed S asked.target) es → Puts S es Z → Near asked S Z

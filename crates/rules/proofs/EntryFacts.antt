@@ -56,6 +56,7 @@ in_three : {n : ℕ} → OneOf n (0 ∷ 5 ∷ 23 ∷ []) → 6 ≤ n → n ≤ 1
 in_three (OneOf.head e) a b = omega arith
 in_three (OneOf.tail (OneOf.head e)) a b = omega arith
 in_three (OneOf.tail (OneOf.tail (OneOf.head e))) a b = omega arith
+in_three (OneOf.tail (OneOf.tail (OneOf.tail i))) a b = elim i [ ]
 
 module _ (program : List ℤ) (budget : ℕ) where
   -- it ends here, before any entry

@@ -96,7 +96,7 @@ module _ (S : Cells) where
 unsettled-on : {program kept ws w : List ℤ} {asked : Asked} {Y : Cells} {f : Fault} (u : List ℤ) → Unsettled program kept asked w Y ws f → (g : Fault) × ((g.number ≡ f.number) × Unsettled program kept asked u Y ws g)
 unsettled-on u (Unsettled.uncounted c) = (_, (refl, Unsettled.uncounted c))
 unsettled-on u (Unsettled.no_room c k) = (_, (refl, Unsettled.no_room c k))
-unsettled-on u (Unsettled.Turned-down c k f) = (_, (refl, Unsettled.Turned-down c k f))
+unsettled-on u (Unsettled.turned-down c k f) = (_, (refl, Unsettled.turned-down c k f))
 
 -- a refusal with this number
 record RefusedOn (program : List ℤ) (S : State) (ws : List ℤ) (n : ℕ) (p : List ℤ) : Type 0 where

@@ -112,7 +112,7 @@ pub record Number (n : ℕ) : Type 0 where
   pub most : n ≤ 19
 
 phase-number : {program kept : List ℤ} {before : Cells} {target n : ℕ} {prefix : List ℕ} {v : Value} → PhaseFails program kept before target prefix v n → Number n
-phase-number (PhaseFails.no_Node a b c) = record { known = there 9 numbers (omega arith); least = omega arith; most = omega arith }
+phase-number (PhaseFails.no_node a b c) = record { known = there 9 numbers (omega arith); least = omega arith; most = omega arith }
 phase-number (PhaseFails.clash a b c d e) = record { known = there 8 numbers (omega arith); least = omega arith; most = omega arith }
 
 -- a literal is not refused
@@ -138,7 +138,7 @@ unsettled-number : {program kept word : List ℤ} {asked : Asked} {S : Cells} {w
     → asked.own ≡ none → asked.room ≡ true → Unsettled program kept asked word S ws f → Number f.number
 unsettled-number own room (Unsettled.uncounted u) = uncounted-number own u
 unsettled-number own room (Unsettled.no_room c r) = absurd (true≢false (sym room ∙ r))
-unsettled-number own room (Unsettled.Turned-down c r f) = fails-number f
+unsettled-number own room (Unsettled.turned-down c r f) = fails-number f
 
 -- an assignment is refused by its value, its target, its identity phase, or what is asked of its proposal
 pub data Turned (program : List ℤ) (S : State) (ws x : List ℤ) : Fault → Type 0 where

@@ -218,7 +218,7 @@ module _ (v a b : Value) where
       like-made (λ t. t) e λ x y q. rw (← q) (Makes.equal x y (alike a b x y))
   makes-sound (suc (suc (suc (suc (suc (suc (suc zero))))))) h l e =
       like-made (λ t. not t) e λ x y q. rw (← q) (Makes.unequal x y (apart a b x y))
-  makes-sound (suc (suc (suc (suc (suc (suc (suc (suc zero)))))))) h l e = int-made (λ x y. Makes 8 x y v) (λ m n. got (Truth (le_z n m))) v a b e λ m n k. rw (← got-inj k) Makes.at_least_lem
+  makes-sound (suc (suc (suc (suc (suc (suc (suc (suc zero)))))))) h l e = int-made (λ x y. Makes 8 x y v) (λ m n. got (Truth (le_z n m))) v a b e λ m n k. rw (← got-inj k) Makes.at_least
   makes-sound (suc (suc (suc (suc (suc (suc (suc (suc (suc zero))))))))) h l e = int-made (λ x y. Makes 9 x y v) (λ m n. got (Truth (lt_z n m))) v a b e λ m n k. rw (← got-inj k) Makes.more
   makes-sound (suc (suc (suc (suc (suc (suc (suc (suc (suc (suc zero)))))))))) h l e = bool-made (λ x y. Makes 10 x y v) (λ m n. m && n) v a b e λ m n q. rw (← q) Makes.both
   makes-sound (suc (suc (suc (suc (suc (suc (suc (suc (suc (suc (suc zero))))))))))) h l e = bool-made (λ x y. Makes 11 x y v) (λ m n. m || n) v a b e λ m n q. rw (← q) Makes.either
@@ -232,7 +232,7 @@ makes-operator Makes.less = (omega arith, omega arith)
 makes-operator Makes.at_most = (omega arith, omega arith)
 makes-operator (Makes.equal x y q) = (omega arith, omega arith)
 makes-operator (Makes.unequal x y q) = (omega arith, omega arith)
-makes-operator Makes.at_least_lem = (omega arith, omega arith)
+makes-operator Makes.at_least = (omega arith, omega arith)
 makes-operator Makes.more = (omega arith, omega arith)
 makes-operator Makes.both = (omega arith, omega arith)
 makes-operator Makes.either = (omega arith, omega arith)
@@ -246,7 +246,7 @@ makes-complete Makes.less = refl
 makes-complete Makes.at_most = refl
 makes-complete (Makes.equal {a = a} {b = b} {t = t} x y q) = rw (both-compared a b x y, agree (same a b) t (alike a b x y) q)
 makes-complete (Makes.unequal {a = a} {b = b} {t = t} x y q) = rw (both-compared a b x y, agree (not (same a b)) t (apart a b x y) q)
-makes-complete Makes.at_least_lem = refl
+makes-complete Makes.at_least = refl
 makes-complete Makes.more = refl
 makes-complete Makes.both = refl
 makes-complete Makes.either = refl

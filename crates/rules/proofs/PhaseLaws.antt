@@ -44,7 +44,7 @@ frozen-side l (t ∷ ts) e = or_cases (member l t.prefix) (member l (frozen_by t
     (λ a. (t, (OneOf.head refl, member-in l t.prefix a)))
     (λ b. let w = frozen-side l ts b in (w.0, (OneOf.tail w.1.0, w.1.1)))
 
-side-frozen : (l : ℕ) {ts : List Tie} (t : Tie) → OneOf t ts → OneOf l t.prefix → member l (frozen_by ts) ≡ true
+side-frozen : (l : ℕ) (t : Tie) {ts : List Tie} → OneOf t ts → OneOf l t.prefix → member l (frozen_by ts) ≡ true
 unfolding frozen_by
 side-frozen l t (OneOf.head {x = u} {xs = ts} q) m =
     (member-append l u.prefix (frozen_by ts)).1 (or_left (member l u.prefix) (member l (frozen_by ts)) (rw q at (in-member l m)))
@@ -72,7 +72,7 @@ names-sound (t ∷ ts) l e = or_cases (eqb t.one l || eqb t.two l) (names ts l) 
     (λ a. or_cases (eqb t.one l) (eqb t.two l) a (λ b. (t, (OneOf.head refl, inl (eqb-true t.one l b)))) (λ b. (t, (OneOf.head refl, inr (eqb-true t.two l b)))))
     (λ a. let n = names-sound ts l a in (n.0, (OneOf.tail n.1.0, n.1.1)))
 
-names-here : {ts : List Tie} (l : ℕ) (t : Tie) → OneOf t ts → eqb t.one l || eqb t.two l ≡ true → names ts l ≡ true
+names-here : (l : ℕ) (t : Tie) {ts : List Tie} → OneOf t ts → eqb t.one l || eqb t.two l ≡ true → names ts l ≡ true
 unfolding names
 names-here l t (OneOf.head {x = u} {xs = ts} q) e = or_left (eqb u.one l || eqb u.two l) (names ts l) (rw q at e)
 names-here l t (OneOf.tail {x = u} {xs = ts} m) e = or_right (eqb u.one l || eqb u.two l) (names ts l) (names-here l t m e)

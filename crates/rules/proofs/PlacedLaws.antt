@@ -57,10 +57,12 @@ use Rattle.rules.proofs.Endings.{Ends, unpaid, refuses, untested}
 
 -- what all of a list are, the first that is not something else is; and where all are it, there is none
 pub first-each : {A : Type 0} {P Q : A → Type 0} {xs : List A} {x : A} → Each P xs → FirstNot Q xs x → P x
+first-each Each.none f = elim f [ ]
 first-each (more p ps) (FirstNot.here n) = p
 first-each (more p ps) (FirstNot.later q f) = first-each ps f
 
 first-none : {A : Type 0} {P : A → Type 0} {xs : List A} {x : A} → Each P xs → FirstNot P xs x → ⊥
+first-none Each.none f = elim f [ ]
 first-none (more p ps) (FirstNot.here n) = n p
 first-none (more p ps) (FirstNot.later q f) = first-none ps f
 
@@ -85,6 +87,7 @@ inner-cases (OneOf.head e) a b c d = a e
 inner-cases (OneOf.tail (OneOf.head e)) a b c d = b e
 inner-cases (OneOf.tail (OneOf.tail (OneOf.head e))) a b c d = c e
 inner-cases (OneOf.tail (OneOf.tail (OneOf.tail (OneOf.head e)))) a b c d = d e
+inner-cases (OneOf.tail (OneOf.tail (OneOf.tail (OneOf.tail i)))) a b c d = elim i [ ]
 
 wrong-number : {S : Cells} {c : Bool} {n : ℕ} {w : List ℤ} → Wrong S c n w → OneOf n inner-numbers
 wrong-number (path l) = seven refl
@@ -209,7 +212,7 @@ module _ (program : List ℤ) (g : Program program) (S : State) (hold : Holds pr
       let e = flat here (λ d. new-opens d p x m a b) in
       within here e (inner-on (part-drop 2 (pos x ∷ pos m ∷ p)) (omega arith) (fields-inner S.cells hold.fit [] u (sym (new-opens 0 p x m a b) ∙ e)))
   refused-placed here (f_full a b c d) = plain refl refl
-  refused-placed here (f_phase gives (PhaseFails.no_Node a b c)) = plain refl refl
+  refused-placed here (f_phase gives (PhaseFails.no_node a b c)) = plain refl refl
   refused-placed here (f_phase gives (PhaseFails.clash a b c d e)) = plain refl refl
   refused-placed here (f_given gives phase u) = unsettled-placed u (given-placed refl here gives phase)
   refused-placed here (f_always {p = p} r u) = unsettled-placed u (own-placed refl (constraint-placed 3 here (λ d. always-opens d p)))
@@ -224,7 +227,7 @@ module _ (program : List ℤ) (g : Program program) (S : State) (hold : Holds pr
   refused-placed here (f_unkept a b) = plain refl refl
 
 -- every end of a run
-pub ends-placed : {program : List ℤ} {budget n place : ℕ} {u : Tally} {p : List ℤ} → Program program → Holds program u.state → Ends program budget u p n place → Placed program u.state p n place
+pub ends-placed : {program : List ℤ} {budget n : ℕ} {u : Tally} {p : List ℤ} {place : ℕ} → Program program → Holds program u.state → Ends program budget u p n place → Placed program u.state p n place
 ends-placed g hold (unpaid here) = plain refl refl
 ends-placed {program} {u = u} g hold (refuses here low r) = refused-placed program g u.state hold here r
 ends-placed {program} {u = u} g hold (untested {p = p} {q = q} here a b t x) =

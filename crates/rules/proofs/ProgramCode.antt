@@ -4,7 +4,7 @@
 use mathlib.Core.Path.{◌≡◌, refl, sym, ap, ◌∙◌}
 use mathlib.Core.Bool.{false}
 use mathlib.Core.List.{List, [], ◌∷◌, ◌++◌, append_assoc, append-nil}
-use Prim.Native.Nat.{ℕ, suc, ◌+◌, ◌-◌, ◌≤◌, ◌<◌}
+use Prim.Native.Nat.{ℕ, zero, suc, ◌+◌, ◌-◌, ◌≤◌, ◌<◌}
 use native.Mathlib.Omega.{arith}
 use native.Mathlib.Decide.{dec_lt}
 use lib.IntN.{ℤ, pos}
@@ -126,6 +126,7 @@ module _ (program : List ℤ) (short : length program ≤ most_words) where
       (yields-complete x (ss ++ r)))))
 
   block-of : (d : ℕ) → Blocks d
+  block-of zero ws y r part found = elim y [ ]
   block-of (suc d) ws (Yields.block {n = n} {ss = ss} few y) r part found =
       in_block few (row_of d (block-of d) (pos n ∷ (ss ++ r)) r part found n y 0 (omega arith) (part-drop 1 (pos n ∷ (ss ++ r))) (λ left h. row-starts d left n (ss ++ r) few))
 

@@ -195,7 +195,7 @@ module _ (P : ℕ → Type 0) (seven : P 7) (eight : P 8) (S : Cells) where
       rw (form_in (Expression.operation h k l r) q an_operation (number-first _ _), number-of 1 operators o ((a ++ b) ++ q) h k, append_assoc a b q)
       (ends-then (evaluate d S (a ++ (b ++ q))) _ (evaluate-reads nine l (b ++ q)) λ v e.
       ends-then {G = λ w. w.1 ≡ q} (evaluate d S v.1) _ (rw e (evaluate-reads nine r q)) λ w f.
-      ends-then (at _ (apply (op_of o) v.0 w.0)) _ (fine-at P _ _ (apply-fine P eight nine (op_of o) v.0 w.0)) λ x u. ends-got f)
+      ends-then (at (pos 25 ∷ pos o ∷ a ++ (b ++ q)) (apply (op_of o) v.0 w.0)) _ (fine-at P (pos 25 ∷ pos o ∷ a ++ (b ++ q)) _ (apply-fine P eight nine (op_of o) v.0 w.0)) λ x u. ends-got f)
   evaluate-reads nine (Expression.identity {d = d} {a = a} {b = b} i x y) q =
       rw (form_in (Expression.identity {d = d} i x y) q an_identity (number-first _ _), append_assoc a b q)
       (ends-then (value_at S (a ++ (b ++ q))) _ (value-reads P seven S (path-at x (b ++ q))) λ v e.

@@ -116,11 +116,11 @@ module _ (c : List ℤ) (s : Sort) (k : ℕ) (long : length c ≡ constraints_wo
       place t i h (yes e) = rw e (keep-old c s k i (rw e at h))
       place t i h (no n) = keep-position-other c s k t i n
 
-keeps-stay : {c d : List ℤ} {s : Sort} {k : ℕ} → length c ≡ constraints_words → Keeps c s k d → PositionsStay c d
+keeps-stay : {c : List ℤ} {s : Sort} {k : ℕ} {d : List ℤ} → length c ≡ constraints_words → Keeps c s k d → PositionsStay c d
 keeps-stay {c} long (again e) = positions-self c
 keeps-stay {c} {s = s} {k = k} long (added e l) = with-stays c s k long
 
-keeps-long : {c d : List ℤ} {s : Sort} {k : ℕ} → Keeps c s k d → length d ≡ length c
+keeps-long : {c : List ℤ} {s : Sort} {k : ℕ} {d : List ℤ} → Keeps c s k d → length d ≡ length c
 keeps-long (again e) = refl
 keeps-long {c} {s = s} {k = k} (added e l) = keep-length c s k
 

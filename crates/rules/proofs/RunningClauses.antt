@@ -78,6 +78,9 @@ module _ (block : List ℤ → Tally → Out) (past : List ℤ → List ℤ) (pr
   verb-simple once is-once = refl
   verb-simple always_same is-always-same = refl
   verb-simple once_same is-once-same = refl
+  verb-simple branch i = elim i [ ]
+  verb-simple loop i = elim i [ ]
+  verb-simple no_verb i = elim i [ ]
 
   -- a word that is no verb is refused as a simple statement that is none
   pub verb-none : do_verb block past program budget p no_verb t ≡ taken program t (do_simple program p t.state t.unread no_verb)

@@ -92,6 +92,7 @@ turning-complete (OneOf.tail (OneOf.head e)) = rw e
 turning-complete (OneOf.tail (OneOf.tail (OneOf.head e))) = rw e
 turning-complete (OneOf.tail (OneOf.tail (OneOf.tail (OneOf.head e)))) = rw e
 turning-complete (OneOf.tail (OneOf.tail (OneOf.tail (OneOf.tail (OneOf.head e))))) = rw e
+turning-complete (OneOf.tail (OneOf.tail (OneOf.tail (OneOf.tail (OneOf.tail i))))) = elim i [ ]
 
 -- a number that is none of them
 pub not-turning : {n : ℕ} → turns_down n ≡ false → OneOf n turning → ⊥
@@ -140,7 +141,7 @@ uncounted-own (Uncounted.kept a b c) = refl
 
 phase-own : {program kept : List ℤ} {before : Cells} {target n : ℕ} {prefix : List ℕ} {v : Value} → PhaseFails program kept before target prefix v n → turns_down n ≡ false
 unfolding turns_down
-phase-own (PhaseFails.no_Node a b c) = refl
+phase-own (PhaseFails.no_node a b c) = refl
 phase-own (PhaseFails.clash a b c d e) = refl
 
 unsame-own : {S : Cells} {word p : List ℤ} {f : Fault} → Unsame S word p f → turns_down f.number ≡ false

@@ -2,7 +2,7 @@
 use mathlib.Core.Path.{◌≡◌, refl, sym, ◌∙◌}
 use mathlib.Core.Bool.{false}
 use mathlib.Core.List.{List, ◌∷◌, ◌++◌, append_assoc}
-use Prim.Native.Nat.{ℕ, suc, ◌+◌, ◌-◌, ◌≤◌, ◌<◌}
+use Prim.Native.Nat.{ℕ, zero, suc, ◌+◌, ◌-◌, ◌≤◌, ◌<◌}
 use native.Mathlib.Omega.{arith}
 use native.Mathlib.Decide.{ℕ_discrete}
 use lib.IntN.{ℤ, pos}
@@ -164,6 +164,7 @@ row-starts d left n p h =
     rw (i, z) at (looking-starts (suc d) left (pos n ∷ p) (λ e. omega arith) (rw i h))
 
 pub block-found : (d left : ℕ) (ws : List ℤ) → Yields (block_of d) ws → (q : List ℤ) (v k : ℕ) → At v k ≡ spot_block d left (ws ++ q) → Found (ws ++ q) q left v k
+block-found zero left ws y q v k e = elim y [ ]
 block-found (suc d) left ws (Yields.block {n = n} {ss = ss} a y) q v k e =
     row-found d left (block-found d left) n 0 (pos n ∷ (ss ++ q)) y q v k (omega arith) (part-drop 1 (pos n ∷ (ss ++ q))) (row-starts d left n (ss ++ q) a) e
 

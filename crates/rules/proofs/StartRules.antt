@@ -119,6 +119,7 @@ module _ (program : List ℤ) (S : Cells) where
     where
       rest : Splits Identities (positions kept Identities) [] x → early 4 (identities_hold program S (positions kept Identities)) ≡ stop (record { number = 4; place = x.1 })
       rest (of-it e) = rw e
+      rest (after e i) = elim i [ ]
 
       go : Splits Values (positions kept Values) (map (λ k. (Identities, k)) (positions kept Identities)) x
           → (early 4 (values_hold program S (positions kept Values)) >> early 4 (identities_hold program S (positions kept Identities))) ≡ stop (record { number = 4; place = x.1 })
@@ -205,6 +206,7 @@ module _ (program : List ℤ) (budget : ℤ) (S : State) where
       first rest (FirstNot.here f) = rw (fails _ f)
       first rest (FirstNot.later a (FirstNot.here f)) = rw (a, fails _ f)
       first rest (FirstNot.later a (FirstNot.later b (FirstNot.here f))) = rw (a, b, fails _ f)
+      first rest (FirstNot.later a (FirstNot.later b (FirstNot.later c i))) = elim i [ ]
   unstarted-complete (broken {s = s} {k = k} m g (more a (more b (more c none))) f) =
       rw (measured-iff.1 m, program-complete program g, a, b, c) (order-stops program S.cells S.kept (s, k) f)
 

@@ -6,11 +6,11 @@ use borrow.Author.Tests.{not-true, not-false, eq-eqb, ne_eqb}
 use lib.Dec.{eqb}
 
 -- a test that was taken or left, read through what the callee promises
-pub refused : {r d : Bool} → not r ≡ true → r ≡ d → d ≡ false
-refused {r = r} n e = sym e ∙ not-true r n
+pub refused : {r d : Bool} → r ≡ false → r ≡ d → d ≡ false
+refused n e = sym e ∙ n
 
-pub passed : {r d : Bool} → not r ≡ false → r ≡ d → d ≡ true
-passed {r = r} n e = sym e ∙ not-false r n
+pub passed : {r d : Bool} → r ≡ true → r ≡ d → d ≡ true
+passed n e = sym e ∙ n
 
 -- two numbers that are the same or differ, read through what the callee promises
 pub met : {a b d e : ℕ} → a ≡ b → a ≡ d → b ≡ e → not (eqb d e) ≡ false

@@ -88,7 +88,7 @@ module _ (G : Given) where
         by (t, (ss, (u, (v, j)))) = to v (statement-read G d go goes r rest x (ss ++ y) e g u j a f s b z w)
     rows-read r rest x y zero e (Yields.more t g n v) l q h a f s b k z w = absurd (omega (arith, row-some v))
     rows-read {c = c} r rest x y (suc m) e (Yields.more {n = n'} {a = us} {b = vs} t {va = va} {vb = vb} {oa = oa} {ob = ob} g n v) l q h a f s b k z w =
-        by (as_one l refl (sym (append_assoc va vb x) ∙ q)) (λ u ss l q i at. rows-read u rest x y m e v l q (omega arith) at i s b k (omega (arith, length-append va vb)) w)
+        by (as_one l refl (sym (append_assoc va vb x) ∙ q)) (λ u ss l q i at. rows-read {c = c + length va + 0} u rest x y m e v l q (omega arith) at i s b k (omega (arith, length-append va vb)) w)
       where
         at : At G r c (us ++ t ∷ (vs ++ rest))
         at = rw (append_assoc us (t ∷ vs) rest) at a

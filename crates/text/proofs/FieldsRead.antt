@@ -137,7 +137,7 @@ module _ (G : Given) where
   row_read rest x y zero seen e (Fields.more l k j p q d t v) g h o a n s z w = absurd (omega (arith, fields-some v))
   row_read {c} {r = r} rest x y (suc m) seen e (Fields.more {n = n'} l k j {a = us} {b = b} {va = va} {vb = vb} {oa = oa} {ob = ob} p q d t v) g h o a n s z w =
       by (field_cut d g (ap (λ (ws : List ℤ). pos (number_in G.text G.ls l) ∷ ws) (sym (append_assoc va vb x)) ∙ h))
-      (λ u fs f g i at. row_read rest x y m (number_in G.text G.ls l ∷ seen) e v f g (omega arith) at i s (omega (arith, length-append va vb)) w)
+      (λ u fs f g i at. row_read {c = c + 1 + length va + 0} rest x y m (number_in G.text G.ls l ∷ seen) e v f g (omega arith) at i s (omega (arith, length-append va vb)) w)
     where
       at : At G r c (l ∷ k ∷ (us ++ j ∷ (b ++ rest)))
       at = rw (append_assoc us (j ∷ b) rest) at a

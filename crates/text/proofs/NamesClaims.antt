@@ -247,8 +247,8 @@ module _ {text : List ℕ} {at : ℕ} {done : List Token} {ns : List Named} (S :
 names-numbered : {text : List ℕ} {at : ℕ} (done : List Token) {ts : List Token} {ns ms : List Named}
     → NamesAre text ns ts ms → Inside text at ts → Seen text at done ns → Numbered text (done ++ ts) ms
 names-numbered done NamesAre.none i S = rw (append-nil done) (seen-numbered S)
-names-numbered done (NamesAre.more {t = t} {ts = ts} k) (Inside.more a b c i) S =
-    rw (append_assoc done (t ∷ []) ts) at (names-numbered (done ++ t ∷ []) k i (seen-with S t a b c))
+names-numbered {at = at} done (NamesAre.more {t = t} {ts = ts} k) (Inside.more a b c i) S =
+    rw (append_assoc done (t ∷ []) ts) at (names-numbered {at = t.end} (done ++ t ∷ []) k i (seen-with S t a b c))
 
 -- ---- the claims
 

@@ -149,7 +149,7 @@ module _ (G : Given) where
   parts-read {c} {r = r} {j = j} rest x y (suc m) e (Parts.more {n = n} {a = a} {b = us} t {va = va} {vb = vb} {oa = oa} {ob = ob} d k g) l q b h at s u z w =
       let at' : At G r c (j ∷ (a ++ t ∷ (us ++ rest))) = rw (append_assoc a (t ∷ us) rest) at at in
       by at' (part_cut d l (sym (append_assoc va vb x) ∙ q)) (plain G 0 at' (λ v. absurd (omega arith)))
-      (λ i ps l v at. parts-read rest x y m e g l v k (omega arith) at s u (omega (arith, length-append va vb)) w)
+      (λ i ps l v at. parts-read {c = c + length va} rest x y m e g l v k (omega arith) at s u (omega (arith, length-append va vb)) w)
     where
       to : {f : ℕ} → At G r c (j ∷ (a ++ t ∷ (us ++ rest))) → (o : r.at < (peek G.text r).end) → (i : Done G (part_at G.text (taken G 0 r)) (peek G.text r).end f (t ∷ (us ++ rest)) va oa 1)
           → Counts (parts_on G.text m i.reader) n i.reader.at e rest vb ob → Counts (parts_on G.text (suc m) r) (suc n) r.at e rest (va ++ vb) (oa ++ ob)

@@ -68,6 +68,7 @@ every t [] = true
 every t (r ∷ rs) = t r && every t rs
 
 pub in-every : (t : Row → Bool) (r : Row) (rs : List Row) → every t rs ≡ true → In r rs → t r ≡ true
+in-every t r [] e i = elim i [ ]
 in-every t r (q ∷ rs) e In.here = and_first (t r) (every t rs) e
 in-every t r (q ∷ rs) e (In.later i) = in-every t r rs (and_second (t q) (every t rs) e) i
 

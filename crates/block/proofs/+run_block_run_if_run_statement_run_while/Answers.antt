@@ -62,7 +62,7 @@ run_if-returns-else-b t c = if-second c.args.program.now c.args.budget c.args.p.
 
 -- src/lib.rt:30:9
 pub run_statement-returns-then-not-holds_blocks : goal.run_statement-returns-then-not-holds_blocks
-run_statement-returns-then-not-holds_blocks t c = statement-simple c.args.program.now c.args.budget c.args.p.now c.args.proposals.now (tables c.args.environment.now c.args.heap.now c.args.constraints.now) c.args.d c.requires (sym (not-true c.holds_blocks.result c.if-not-holds_blocks.true) ∙ (rw c.number_at-verb.ensures at c.holds_blocks.ensures)) c.stepped_on.ensures
+run_statement-returns-then-not-holds_blocks t c = statement-simple c.args.program.now c.args.budget c.args.p.now c.args.proposals.now (tables c.args.environment.now c.args.heap.now c.args.constraints.now) c.args.d c.requires (sym c.if-not-holds_blocks.true ∙ (rw c.number_at-verb.ensures at c.holds_blocks.ensures)) c.stepped_on.ensures
 
 -- src/lib.rt:43:9
 pub run_statement-returns-then-u-ne0 : goal.run_statement-returns-then-u-ne0
@@ -82,7 +82,7 @@ run_statement-run_while-requires t c = (omega (arith, c.decreases), statement-be
 
 -- src/lib.rt:14:1
 pub run_statement-returns : goal.run_statement-returns
-run_statement-returns t c = statement-while c.args.program.now c.args.budget c.args.p.now c.args.proposals.now (tables c.args.environment.now c.args.heap.now c.args.constraints.now) c.args.d c.requires c.less.ensures c.pay-u.ensures c.if-u-ne0.false (sym (not-false c.holds_blocks.result c.if-not-holds_blocks.false) ∙ (rw c.number_at-verb.ensures at c.holds_blocks.ensures)) (λ e. c.if-verb-eq7.false (c.number_at-verb.ensures ∙ e)) c.run_while.ensures
+run_statement-returns t c = statement-while c.args.program.now c.args.budget c.args.p.now c.args.proposals.now (tables c.args.environment.now c.args.heap.now c.args.constraints.now) c.args.d c.requires c.less.ensures c.pay-u.ensures c.if-u-ne0.false (sym c.if-not-holds_blocks.false ∙ (rw c.number_at-verb.ensures at c.holds_blocks.ensures)) (λ e. c.if-verb-eq7.false (c.number_at-verb.ensures ∙ e)) c.run_while.ensures
 
 -- src/lib.rt:142:5
 pub run_while-loop-number-init : goal.run_while-loop-number-init
@@ -94,7 +94,7 @@ run_while-returns-in-Fails t c = turning-refused c.loop-number.invariant c.test_
 
 -- src/lib.rt:149:21
 pub run_while-returns-then-not-b : goal.run_while-returns-then-not-b
-run_while-returns-then-not-b t c = turning-quits c.loop-number.invariant c.test_at.ensures (c.in-Is.is ∙ ap Is (not-true c.in-Is.b c.if-not-b.true))
+run_while-returns-then-not-b t c = turning-quits c.loop-number.invariant c.test_at.ensures (c.in-Is.is ∙ ap Is c.if-not-b.true)
 
 -- src/lib.rt:153:13
 pub run_while-run_block-w-requires : goal.run_while-run_block-w-requires
@@ -102,7 +102,7 @@ run_while-run_block-w-requires t c = (omega (arith, c.decreases), c.loop-number.
 
 -- src/lib.rt:165:13
 pub run_while-returns-then-w-ne0 : goal.run_while-returns-then-w-ne0
-run_while-returns-then-w-ne0 t c = turning-halts c.loop-number.invariant c.test_at.ensures (c.in-Is.is ∙ ap Is (not-false c.in-Is.b c.if-not-b.false)) c.run_block-w.ensures c.if-w-ne0.true
+run_while-returns-then-w-ne0 t c = turning-halts c.loop-number.invariant c.test_at.ensures (c.in-Is.is ∙ ap Is c.if-not-b.false) c.run_block-w.ensures c.if-w-ne0.true
 
 -- src/lib.rt:169:13
 pub run_while-shape_of-environment-then-u-ne0 : goal.run_while-shape_of-environment-then-u-ne0
@@ -118,12 +118,12 @@ run_while-shape_of-constraints-then-u-ne0 t c = c.run_block-w.auto.constraints �
 
 -- src/lib.rt:169:13
 pub run_while-returns-then-u-ne0 : goal.run_while-returns-then-u-ne0
-run_while-returns-then-u-ne0 t c = turning-broke c.loop-number.invariant c.test_at.ensures (c.in-Is.is ∙ ap Is (not-false c.in-Is.b c.if-not-b.false)) c.run_block-w.ensures c.if-w-ne0.false c.pay-u.ensures c.if-u-ne0.true
+run_while-returns-then-u-ne0 t c = turning-broke c.loop-number.invariant c.test_at.ensures (c.in-Is.is ∙ ap Is c.if-not-b.false) c.run_block-w.ensures c.if-w-ne0.false c.pay-u.ensures c.if-u-ne0.true
 
 -- src/lib.rt:142:5
 pub run_while-loop-number-smaller : goal.run_while-loop-number-smaller
-run_while-loop-number-smaller t c = turning-less c.loop-number.invariant c.test_at.ensures (c.in-Is.is ∙ ap Is (not-false c.in-Is.b c.if-not-b.false)) c.run_block-w.ensures c.if-w-ne0.false c.pay-u.ensures c.if-u-ne0.false
+run_while-loop-number-smaller t c = turning-less c.loop-number.invariant c.test_at.ensures (c.in-Is.is ∙ ap Is c.if-not-b.false) c.run_block-w.ensures c.if-w-ne0.false c.pay-u.ensures c.if-u-ne0.false
 
 -- src/lib.rt:142:5
 pub run_while-loop-number-preserved : goal.run_while-loop-number-preserved
-run_while-loop-number-preserved t c = turning-again c.loop-number.invariant c.test_at.ensures (c.in-Is.is ∙ ap Is (not-false c.in-Is.b c.if-not-b.false)) c.run_block-w.ensures c.if-w-ne0.false c.pay-u.ensures c.if-u-ne0.false (record { environment = c.run_block-w.auto.environment; heap = c.run_block-w.auto.heap; constraints = c.run_block-w.auto.constraints })
+run_while-loop-number-preserved t c = turning-again c.loop-number.invariant c.test_at.ensures (c.in-Is.is ∙ ap Is c.if-not-b.false) c.run_block-w.ensures c.if-w-ne0.false c.pay-u.ensures c.if-u-ne0.false (record { environment = c.run_block-w.auto.environment; heap = c.run_block-w.auto.heap; constraints = c.run_block-w.auto.constraints })

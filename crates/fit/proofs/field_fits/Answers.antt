@@ -1,3 +1,4 @@
+use borrow.Author.Rules.{rules}
 use mathlib.Core.Path.{◌≡◌, ap}
 use borrow.Author.Tests.{ne_eqb}
 use Rattle.words.specs.Words.{number_of}
@@ -17,7 +18,7 @@ returns-then-not-label_fits c = rw (refused c.if-not-label_fits.true c.label_fit
 pub returns-then-number-eq0 : goal.returns-then-number-eq0
 unfolding field_fits
 returns-then-number-eq0 c =
-    let b = back32 c.field_at-c.result.kind (record { sfits = c.type_inv.c.0.1 }) in
+    let b = back32 c.field_at-c.result.kind (search rules) in
     let k : c.field_at-c.result.kind ≡ (field_at c.args.heap.now c.args.r c.args.f).kind = ap (λ (x : Cell). x.kind) c.field_at-c.ensures in
     let q : number_of (field_at c.args.heap.now c.args.r c.args.f).kind ≡ 0 = cc in
     rw (passed c.if-not-label_fits.false c.label_fits.ensures, q)
@@ -26,7 +27,7 @@ returns-then-number-eq0 c =
 pub returns : goal.returns
 unfolding field_fits
 returns c =
-    let b = back32 c.field_at-c.result.kind (record { sfits = c.type_inv.c.0.1 }) in
+    let b = back32 c.field_at-c.result.kind (search rules) in
     let w = back32 c.word_at.result (record { sfits = c.word_at.type_inv }) in
     let k : c.field_at-c.result.kind ≡ (field_at c.args.heap.now c.args.r c.args.f).kind = ap (λ (x : Cell). x.kind) c.field_at-c.ensures in
     let q : c.number.result ≡ number_of (field_at c.args.heap.now c.args.r c.args.f).kind = cc in

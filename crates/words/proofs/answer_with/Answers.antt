@@ -5,13 +5,12 @@ use Rattle.words.proofs.answer_with.Goals as goal
 -- src/whole.rt:82:1
 pub returns : goal.returns
 returns c =
-    let a = c in
     rw (
-      back32 a.word_of-a.result (record { sfits = a.word_of-a.type_inv }),
+      back32 c.word_of-a.result (record { sfits = c.word_of-a.type_inv }),
       back32 c.word_of-b.result (record { sfits = c.word_of-b.type_inv }),
       back32 c.word_of-c.result (record { sfits = c.word_of-c.type_inv }),
       back32 c.word_of-d.result (record { sfits = c.word_of-d.type_inv }),
-      a.word_of-a.ensures,
+      c.word_of-a.ensures,
       c.word_of-b.ensures,
       c.word_of-c.ensures,
       c.word_of-d.ensures,

@@ -1,11 +1,12 @@
+use borrow.Author.Rules.{rules}
 use Rattle.words.proofs.Signed.{back32}
 use Rattle.compared.proofs.answers.compared_expression.Goals as goal
 
 -- src/answers.rt:64:1
 pub returns-in-Got : goal.returns-in-Got
 returns-in-Got c =
-    let k = back32 c.cell_of-cell.result.kind (record { sfits = c.type_inv.cell.0.1 }) in
-    let p = back32 c.cell_of-cell.result.payload (record { sfits = c.type_inv.cell.1.0.1 }) in
+    let k = back32 c.cell_of-cell.result.kind (search rules) in
+    let p = back32 c.cell_of-cell.result.payload (search rules) in
     let w = back32 c.word_of.result (record { sfits = c.word_of.type_inv }) in
     rw (← c.find_value.ensures, c.in-Got.is) cc
 

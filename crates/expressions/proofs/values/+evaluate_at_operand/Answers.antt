@@ -33,7 +33,7 @@ evaluate_at-returns-then-row-eq0 t c = rw (← c.if-j-ne0.false) (ends-alone c.r
 pub evaluate_at-settled-requires : goal.evaluate_at-settled-requires
 evaluate_at-settled-requires t c =
     let i = c.row_at-row.ensures.two c.if-row-ne0.false c.if-row-eq0.false in
-    (omega (arith, c.if-row-eq0.false), rw i.operator i.most)
+    record { le_o = omega (arith, c.if-row-eq0.false); o_bound = rw i.operator i.most }
 
 -- src/values.rt:280:13
 pub evaluate_at-returns-then-seen : goal.evaluate_at-returns-then-seen

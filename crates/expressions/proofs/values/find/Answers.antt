@@ -1,3 +1,4 @@
+use borrow.Author.Rules.{rules}
 use mathlib.Core.Path.{sym, ap, ◌∙◌}
 use Prim.Native.Nat.{◌-◌}
 use Rattle.words.specs.Words.{number_of}
@@ -12,21 +13,21 @@ loop-i-init c = finding-starts c.read_cell-c.ensures
 -- src/values.rt:66:13
 pub returns-then-number-ne4 : goal.returns-then-number-ne4
 returns-then-number-ne4 c =
-    let k = c.number.ensures ∙ ap number_of (back32 c.loop-i.c.kind (record { sfits = c.type_inv.c.0.1 })) in
+    let k = c.number.ensures ∙ ap number_of (back32 c.loop-i.c.kind (search rules)) in
     finding-none c.loop-i.invariant c.loop-i-test.true (λ h. c.if-number-ne4.true (k ∙ h))
 
 -- src/values.rt:70:17
 pub returns-in-Nothing : goal.returns-in-Nothing
 returns-in-Nothing c =
-    let k = c.number.ensures ∙ ap number_of (back32 c.loop-i.c.kind (record { sfits = c.type_inv.c.0.1 })) in
-    let x = c.number-in-loop-i.ensures ∙ ap number_of (back32 c.loop-i.c.payload (record { sfits = c.type_inv.c.1.0.1 })) in
+    let k = c.number.ensures ∙ ap number_of (back32 c.loop-i.c.kind (search rules)) in
+    let x = c.number-in-loop-i.ensures ∙ ap number_of (back32 c.loop-i.c.payload (search rules)) in
     finding-lost c.loop-i.invariant c.loop-i-test.true (sym k ∙ c.if-number-ne4.false) (rw (x, c.number_at.ensures) at c.find_field.ensures) c.in-Nothing.is
 
 -- src/values.rt:64:5
 pub loop-i-preserved : goal.loop-i-preserved
 loop-i-preserved c =
-    let k = c.number.ensures ∙ ap number_of (back32 c.loop-i.c.kind (record { sfits = c.type_inv.c.0.1 })) in
-    let x = c.number-in-loop-i.ensures ∙ ap number_of (back32 c.loop-i.c.payload (record { sfits = c.type_inv.c.1.0.1 })) in
+    let k = c.number.ensures ∙ ap number_of (back32 c.loop-i.c.kind (search rules)) in
+    let x = c.number-in-loop-i.ensures ∙ ap number_of (back32 c.loop-i.c.payload (search rules)) in
     finding-goes-on c.loop-i.invariant c.loop-i-test.true (sym k ∙ c.if-number-ne4.false) (rw (x, c.number_at.ensures) at c.find_field.ensures) c.in-At.is c.read_cell-c-in-At.ensures
 
 -- src/values.rt:59:1

@@ -9,8 +9,8 @@ returns-then-after-gt0 c = budget-more c.args.text.now c.after.ensures c.if-afte
 
 -- src/reading.rt:65:9
 pub returns-then-not-begins_with : goal.returns-then-not-begins_with
-returns-then-not-begins_with c = budget-unnamed c.args.text.now c.after.ensures c.if-after-gt0.false c.up_to-line.ensures (sym c.begins_with.ensures ∙ not-true _ c.if-not-begins_with.true)
+returns-then-not-begins_with c = budget-unnamed c.args.text.now c.after.ensures c.if-after-gt0.false c.up_to-line.ensures (sym c.begins_with.ensures ∙ c.if-not-begins_with.true)
 
 -- src/reading.rt:57:1
 pub returns : goal.returns
-returns c = budget-number c.args.text.now c.after.ensures c.if-after-gt0.false c.up_to-line.ensures (sym c.begins_with.ensures ∙ not-false _ c.if-not-begins_with.false) c.bytes_from.ensures c.number.ensures
+returns c = budget-number c.args.text.now c.after.ensures c.if-after-gt0.false c.up_to-line.ensures (sym c.begins_with.ensures ∙ c.if-not-begins_with.false) c.bytes_from.ensures c.number.ensures

@@ -26,7 +26,7 @@ pass_on-requires c = record { n_le_most_ties = omega (arith, c.kept_count-n.ensu
 
 -- src/classes.rt:306:17
 pub returns-then-not-is_clash_free : goal.returns-then-not-is_clash_free
-returns-then-not-is_clash_free c = class-clashes c.args.program.now c.args.constraints.now (cells c.args.environment.now c.args.heap.now) c.args.p.now c.args.target c.args.v c.kept_count-n.ensures c.requires.unmarked c.requires.target_lt_locations c.mark.ensures c.pass.ensures c.in-Over.is c.is_node.ensures c.if-names-is_node.false c.pass_on.ensures c.is_clash_free.ensures (not-true c.is_clash_free.result c.if-not-is_clash_free.true)
+returns-then-not-is_clash_free c = class-clashes c.args.program.now c.args.constraints.now (cells c.args.environment.now c.args.heap.now) c.args.p.now c.args.target c.args.v c.kept_count-n.ensures c.requires.unmarked c.requires.target_lt_locations c.mark.ensures c.pass.ensures c.in-Over.is c.is_node.ensures c.if-names-is_node.false c.pass_on.ensures c.is_clash_free.ensures c.if-not-is_clash_free.true
 
 -- src/classes.rt:261:1
 pub returns-in-Lost : goal.returns-in-Lost
@@ -34,4 +34,4 @@ returns-in-Lost c = class-lost c.args.program.now c.args.constraints.now (cells 
 
 -- src/classes.rt:261:1
 pub returns-else-not-is_clash_free : goal.returns-else-not-is_clash_free
-returns-else-not-is_clash_free c = class-found c.args.program.now c.args.constraints.now (cells c.args.environment.now c.args.heap.now) c.args.p.now c.args.target c.args.v c.kept_count-n.ensures c.requires.unmarked c.requires.target_lt_locations c.mark.ensures c.pass.ensures c.in-Over.is c.is_node.ensures c.if-names-is_node.false c.pass_on.ensures c.is_clash_free.ensures (not-false c.is_clash_free.result c.if-not-is_clash_free.false)
+returns-else-not-is_clash_free c = class-found c.args.program.now c.args.constraints.now (cells c.args.environment.now c.args.heap.now) c.args.p.now c.args.target c.args.v c.kept_count-n.ensures c.requires.unmarked c.requires.target_lt_locations c.mark.ensures c.pass.ensures c.in-Over.is c.is_node.ensures c.if-names-is_node.false c.pass_on.ensures c.is_clash_free.ensures c.if-not-is_clash_free.false

@@ -4,8 +4,8 @@ use Rattle.phases.proofs.classes.may_take.Goals as goal
 
 -- src/classes.rt:190:9
 pub returns-then-not-is_marked : goal.returns-then-not-is_marked
-returns-then-not-is_marked c = rw (sym c.is_marked.ensures ∙ not-true c.is_marked.result c.if-not-is_marked.true)
+returns-then-not-is_marked c = rw (sym c.is_marked.ensures ∙ c.if-not-is_marked.true)
 
 -- src/classes.rt:186:1
 pub returns : goal.returns
-returns c = rw (sym c.is_marked.ensures ∙ not-false c.is_marked.result c.if-not-is_marked.false) c.holds.ensures
+returns c = rw (sym c.is_marked.ensures ∙ c.if-not-is_marked.false) c.holds.ensures

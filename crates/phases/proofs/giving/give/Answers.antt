@@ -10,7 +10,7 @@ mark_class-requires c = record { target_lt_locations = target-low c.args.program
 
 -- src/giving.rt:163:25
 pub returns-then-not-is_way_free : goal.returns-then-not-is_way_free
-returns-then-not-is_way_free c = give-way-clash c.args.program.now c.args.p.now c.args.constraints.now c.args.proposals.now (cells c.args.environment.now c.args.heap.now) c.args.v c.part_from-q.ensures c.cell_at.ensures c.in-Cell.is c.mark_class.ensures c.in-May.is c.is_way_free.ensures (not-true c.is_way_free.result c.if-not-is_way_free.true)
+returns-then-not-is_way_free c = give-way-clash c.args.program.now c.args.p.now c.args.constraints.now c.args.proposals.now (cells c.args.environment.now c.args.heap.now) c.args.v c.part_from-q.ensures c.cell_at.ensures c.in-Cell.is c.mark_class.ensures c.in-May.is c.is_way_free.ensures c.if-not-is_way_free.true
 
 -- src/giving.rt:165:21
 pub move_class-requires : goal.move_class-requires
@@ -26,4 +26,4 @@ returns-in-Refuses c = give-clash c.args.program.now c.args.p.now c.args.constra
 
 -- src/giving.rt:134:1
 pub returns-else-not-is_way_free : goal.returns-else-not-is_way_free
-returns-else-not-is_way_free c = does-same (give-moves c.args.program.now c.args.p.now c.args.constraints.now c.args.proposals.now (cells c.args.environment.now c.args.heap.now) c.args.v c.part_from-q.ensures c.cell_at.ensures c.in-Cell.is c.mark_class.ensures c.in-May.is c.is_way_free.ensures (not-false c.is_way_free.result c.if-not-is_way_free.false)) c.move_class.ensures
+returns-else-not-is_way_free c = does-same (give-moves c.args.program.now c.args.p.now c.args.constraints.now c.args.proposals.now (cells c.args.environment.now c.args.heap.now) c.args.v c.part_from-q.ensures c.cell_at.ensures c.in-Cell.is c.mark_class.ensures c.in-May.is c.is_way_free.ensures c.if-not-is_way_free.false) c.move_class.ensures

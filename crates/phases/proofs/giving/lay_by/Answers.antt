@@ -1,3 +1,4 @@
+use borrow.Author.Rules.{rules}
 use Rattle.words.proofs.Signed.{back32}
 use Rattle.phases.proofs.PutLaws.{laid-past, laid}
 use Rattle.phases.proofs.giving.lay_by.Goals as goal
@@ -8,4 +9,4 @@ returns-then-saved-i c = laid-past c.args.saved.now c.args.i c.args.c c.if-saved
 
 -- src/undoing.rt:8:1
 pub returns : goal.returns
-returns c = laid c.args.saved.now c.args.i c.args.c (back32 c.args.c.kind (record { sfits = c.type_inv.c.0.1 })) (back32 c.args.c.payload (record { sfits = c.type_inv.c.1.0.1 })) c.store.ensures c.store-2.ensures
+returns c = laid c.args.saved.now c.args.i c.args.c (back32 c.args.c.kind (search rules)) (back32 c.args.c.payload (search rules)) c.store.ensures c.store-2.ensures

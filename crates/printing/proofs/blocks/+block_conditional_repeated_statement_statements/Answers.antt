@@ -1,7 +1,7 @@
 use mathlib.Core.Path.{◌∙◌}
 use Prim.Native.Nat.{◌-◌}
 use mathlib.Core.Path.{refl, ap}
-use mathlib.Core.List.{◌∷◌}
+use mathlib.Core.List.{[], ◌∷◌}
 use native.Mathlib.Omega.{arith}
 use lib.ListN.{length, drop}
 use Rattle.program.specs.Forms.{skip, assign, new as making, always, once, always_same, once_same, branch, loop}
@@ -74,7 +74,7 @@ statement-repeated-requires t c = omega (arith, c.decreases)
 pub statement-returns-in-0 : goal.statement-returns-in-0
 unfolding verb_text
 statement-returns-in-0 t c =
-    verb-gives c.args.d c.args.p.now c.number_at-verb.ensures skip c.in-0.is (omega arith) (wrote-plain c.add.ensures refl, ap length c.part_from-q.ensures)
+    verb-gives c.args.d c.args.p.now c.number_at-verb.ensures skip c.in-0.is (omega arith) (record { wrote = wrote-plain c.add.ensures refl; value = ap length c.part_from-q.ensures })
 
 -- src/blocks.rt:57:1
 pub statement-returns-in-1 : goal.statement-returns-in-1

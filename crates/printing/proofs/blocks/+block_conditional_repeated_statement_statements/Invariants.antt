@@ -1,5 +1,5 @@
 use Prim.Native.Nat.{◌+◌, ◌-◌, ◌*◌}
-use mathlib.Core.List.{◌∷◌}
+use mathlib.Core.List.{[], ◌∷◌}
 use Rattle.printing.specs.Signs.{line, semicolon_sign}
 use Rattle.printing.specs.Naming.{naming}
 use Rattle.printing.specs.Printing.{statement_text, statements_text}

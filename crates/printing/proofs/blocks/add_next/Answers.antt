@@ -1,5 +1,5 @@
 use mathlib.Core.Path.{sym}
-use mathlib.Core.List.{◌∷◌}
+use mathlib.Core.List.{[], ◌∷◌}
 use Rattle.printing.specs.Signs.{line_bytes}
 use Rattle.printing.specs.Page.{ink}
 use Rattle.printing.proofs.PageLaws.{onto-none, onto-then}

@@ -24,19 +24,19 @@ expression-operation-requires t c = omega (arith, c.decreases, c.if-d-eq0.false)
 pub expression-returns-in-20 : goal.expression-returns-in-20
 unfolding form_text
 expression-returns-in-20 t c =
-    form-gives c.args.d c.args.low c.args.p.now c.if-d-eq0.false c.number_at-form.ensures a_nil c.in-20.is (omega arith) (wrote-plain c.add.ensures refl, ap length c.part_from-q.ensures)
+    form-gives c.args.d c.args.low c.args.p.now c.if-d-eq0.false c.number_at-form.ensures a_nil c.in-20.is (omega arith) (record { wrote = wrote-plain c.add.ensures refl; value = ap length c.part_from-q.ensures })
 
 -- src/expressions.rt:35:1
 pub expression-returns-in-21 : goal.expression-returns-in-21
 unfolding form_text
 expression-returns-in-21 t c =
-    form-gives c.args.d c.args.low c.args.p.now c.if-d-eq0.false c.number_at-form.ensures a_false c.in-21.is (omega arith) (wrote-plain c.add-in-21.ensures refl, ap length c.part_from-q.ensures)
+    form-gives c.args.d c.args.low c.args.p.now c.if-d-eq0.false c.number_at-form.ensures a_false c.in-21.is (omega arith) (record { wrote = wrote-plain c.add-in-21.ensures refl; value = ap length c.part_from-q.ensures })
 
 -- src/expressions.rt:35:1
 pub expression-returns-in-22 : goal.expression-returns-in-22
 unfolding form_text
 expression-returns-in-22 t c =
-    form-gives c.args.d c.args.low c.args.p.now c.if-d-eq0.false c.number_at-form.ensures a_true c.in-22.is (omega arith) (wrote-plain c.add-in-22.ensures refl, ap length c.part_from-q.ensures)
+    form-gives c.args.d c.args.low c.args.p.now c.if-d-eq0.false c.number_at-form.ensures a_true c.in-22.is (omega arith) (record { wrote = wrote-plain c.add-in-22.ensures refl; value = ap length c.part_from-q.ensures })
 
 -- src/expressions.rt:35:1
 pub expression-returns-in-23 : goal.expression-returns-in-23

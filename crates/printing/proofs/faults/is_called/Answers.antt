@@ -12,7 +12,6 @@ returns-then-length_of-ne0 c =
 -- src/faults.rt:55:1
 pub returns : goal.returns
 returns c =
-    let b = c in
-    let a = b.args in
+    let a = c.args in
     let e = c.bytes_to.ensures ∙ c.default_name-n.ensures.b_after in
-    rw (name-default (naming a.source.now a.names.now) a.i b.length_of.ensures b.if-length_of-ne0.false e) at c.spells-2.ensures
+    rw (name-default (naming a.source.now a.names.now) a.i c.length_of.ensures c.if-length_of-ne0.false e) at c.spells-2.ensures

@@ -9,11 +9,11 @@ returns-then-length_of-eq0 c = fit-ungiven _ _ c.length_of.ensures c.if-length_o
 
 -- src/faults.rt:49:9
 pub returns-then-not-is_part : goal.returns-then-not-is_part
-returns-then-not-is_part c = fit-no-part _ _ c.length_of.ensures c.if-length_of-eq0.false (sym c.is_part.ensures ∙ not-true _ c.if-not-is_part.true)
+returns-then-not-is_part c = fit-no-part _ _ c.length_of.ensures c.if-length_of-eq0.false (sym c.is_part.ensures ∙ c.if-not-is_part.true)
 
 -- src/faults.rt:42:1
 pub returns : goal.returns
 returns c =
     rw c.given_name.ensures at c.is_name.ensures
     ∙ fit-part _ _ c.length_of.ensures c.if-length_of-eq0.false
-    (sym c.is_part.ensures ∙ not-false _ c.if-not-is_part.false)
+    (sym c.is_part.ensures ∙ c.if-not-is_part.false)

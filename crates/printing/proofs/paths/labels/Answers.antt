@@ -1,5 +1,5 @@
 use mathlib.Core.Path.{refl}
-use mathlib.Core.List.{◌∷◌}
+use mathlib.Core.List.{[], ◌∷◌}
 use Rattle.printing.specs.Signs.{dot_sign}
 use Prim.Native.Nat.{◌-◌}
 use Rattle.printing.proofs.PageLaws.{wrote-length, wrote_then, wrote-plain, wrote-label}

@@ -1,5 +1,5 @@
 use mathlib.Core.Path.{refl}
-use mathlib.Core.List.{◌∷◌}
+use mathlib.Core.List.{[], ◌∷◌}
 use Rattle.printing.specs.Signs.{space, identical_sign}
 use Rattle.printing.specs.Printing.{path_text, sides_text}
 use Rattle.printing.proofs.PageLaws.{wrote-plain}

@@ -1,5 +1,5 @@
 use Prim.Native.Nat.{◌-◌}
-use mathlib.Core.List.{◌∷◌}
+use mathlib.Core.List.{[], ◌∷◌}
 use Rattle.printing.specs.Signs.{space, beside_sign}
 use Rattle.printing.specs.Naming.{naming}
 use Rattle.printing.specs.Printing.{part_text, constraint_text}

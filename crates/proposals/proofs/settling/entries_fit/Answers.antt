@@ -15,11 +15,11 @@ returns-then-aims-l c = entries-aimed c.loop-i.invariant c.loop-i-test.true c.nu
 
 -- src/settling.rt:98:13
 pub returns-then-not-may_take : goal.returns-then-not-may_take
-returns-then-not-may_take c = entries-unfit c.loop-i.invariant c.loop-i-test.true c.number_at-l.ensures c.if-aims-l.false c.read_cell.ensures (back32 c.word_at.result (record { sfits = c.word_at.type_inv }) ∙ c.word_at.ensures) (sym (not-true c.may_take.result c.if-not-may_take.true) ∙ c.may_take.ensures)
+returns-then-not-may_take c = entries-unfit c.loop-i.invariant c.loop-i-test.true c.number_at-l.ensures c.if-aims-l.false c.read_cell.ensures (back32 c.word_at.result (record { sfits = c.word_at.type_inv }) ∙ c.word_at.ensures) (sym c.if-not-may_take.true ∙ c.may_take.ensures)
 
 -- src/settling.rt:89:5
 pub loop-i-preserved : goal.loop-i-preserved
-loop-i-preserved c = entries-go-on c.loop-i.invariant c.loop-i-test.true c.number_at-l.ensures c.if-aims-l.false c.read_cell.ensures (back32 c.word_at.result (record { sfits = c.word_at.type_inv }) ∙ c.word_at.ensures) (sym (not-false c.may_take.result c.if-not-may_take.false) ∙ c.may_take.ensures)
+loop-i-preserved c = entries-go-on c.loop-i.invariant c.loop-i-test.true c.number_at-l.ensures c.if-aims-l.false c.read_cell.ensures (back32 c.word_at.result (record { sfits = c.word_at.type_inv }) ∙ c.word_at.ensures) (sym c.if-not-may_take.false ∙ c.may_take.ensures)
 
 -- src/settling.rt:77:1
 pub returns : goal.returns

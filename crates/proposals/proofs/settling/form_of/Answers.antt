@@ -12,8 +12,8 @@ returns-then-n-gt-LOCATIONS c = form-many c.args.proposals.now c.if-proposals-eq
 
 -- src/settling.rt:57:9
 pub returns-then-not-are_pairs : goal.returns-then-not-are_pairs
-returns-then-not-are_pairs c = form-broken c.args.proposals.now c.if-proposals-eq0.false c.number_at-n.ensures c.if-n-gt-LOCATIONS.false c.part_from.ensures c.are_pairs.ensures (not-true c.are_pairs.result c.if-not-are_pairs.true)
+returns-then-not-are_pairs c = form-broken c.args.proposals.now c.if-proposals-eq0.false c.number_at-n.ensures c.if-n-gt-LOCATIONS.false c.part_from.ensures c.are_pairs.ensures c.if-not-are_pairs.true
 
 -- src/settling.rt:46:1
 pub returns : goal.returns
-returns c = form-pairs c.args.proposals.now c.if-proposals-eq0.false c.number_at-n.ensures c.if-n-gt-LOCATIONS.false c.part_from.ensures c.are_pairs.ensures (not-false c.are_pairs.result c.if-not-are_pairs.false)
+returns c = form-pairs c.args.proposals.now c.if-proposals-eq0.false c.number_at-n.ensures c.if-n-gt-LOCATIONS.false c.part_from.ensures c.are_pairs.ensures c.if-not-are_pairs.false

@@ -10,7 +10,7 @@ pub returns-then-not-required : goal.returns-then-not-required
 returns-then-not-required c =
     let a = c.args in
     try-unmet a.program.now a.constraints.now (own_of a.owns (drop 1 a.p.now)) a.p.now (cells a.environment.now a.heap.now) a.proposals.now a.n
-    (rw c.part_from-pairs.ensures at c.apply.ensures) (rw c.part_from.ensures at c.counted_at.ensures) c.in-Reads.is (not-true _ c.if-not-required.true) (rw c.part_from-pairs.ensures at c.put_back-then-not-required.ensures)
+    (rw c.part_from-pairs.ensures at c.apply.ensures) (rw c.part_from.ensures at c.counted_at.ensures) c.in-Reads.is c.if-not-required.true (rw c.part_from-pairs.ensures at c.put_back-then-not-required.ensures)
 
 -- src/settling.rt:124:1
 pub returns-in-Fails : goal.returns-in-Fails
@@ -25,4 +25,4 @@ returns-else-not-required c =
     let a = c.args in
     rw c.less.ensures
     (try-takes a.program.now a.constraints.now (own_of a.owns (drop 1 a.p.now)) a.p.now (cells a.environment.now a.heap.now) a.proposals.now a.n
-    (rw c.part_from-pairs.ensures at c.apply.ensures) (rw c.part_from.ensures at c.counted_at.ensures) c.in-Reads.is (not-false _ c.if-not-required.false))
+    (rw c.part_from-pairs.ensures at c.apply.ensures) (rw c.part_from.ensures at c.counted_at.ensures) c.in-Reads.is c.if-not-required.false)

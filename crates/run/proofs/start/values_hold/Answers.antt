@@ -23,13 +23,13 @@ returns-in-Fails c =
 pub returns-then-not-required : goal.returns-then-not-required
 returns-then-not-required c =
     let l = c.part_from.ensures ∙ ap (drop 1) c.part_from-statement.ensures in
-    rw c.position_at-position.ensures (kept-fails Values _ c.loop-i.invariant c.loop-i-test.true (value-broken c.args.program.now (cells c.args.environment.now c.args.heap.now) (position_at c.args.constraints.now Values c.loop-i.i) _ (rw c.position_at-position.ensures at l) c.constraint_at.ensures c.in-Reads.is (not-true _ c.if-not-required.true)))
+    rw c.position_at-position.ensures (kept-fails Values _ c.loop-i.invariant c.loop-i-test.true (value-broken c.args.program.now (cells c.args.environment.now c.args.heap.now) (position_at c.args.constraints.now Values c.loop-i.i) _ (rw c.position_at-position.ensures at l) c.constraint_at.ensures c.in-Reads.is c.if-not-required.true))
 
 -- src/start.rt:23:5
 pub loop-i-preserved : goal.loop-i-preserved
 loop-i-preserved c =
     let l = c.part_from.ensures ∙ ap (drop 1) c.part_from-statement.ensures in
-    kept_on Values _ c.loop-i.invariant c.loop-i-test.true (value-holds c.args.program.now (cells c.args.environment.now c.args.heap.now) (position_at c.args.constraints.now Values c.loop-i.i) _ (rw c.position_at-position.ensures at l) c.constraint_at.ensures c.in-Reads.is (not-false _ c.if-not-required.false))
+    kept_on Values _ c.loop-i.invariant c.loop-i-test.true (value-holds c.args.program.now (cells c.args.environment.now c.args.heap.now) (position_at c.args.constraints.now Values c.loop-i.i) _ (rw c.position_at-position.ensures at l) c.constraint_at.ensures c.in-Reads.is c.if-not-required.false)
 
 -- src/start.rt:18:1
 pub returns : goal.returns

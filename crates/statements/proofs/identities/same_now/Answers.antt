@@ -12,21 +12,21 @@ pub returns-then-not-is_node : goal.returns-then-not-is_node
 returns-then-not-is_node c =
     let S = cells c.args.environment.now c.args.heap.now in
     let l = got-on (value_at S c.part_from-p.result.now) (value-part S c.part_from-p.result.now) c.value_at.ensures c.in-Got.is c.part_last-q.ensures in
-    same_kind S c.args.s.now c.part_from-p.ensures l c.value_at-in-Got.ensures c.in-Got-value_at.is (sym c.is_node.ensures ∙ not-true _ c.if-not-is_node.true)
+    same_kind S c.args.s.now c.part_from-p.ensures l c.value_at-in-Got.ensures c.in-Got-value_at.is (sym c.is_node.ensures ∙ c.if-not-is_node.true)
 
 -- src/identities.rt:27:25
 pub returns-then-not-is_node-2 : goal.returns-then-not-is_node-2
 returns-then-not-is_node-2 c =
     let S = cells c.args.environment.now c.args.heap.now in
     let l = got-on (value_at S c.part_from-p.result.now) (value-part S c.part_from-p.result.now) c.value_at.ensures c.in-Got.is c.part_last-q.ensures in
-    same-kinds S c.args.s.now c.part_from-p.ensures l c.value_at-in-Got.ensures c.in-Got-value_at.is (sym c.is_node.ensures ∙ not-false _ c.if-not-is_node.false) (sym c.is_node-in-Got-value_at.ensures ∙ not-true _ c.if-not-is_node-2.true)
+    same-kinds S c.args.s.now c.part_from-p.ensures l c.value_at-in-Got.ensures c.in-Got-value_at.is (sym c.is_node.ensures ∙ c.if-not-is_node.false) (sym c.is_node-in-Got-value_at.ensures ∙ c.if-not-is_node-2.true)
 
 -- src/identities.rt:30:25
 pub returns-then-not-are_same : goal.returns-then-not-are_same
 returns-then-not-are_same c =
     let S = cells c.args.environment.now c.args.heap.now in
     let l = got-on (value_at S c.part_from-p.result.now) (value-part S c.part_from-p.result.now) c.value_at.ensures c.in-Got.is c.part_last-q.ensures in
-    same_not S c.args.s.now c.part_from-p.ensures l c.value_at-in-Got.ensures c.in-Got-value_at.is (sym c.is_node.ensures ∙ not-false _ c.if-not-is_node.false) (sym c.is_node-in-Got-value_at.ensures ∙ not-false _ c.if-not-is_node-2.false) (sym c.are_same.ensures ∙ not-true _ c.if-not-are_same.true)
+    same_not S c.args.s.now c.part_from-p.ensures l c.value_at-in-Got.ensures c.in-Got-value_at.is (sym c.is_node.ensures ∙ c.if-not-is_node.false) (sym c.is_node-in-Got-value_at.ensures ∙ c.if-not-is_node-2.false) (sym c.are_same.ensures ∙ c.if-not-are_same.true)
 
 -- src/identities.rt:12:1
 pub returns-in-Fails : goal.returns-in-Fails
@@ -44,4 +44,4 @@ pub returns-else-not-are_same : goal.returns-else-not-are_same
 returns-else-not-are_same c =
     let S = cells c.args.environment.now c.args.heap.now in
     let l = got-on (value_at S c.part_from-p.result.now) (value-part S c.part_from-p.result.now) c.value_at.ensures c.in-Got.is c.part_last-q.ensures in
-    same-holds S c.args.s.now c.part_from-p.ensures l c.value_at-in-Got.ensures c.in-Got-value_at.is (sym c.is_node.ensures ∙ not-false _ c.if-not-is_node.false) (sym c.is_node-in-Got-value_at.ensures ∙ not-false _ c.if-not-is_node-2.false) (sym c.are_same.ensures ∙ not-false _ c.if-not-are_same.false)
+    same-holds S c.args.s.now c.part_from-p.ensures l c.value_at-in-Got.ensures c.in-Got-value_at.is (sym c.is_node.ensures ∙ c.if-not-is_node.false) (sym c.is_node-in-Got-value_at.ensures ∙ c.if-not-is_node-2.false) (sym c.are_same.ensures ∙ c.if-not-are_same.false)

@@ -1,3 +1,4 @@
+use borrow.Author.Rules.{rules}
 use mathlib.Core.Path.{◌∙◌}
 use Prim.Native.Nat.{◌-◌}
 use native.Mathlib.Omega.{arith}
@@ -33,7 +34,7 @@ overflow_add-i-in-loop-i c = record { fits = omega (arith, c.loop-i-test.true, c
 pub loop-i-preserved : goal.loop-i-preserved
 loop-i-preserved c =
     fields-go-on c.loop-i.invariant c.loop-i-test.true c.part_last-q.ensures c.number_at-label.ensures c.if-label-ge-LABELS.false c.part_from.ensures c.find_value.ensures c.in-Got.is c.requires.n_le_most_fields c.requires.fields_words_in_bounds c.cell_of-c.ensures
-    (back32 _ (record { sfits = c.word_of.type_inv }) ∙ c.word_of.ensures) (back32 _ (record { sfits = c.type_inv.c.0.1 })) (back32 _ (record { sfits = c.type_inv.c.1.0.1 })) c.store.ensures c.store-in-Got.ensures c.store-in-Got-2.ensures
+    (back32 _ (record { sfits = c.word_of.type_inv }) ∙ c.word_of.ensures) (back32 _ (search rules)) (back32 _ (search rules)) c.store.ensures c.store-in-Got.ensures c.store-in-Got-2.ensures
 
 -- src/simple.rt:44:1
 pub shape_of-fields : goal.shape_of-fields

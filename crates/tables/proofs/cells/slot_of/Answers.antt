@@ -1,3 +1,4 @@
+use borrow.Author.Rules.{rules}
 use mathlib.Core.Path.{◌≡◌}
 use borrow.Author.Tests.{ne_eqb}
 use Rattle.words.specs.Words.{number_of}
@@ -9,7 +10,7 @@ use Rattle.tables.proofs.cells.slot_of.Goals as goal
 pub returns-in-1 : goal.returns-in-1
 unfolding slot_of
 returns-in-1 c =
-    let b = back32 c.args.c.kind (record { sfits = c.type_inv.c.0.1 }) in
+    let b = back32 c.args.c.kind (search rules) in
     let v : number_of c.args.c.kind ≡ 1 = cc in
     rw v
 
@@ -17,8 +18,8 @@ returns-in-1 c =
 pub returns-in-2 : goal.returns-in-2
 unfolding slot_of
 returns-in-2 c =
-    let b = back32 c.args.c.kind (record { sfits = c.type_inv.c.0.1 }) in
-    let p = back32 c.args.c.payload (record { sfits = c.type_inv.c.1.0.1 }) in
+    let b = back32 c.args.c.kind (search rules) in
+    let p = back32 c.args.c.payload (search rules) in
     let v : number_of c.args.c.kind ≡ 2 = cc in
     rw v (cc)
 
@@ -26,8 +27,8 @@ returns-in-2 c =
 pub returns-in-3 : goal.returns-in-3
 unfolding slot_of
 returns-in-3 c =
-    let b = back32 c.args.c.kind (record { sfits = c.type_inv.c.0.1 }) in
-    let p = back32 c.args.c.payload (record { sfits = c.type_inv.c.1.0.1 }) in
+    let b = back32 c.args.c.kind (search rules) in
+    let p = back32 c.args.c.payload (search rules) in
     let v : number_of c.args.c.kind ≡ 3 = cc in
     rw v (cc)
 
@@ -35,8 +36,8 @@ returns-in-3 c =
 pub returns-in-4 : goal.returns-in-4
 unfolding slot_of
 returns-in-4 c =
-    let b = back32 c.args.c.kind (record { sfits = c.type_inv.c.0.1 }) in
-    let p = back32 c.args.c.payload (record { sfits = c.type_inv.c.1.0.1 }) in
+    let b = back32 c.args.c.kind (search rules) in
+    let p = back32 c.args.c.payload (search rules) in
     let v : number_of c.args.c.kind ≡ 4 = cc in
     rw v (cc)
 
@@ -44,7 +45,7 @@ returns-in-4 c =
 pub returns-in_default : goal.returns-in_default
 unfolding slot_of
 returns-in_default c =
-    let b = back32 c.args.c.kind (record { sfits = c.type_inv.c.0.1 }) in
+    let b = back32 c.args.c.kind (search rules) in
     let v : number_of c.args.c.kind ≡ c.number-kind.result = cc in
     let z = c.in_default.in_default-own.rest in
     rw (v, ne_eqb _ 1 z.0.0.0.1, ne_eqb _ 2 z.0.0.1, ne_eqb _ 3 z.0.1, ne_eqb _ 4 z.1)

@@ -6,23 +6,17 @@ use Rattle.text.proofs.assignments.fields_at.Goals as goal
 pub returns-then-s-eq-CLOSE_BRACE : goal.returns-then-s-eq-CLOSE_BRACE
 unfolding carried
 returns-then-s-eq-CLOSE_BRACE c =
-    let b = c in
-    let d = b in
-    let e = d in
-    let f = e in (
-      λ ahead i. fields-none f.args.text.now ahead (e.need.ensures.follows ahead) (e.need.ensures.ahead ahead) d.if-s-eq-CLOSE_BRACE.true b.put_word.ensures.words_after b.put_word.ensures.origins_after
-          (c.take.ensures.follows (e.need.ensures.ahead ahead)) i,
-      λ ahead. c.take.ensures.ahead (e.need.ensures.ahead ahead),
-    )
+    record {
+      onward = λ ahead i. fields-none c.args.text.now ahead (c.need.ensures.follows ahead) (c.need.ensures.ahead ahead) c.if-s-eq-CLOSE_BRACE.true c.put_word.ensures.words_after c.put_word.ensures.origins_after
+          (c.take.ensures.follows (c.need.ensures.ahead ahead)) i;
+      ahead = λ ahead. c.take.ensures.ahead (c.need.ensures.ahead ahead);
+    }
 
 -- src/assignments.rt:62:1
 pub returns : goal.returns
 unfolding carried
 returns c =
-    let b = c in
-    let d = b in
-    let e = d in
-    let f = e in (
-      λ ahead i. fields-some f.args.text.now ahead (e.need.ensures.follows ahead) (e.need.ensures.ahead ahead) d.if-s-eq-CLOSE_BRACE.false (b.fields.ensures.onward (e.need.ensures.ahead ahead)) i,
-      λ ahead. b.fields.ensures.ahead (e.need.ensures.ahead ahead),
-    )
+    record {
+      onward = λ ahead i. fields-some c.args.text.now ahead (c.need.ensures.follows ahead) (c.need.ensures.ahead ahead) c.if-s-eq-CLOSE_BRACE.false (c.fields.ensures.onward (c.need.ensures.ahead ahead)) i;
+      ahead = λ ahead. c.fields.ensures.ahead (c.need.ensures.ahead ahead);
+    }

@@ -8,27 +8,19 @@ use Rattle.text.proofs.constraints.part_at.Goals as goal
 pub returns-then-n-gt0 : goal.returns-then-n-gt0
 unfolding carried
 returns-then-n-gt0 c =
-    let a = c in
-    let b = a in
-    let d = b in
-    let e = d in
-    let f = e in (
-      λ h. part-said f.args.text.now h (λ l. e.priority-n.ensures l (next_of (carried f.args.s.now)) refl) d.if-n-gt0.true (d.take.ensures.follows h)
-          (back32 b.word_of.result (record { sfits = b.word_of.type_inv }) ∙ b.word_of.ensures) b.write.ensures.words_after b.write.ensures.origins_after b.write.ensures.s_after
-          (a.expression.ensures.expression (ahead-wrote f.args.text.now (carried d.take.new.s) b.write.ensures.s_after (d.take.ensures.ahead h))),
-      λ h. a.expression.ensures.ahead (ahead-wrote f.args.text.now (carried d.take.new.s) b.write.ensures.s_after (d.take.ensures.ahead h)),
-    )
+    record {
+      piece = λ h. part-said c.args.text.now h (λ l. c.priority-n.ensures l (next_of (carried c.args.s.now)) refl) c.if-n-gt0.true (c.take.ensures.follows h)
+          (back32 c.word_of.result (record { sfits = c.word_of.type_inv }) ∙ c.word_of.ensures) c.write.ensures.words_after c.write.ensures.origins_after c.write.ensures.s_after
+          (c.expression.ensures.expression (ahead-wrote c.args.text.now (carried c.take.new.s) c.write.ensures.s_after (c.take.ensures.ahead h)));
+      ahead = λ h. c.expression.ensures.ahead (ahead-wrote c.args.text.now (carried c.take.new.s) c.write.ensures.s_after (c.take.ensures.ahead h));
+    }
 
 pub returns : goal.returns
 unfolding carried
 returns c =
-    let a = c in
-    let b = a in
-    let d = b in
-    let e = d in
-    let f = e in (
-      λ h. part-unsaid f.args.text.now h (λ l. e.priority-n.ensures l (next_of (carried f.args.s.now)) refl) d.if-n-gt0.false d.owe.ensures.owes
-          b.write-2.ensures.words_after b.write-2.ensures.origins_after b.write-2.ensures.s_after
-          (a.expression-2.ensures.expression (ahead-wrote f.args.text.now (carried d.owe.new.s) b.write-2.ensures.s_after (d.owe.ensures.by_index f.args.text.now h))),
-      λ h. a.expression-2.ensures.ahead (ahead-wrote f.args.text.now (carried d.owe.new.s) b.write-2.ensures.s_after (d.owe.ensures.by_index f.args.text.now h)),
-    )
+    record {
+      piece = λ h. part-unsaid c.args.text.now h (λ l. c.priority-n.ensures l (next_of (carried c.args.s.now)) refl) c.if-n-gt0.false c.owe.ensures.owes
+          c.write-2.ensures.words_after c.write-2.ensures.origins_after c.write-2.ensures.s_after
+          (c.expression-2.ensures.expression (ahead-wrote c.args.text.now (carried c.owe.new.s) c.write-2.ensures.s_after (c.owe.ensures.by_index c.args.text.now h)));
+      ahead = λ h. c.expression-2.ensures.ahead (ahead-wrote c.args.text.now (carried c.owe.new.s) c.write-2.ensures.s_after (c.owe.ensures.by_index c.args.text.now h));
+    }

@@ -16,6 +16,7 @@ use Rattle.text.proofs.ClimbCode.{taken-shallow, joined-untaken, joined-stopped,
 use Rattle.words.proofs.Signed.{back32}
 use Rattle.text.proofs.OnwardsCode.{turns-start, turns-stop, turns-over, turns-close, turns-join, turns-refuse, turns-end, turns_as}
 use Rattle.text.proofs.expressions.+climb_joined_onwards.Goals as goal
+use Rattle.text.proofs.expressions.+climb_joined_onwards.Goals.{onwards-then-code-b, onwards-else-code-b+else-not-joins}
 
 -- src/expressions.rt:320:9
 pub climb-returns-then-s-ne0 : goal.climb-returns-then-s-ne0
@@ -28,33 +29,30 @@ pub climb-returns-then-left-eq0 : goal.climb-returns-then-left-eq0
 unfolding carried
 climb-returns-then-left-eq0 t c =
     let a = c.args in
-    let r = carried a.s.now in (
-      (λ ahead. climb-none a.text.now a.left a.in_c a.low c.if-s-ne0.false c.if-left-eq0.true ahead c.refused.ensures),
-      (λ ahead z. absurd (refused-stops (next_of r) r c.refused.ensures z), λ ahead. ahead-refused a.text.now r c.refused.ensures ahead),
-    )
+    let r = carried a.s.now in record {
+      expression = (λ ahead. climb-none a.text.now a.left a.in_c a.low c.if-s-ne0.false c.if-left-eq0.true ahead c.refused.ensures);
+      s_bound = λ ahead z. absurd (refused-stops (next_of r) r c.refused.ensures z);
+      ahead = λ ahead. ahead-refused a.text.now r c.refused.ensures ahead;
+    }
 
 -- src/expressions.rt:331:5
 pub climb-onwards-requires : goal.climb-onwards-requires
 climb-onwards-requires t c =
-    let e = c in
-    let o = e in
-    omega (arith, o.decreases, o.requires, e.if-left-eq0.false)
+    omega (arith, c.decreases, c.requires, c.if-left-eq0.false)
 
 -- src/expressions.rt:304:1
 pub climb-returns : goal.climb-returns
 unfolding carried
 climb-returns t c =
     let n = c.onwards in
-    let d = c in
-    let e = d in
-    let o = e in
-    let z = o.if-left-eq0.false in
-    let a = o.args in
-    let read : Ahead a.text.now (carried a.s.now) → Ahead a.text.now (carried d.deepen.new.s) =
-    λ h. ahead-deep a.text.now (carried e.operand.new.s) 1 d.deepen.ensures (e.operand.ensures.ahead (o.opened.ensures.ahead h)) in (
-      (λ h. climb-on a.text.now a.left a.in_c a.low (o.opened.ensures.opens h) (e.operand.ensures.piece (o.opened.ensures.ahead h)) d.deepen.ensures z (n.ensures.0 (read h))),
-      (λ h y. omega (arith, n.ensures.1.0 (read h) (λ x. omega (arith, ap (λ x. x.depth) d.deepen.ensures)) y, z), λ h. n.ensures.1.1 (read h)),
-    )
+    let z = c.if-left-eq0.false in
+    let a = c.args in
+    let read : Ahead a.text.now (carried a.s.now) → Ahead a.text.now (carried c.deepen.new.s) =
+    λ h. ahead-deep a.text.now (carried c.operand.new.s) 1 c.deepen.ensures (c.operand.ensures.ahead (c.opened.ensures.ahead h)) in record {
+      expression = (λ h. climb-on a.text.now a.left a.in_c a.low (c.opened.ensures.opens h) (c.operand.ensures.piece (c.opened.ensures.ahead h)) c.deepen.ensures z (n.ensures.onward (read h)));
+      s_bound = λ h y. omega (arith, n.ensures.s_bound (read h) (λ x. omega (arith, ap (λ x. x.depth) c.deepen.ensures)) y, z);
+      ahead = λ h. n.ensures.ahead (read h);
+    }
 
 -- src/expressions.rt:246:9
 pub joined-returns-then-s-ne0 : goal.joined-returns-then-s-ne0
@@ -64,10 +62,11 @@ joined-returns-then-s-ne0 t c =
     let p = c.pass in
     let a = c.args in
     let r = carried a.s.now in
-    let read : Ahead a.text.now r → Ahead a.text.now (carried p.new.0) = λ h. ahead-passed a.text.now r (ltb a.left r.depth) p.ensures h in (
-      (λ h op most le. joined-untaken a.text.now a.left a.in_c (next_of r) (passes (ltb a.left r.depth) r p.ensures) (k.ensures.0 (read h)) a.from most c.if-s-ne0.true),
-      (λ h z. absurd (c.if-s-ne0.true z), λ h. k.ensures.1 (read h)),
-    )
+    let read : Ahead a.text.now r → Ahead a.text.now (carried p.new.s) = λ h. ahead-passed a.text.now r (ltb a.left r.depth) p.ensures h in record {
+      onward = (λ h op most le. joined-untaken a.text.now a.left a.in_c (next_of r) (passes (ltb a.left r.depth) r p.ensures) (k.ensures.follows (read h)) a.from most c.if-s-ne0.true);
+      s_bound = λ h z. absurd (c.if-s-ne0.true z);
+      ahead = λ h. k.ensures.ahead (read h);
+    }
 
 -- src/expressions.rt:250:55
 pub joined-overflow_add-level_of : goal.joined-overflow_add-level_of
@@ -78,73 +77,63 @@ joined-overflow_add-level_of t c =
 -- src/expressions.rt:250:5
 pub joined-climb-requires : goal.joined-climb-requires
 joined-climb-requires t c =
-    let e = c in
-    let o = e in
-    omega (arith, o.decreases, o.requires)
+    omega (arith, c.decreases, c.requires)
 
 -- src/expressions.rt:252:9
 pub joined-returns-then-s-ne0-2 : goal.joined-returns-then-s-ne0-2
 unfolding carried
 joined-returns-then-s-ne0-2 t c =
-    let m = c in
-    let l = m.level_of in
-    let i = m.insert in
-    let w = m.word_of in
-    let y = m.if-s-ne0.false in
-    let k = m.take in
-    let p = m.pass in
-    let e = m in
-    let q = e.less-k in
-    let o = e in
-    let a = o.args in
+    let l = c.level_of in
+    let i = c.insert in
+    let w = c.word_of in
+    let y = c.if-s-ne0.false in
+    let k = c.take in
+    let p = c.pass in
+    let q = c.less-k in
+    let a = c.args in
     let r = carried a.s.now in
     let passed = passes (ltb a.left r.depth) r p.ensures in
-    let read : Ahead a.text.now r → Ahead a.text.now (carried p.new.0) = λ h. ahead-passed a.text.now r (ltb a.left r.depth) p.ensures h in
-    let into : Ahead a.text.now r → Ahead a.text.now (carried i.new.1.1.1.0) = λ h. i.ensures.1 a.text.now (k.ensures.1 (read h)) in (
-      (λ h op most le. joined-stopped a.text.now a.left a.in_c (next_of r) passed (k.ensures.0 (read h)) a.from most
-          (back32 w.result (record { sfits = w.type-inv }) ∙ operator-word r.code q.result op q.ensures w.ensures)
-          i.ensures.0 (operator-level r.code q.ensures l.ensures) (m.climb.ensures.expression (into h)) c.if-s-ne0-2.true),
-      (λ h z. absurd (c.if-s-ne0-2.true z), λ h. m.climb.ensures.ahead (into h)),
-    )
+    let read : Ahead a.text.now r → Ahead a.text.now (carried p.new.s) = λ h. ahead-passed a.text.now r (ltb a.left r.depth) p.ensures h in
+    let into : Ahead a.text.now r → Ahead a.text.now (carried i.new.s) = λ h. i.ensures.by_index a.text.now (k.ensures.ahead (read h)) in record {
+      onward = (λ h op most le. joined-stopped a.text.now a.left a.in_c (next_of r) passed (k.ensures.follows (read h)) a.from most
+          (back32 w.result (record { sfits = w.type_inv }) ∙ operator-word r.code q.result op q.ensures w.ensures)
+          i.ensures.inserts (operator-level r.code q.ensures l.ensures) (c.climb.ensures.expression (into h)) c.if-s-ne0-2.true);
+      s_bound = λ h z. absurd (c.if-s-ne0-2.true z);
+      ahead = λ h. c.climb.ensures.ahead (into h);
+    }
 
 -- src/expressions.rt:225:1
 pub joined-shape_of-words : goal.joined-shape_of-words
 joined-shape_of-words t c =
-    let m = c in
-    m.climb.auto.words ∙ m.insert.auto.words
+    c.climb.auto.words ∙ c.insert.auto.words
 
 -- src/expressions.rt:225:1
 pub joined-returns : goal.joined-returns
 unfolding carried
 joined-returns t c =
-    let m = c in
-    let l = m.level_of in
-    let i = m.insert in
-    let w = m.word_of in
-    let y = m.if-s-ne0.false in
-    let k = m.take in
-    let p = m.pass in
-    let e = m in
-    let q = e.less-k in
-    let o = e in
-    let a = o.args in
+    let l = c.level_of in
+    let i = c.insert in
+    let w = c.word_of in
+    let y = c.if-s-ne0.false in
+    let k = c.take in
+    let p = c.pass in
+    let q = c.less-k in
+    let a = c.args in
     let r = carried a.s.now in
     let passed = passes (ltb a.left r.depth) r p.ensures in
-    let read : Ahead a.text.now r → Ahead a.text.now (carried p.new.0) = λ h. ahead-passed a.text.now r (ltb a.left r.depth) p.ensures h in
-    let into : Ahead a.text.now r → Ahead a.text.now (carried i.new.1.1.1.0) = λ h. i.ensures.1 a.text.now (k.ensures.1 (read h)) in
-    let v = carried m.climb.new.s in
-    let left : Ahead a.text.now r → r.depth ≤ a.left = λ h. taken-shallow a.text.now passed (k.ensures.0 (read h)) y in
-    let right : Ahead a.text.now r → v.depth ≤ a.left = λ h. m.climb.ensures.s_bound (into h) c.if-s-ne0-2.false in
+    let read : Ahead a.text.now r → Ahead a.text.now (carried p.new.s) = λ h. ahead-passed a.text.now r (ltb a.left r.depth) p.ensures h in
+    let into : Ahead a.text.now r → Ahead a.text.now (carried i.new.s) = λ h. i.ensures.by_index a.text.now (k.ensures.ahead (read h)) in
+    let v = carried c.climb.new.s in
+    let left : Ahead a.text.now r → r.depth ≤ a.left = λ h. taken-shallow a.text.now passed (k.ensures.follows (read h)) y in
+    let right : Ahead a.text.now r → v.depth ≤ a.left = λ h. c.climb.ensures.s_bound (into h) c.if-s-ne0-2.false in
     let over : Ahead a.text.now r → c.above.result ≡ suc (cond (ltb r.depth v.depth) v.depth r.depth) =
-    λ h. c.above.ensures (omega (arith, left h, o.requires)) (omega (arith, right h, o.requires)) in (
-      (λ h op most le. joined-deep a.text.now a.left a.in_c (next_of r) passed (k.ensures.0 (read h)) a.from most
-          (back32 w.result (record { sfits = w.type-inv }) ∙ operator-word r.code q.result op q.ensures w.ensures)
-          i.ensures.0 (operator-level r.code q.ensures l.ensures) (m.climb.ensures.expression (into h)) (over h) c.deepen.ensures),
-      (
-        λ h z. joined-shallow (ap (λ x. x.depth) c.deepen.ensures ∙ over h) (left h) (right h),
-        λ h. ahead-deep a.text.now v c.above.result c.deepen.ensures (m.climb.ensures.ahead (into h)),
-      ),
-    )
+    λ h. c.above.ensures (omega (arith, left h, c.requires)) (omega (arith, right h, c.requires)) in record {
+      onward = (λ h op most le. joined-deep a.text.now a.left a.in_c (next_of r) passed (k.ensures.follows (read h)) a.from most
+          (back32 w.result (record { sfits = w.type_inv }) ∙ operator-word r.code q.result op q.ensures w.ensures)
+          i.ensures.inserts (operator-level r.code q.ensures l.ensures) (c.climb.ensures.expression (into h)) (over h) c.deepen.ensures);
+      s_bound = λ h z. joined-shallow (ap (λ x. x.depth) c.deepen.ensures ∙ over h) (left h) (right h);
+      ahead = λ h. ahead-deep a.text.now v c.above.result c.deepen.ensures (c.climb.ensures.ahead (into h));
+    }
 
 -- src/expressions.rt:278:5
 pub onwards-loop-round-init : goal.onwards-loop-round-init
@@ -156,7 +145,7 @@ pub onwards-returns-then-s-ne0 : goal.onwards-returns-then-s-ne0
 unfolding carried
 onwards-returns-then-s-ne0 t c =
     let i = c.loop-round.invariant in
-    ((λ h. turns-stop (i.3 h).1 c.if-s-ne0.true), (λ h d z. absurd (c.if-s-ne0.true z), λ h. (i.3 h).0))
+    record { onward = (λ h. turns-stop (i.3 h).1 c.if-s-ne0.true); s_bound = λ h d z. absurd (c.if-s-ne0.true z); ahead = λ h. (i.3 h).0 }
 
 -- src/expressions.rt:285:13
 pub onwards-overflow_sub-b : goal.onwards-overflow_sub-b
@@ -169,34 +158,32 @@ onwards-overflow_sub-b t c =
 pub onwards-returns-then-b-gt0 : goal.onwards-returns-then-b-gt0
 unfolding carried
 onwards-returns-then-b-gt0 t c =
-    let e = c in
-    let l = e in
-    let i = l.loop-round.invariant in
-    let r = carried l.loop-round.s in
-    let text = l.args.text.now in
-    let j = c.joins in (
-      (λ h. turns-refuse (i.3 h).1 e.loop-round-test.true e.if-s-ne0.false (i.3 h).0 e.if-code-b.false
-          (sym j.ensures ∙ not-true j.result c.if-not-joins.true) c.if-b-gt0.true c.refused.ensures),
-      (λ h d z. absurd (refused-stops (next_of r) r c.refused.ensures z), λ h. ahead-refused text r c.refused.ensures (i.3 h).0),
-    )
+    let i = c.loop-round.invariant in
+    let r = carried c.loop-round.s in
+    let text = c.args.text.now in
+    let j = c.joins in record {
+      onward = (λ h. turns-refuse (i.3 h).1 c.loop-round-test.true c.if-s-ne0.false (i.3 h).0 c.if-code-b.false
+          (sym j.ensures ∙ c.if-not-joins.true) c.if-b-gt0.true c.refused.ensures);
+      s_bound = λ h d z. absurd (refused-stops (next_of r) r c.refused.ensures z);
+      ahead = λ h. ahead-refused text r c.refused.ensures (i.3 h).0;
+    }
 
 -- src/expressions.rt:291:17
 pub onwards-returns-else-b-gt0 : goal.onwards-returns-else-b-gt0
 unfolding carried
 onwards-returns-else-b-gt0 t c =
-    let e = c in
-    let i = e.loop-round.invariant in
-    let j = c.joins in (
-      (λ h. turns-end (i.3 h).1 e.loop-round-test.true e.if-s-ne0.false (i.3 h).0 e.if-code-b.false
-          (sym j.ensures ∙ not-true j.result c.if-not-joins.true) c.if-b-gt0.false),
-      (λ h d z. (i.3 h).1.deep d z, λ h. (i.3 h).0),
-    )
+    let i = c.loop-round.invariant in
+    let j = c.joins in record {
+      onward = (λ h. turns-end (i.3 h).1 c.loop-round-test.true c.if-s-ne0.false (i.3 h).0 c.if-code-b.false
+          (sym j.ensures ∙ c.if-not-joins.true) c.if-b-gt0.false);
+      s_bound = λ h d z. (i.3 h).1.deep d z;
+      ahead = λ h. (i.3 h).0;
+    }
 
 -- src/expressions.rt:293:13
 pub onwards-joined-requires : goal.onwards-joined-requires
 onwards-joined-requires t c =
-    let o = c in
-    omega (arith, o.decreases, o.requires)
+    omega (arith, c.decreases, c.requires)
 
 -- src/expressions.rt:278:5
 pub onwards-loop-round-preserved : goal.onwards-loop-round-preserved
@@ -206,35 +193,34 @@ onwards-loop-round-preserved t c =
     let more = c.loop-round-test.true in
     let z = c.if-s-ne0.false in
     let text = c.args.text.now in
-    ⊎_elim
-    (λ w. (
-      ap length w.3 ∙ i.0,
-      ap length w.4 ∙ i.1,
-      ap length w.5 ∙ i.2,
-      λ h. (
-        subst (λ x. Ahead text (carried x)) (sym w.6) (w.2.ensures.1 (i.3 h).0),
-        turns_as w.3 w.4 w.5 (ap carried w.6) w.7 (turns-close (i.3 h).1 more z (i.3 h).0 w.0.taken (w.2.ensures.0 (i.3 h).0)),
-      ),
-    ))
-    (λ w. let j = sym w.1.ensures ∙ not-false w.1.result w.2.left in (
-      ap length w.13 ∙ w.7.kept.1.0 ∙ i.0,
-      ap length w.14 ∙ w.7.kept.1.1.0 ∙ i.1,
-      ap length w.15 ∙ w.7.kept.1.1.1.0 ∙ i.2,
-      λ h. (
-        subst (λ x. Ahead text (carried x)) (sym w.16) (w.7.ensures.1.1 (i.3 h).0),
-        turns_as w.13 w.14 w.15 (ap carried w.16) w.17
-            (turns-join (i.3 h).1 more z (i.3 h).0 w.0.left j (w.7.ensures.0 (i.3 h).0 (and_left _ _ j)) (w.7.ensures.1.0 (i.3 h).0) w.7.kept.1.0 w.7.kept.1.1.0
-            w.7.kept.1.1.1.0),
-      ),
-    ))
-    c.if-code-b.branch
+    (
+      c.if-code-b.auto.names ∙ i.0,
+      c.if-code-b.auto.words ∙ i.1,
+      c.if-code-b.auto.origins ∙ i.2,
+      λ h.
+      elim c.if-code-b.branch [
+        onwards-then-code-b w ↦ (
+          subst (λ x. Ahead text (carried x)) (sym w.s-is) (w.take.ensures.ahead (i.3 h).0),
+          turns_as w.names-is w.words-is w.origins-is (ap carried w.s-is) w.b-is
+              (turns-close (i.3 h).1 more z (i.3 h).0 w.if-code-b.true (w.take.ensures.follows (i.3 h).0)),
+        ) |
+        onwards-else-code-b+else-not-joins w ↦
+            let j = sym w.joins.ensures ∙ w.if-not-joins.false in
+            (
+              subst (λ x. Ahead text (carried x)) (sym w.s-is) (w.joined.ensures.ahead (i.3 h).0),
+              turns_as w.names-is w.words-is w.origins-is (ap carried w.s-is) w.b-is
+                  (turns-join (i.3 h).1 more z (i.3 h).0 w.if-code-b.false j (w.joined.ensures.onward (i.3 h).0 (and_left _ _ j)) (w.joined.ensures.s_bound (i.3 h).0) w.joined.auto.names
+                  w.joined.auto.words w.joined.auto.origins),
+            )
+      ],
+    )
 
 -- src/expressions.rt:298:9
 pub onwards-returns-then-s-ne0-2 : goal.onwards-returns-then-s-ne0-2
 unfolding carried
 onwards-returns-then-s-ne0-2 t c =
     let i = c.loop-round.invariant in
-    ((λ h. turns-stop (i.3 h).1 c.if-s-ne0-2.true), (λ h d z. absurd (c.if-s-ne0-2.true z), λ h. (i.3 h).0))
+    record { onward = (λ h. turns-stop (i.3 h).1 c.if-s-ne0-2.true); s_bound = λ h d z. absurd (c.if-s-ne0-2.true z); ahead = λ h. (i.3 h).0 }
 
 -- src/expressions.rt:259:1
 pub onwards-returns : goal.onwards-returns
@@ -242,7 +228,8 @@ unfolding carried
 onwards-returns t c =
     let i = c.loop-round.invariant in
     let r = carried c.loop-round.s in
-    let text = c.args.text.now in (
-      (λ h. turns-over (i.3 h).1 c.loop-round-test.false c.if-s-ne0-2.false (i.3 h).0 c.refused-2.ensures),
-      (λ h d z. absurd (refused-stops (next_of r) r c.refused-2.ensures z), λ h. ahead-refused text r c.refused-2.ensures (i.3 h).0),
-    )
+    let text = c.args.text.now in record {
+      onward = (λ h. turns-over (i.3 h).1 c.loop-round-test.false c.if-s-ne0-2.false (i.3 h).0 c.refused-2.ensures);
+      s_bound = λ h d z. absurd (refused-stops (next_of r) r c.refused-2.ensures z);
+      ahead = λ h. ahead-refused text r c.refused-2.ensures (i.3 h).0;
+    }

@@ -8,10 +8,8 @@ use Rattle.text.proofs.expressions.constant.Goals as goal
 pub returns : goal.returns
 unfolding carried
 returns c =
-    let a = c in
-    let b = a in
-    let d = b in (
-      λ h names. constant-does d.args.text.now names h d.args.w (b.take.ensures.follows h) (rw (back32 d.args.w d.ranges.w) at a.write.ensures.words_after)
-          a.write.ensures.origins_after a.write.ensures.s_after,
-      λ h. ahead-wrote d.args.text.now _ a.write.ensures.s_after (b.take.ensures.ahead h),
-    )
+    record {
+      piece = λ h names. constant-does c.args.text.now names h c.args.w (c.take.ensures.follows h) (rw (back32 c.args.w c.ranges.w) at c.write.ensures.words_after)
+          c.write.ensures.origins_after c.write.ensures.s_after;
+      ahead = λ h. ahead-wrote c.args.text.now _ c.write.ensures.s_after (c.take.ensures.ahead h);
+    }

@@ -4,4 +4,4 @@ use Rattle.text.proofs.expressions.expression.Goals as goal
 -- src/expressions.rt:346:1
 pub returns : goal.returns
 unfolding expression
-returns c = let e = c.climb.ensures in (e.0, e.1.1)
+returns c = let e = c.climb.ensures in record { expression = e.expression; ahead = e.ahead }

@@ -13,48 +13,32 @@ returns-then-s-ne0 c = record { piece = λ h names. does-stopped c.if-s-ne0.true
 pub returns-then-code-eq-NIL : goal.returns-then-code-eq-NIL
 unfolding carried
 returns-then-code-eq-NIL c =
-    let a = c in
-    let b = a in
-    let d = b in
-    (λ h names. literal-nil d.args.text.now names h b.if-code-eq-NIL.true (a.constant.ensures.piece h names), λ h. a.constant.ensures.ahead h)
+    record { piece = λ h names. literal-nil c.args.text.now names h c.if-code-eq-NIL.true (c.constant.ensures.piece h names); ahead = λ h. c.constant.ensures.ahead h }
 
 -- src/expressions.rt:87:9
 pub returns-then-code-eq-FALSE : goal.returns-then-code-eq-FALSE
 unfolding carried
 returns-then-code-eq-FALSE c =
-    let a = c in
-    let b = a in
-    let d = b in
-    (λ h names. literal-false d.args.text.now names h b.if-code-eq-FALSE.true (a.constant-then-code-eq-FALSE.ensures.piece h names), λ h. a.constant-then-code-eq-FALSE.ensures.ahead h)
+    record { piece = λ h names. literal-false c.args.text.now names h c.if-code-eq-FALSE.true (c.constant-then-code-eq-FALSE.ensures.piece h names); ahead = λ h. c.constant-then-code-eq-FALSE.ensures.ahead h }
 
 -- src/expressions.rt:91:9
 pub returns-then-code-eq-TRUE : goal.returns-then-code-eq-TRUE
 unfolding carried
 returns-then-code-eq-TRUE c =
-    let a = c in
-    let b = a in
-    let d = b in
-    (λ h names. literal-true d.args.text.now names h b.if-code-eq-TRUE.true (a.constant-then-code-eq-TRUE.ensures.piece h names), λ h. a.constant-then-code-eq-TRUE.ensures.ahead h)
+    record { piece = λ h names. literal-true c.args.text.now names h c.if-code-eq-TRUE.true (c.constant-then-code-eq-TRUE.ensures.piece h names); ahead = λ h. c.constant-then-code-eq-TRUE.ensures.ahead h }
 
 -- src/expressions.rt:95:9
 pub returns-then-code-eq-NUMBER : goal.returns-then-code-eq-NUMBER
 unfolding carried
 returns-then-code-eq-NUMBER c =
-    let a = c in
-    let b = a in
-    let d = b in
-    (λ h names. literal-number d.args.text.now names h b.if-code-eq-NUMBER.true (a.number.ensures.piece h names), λ h. a.number.ensures.ahead h)
+    record { piece = λ h names. literal-number c.args.text.now names h c.if-code-eq-NUMBER.true (c.number.ensures.piece h names); ahead = λ h. c.number.ensures.ahead h }
 
 -- src/expressions.rt:73:1
 pub returns : goal.returns
 unfolding carried
 returns c =
-    let a = c in
-    let b = a in
-    let d = b in
-    let e = d in
-    let f = e in (
-      λ h names.
-          literal-none f.args.text.now names h e.if-s-ne0.false d.if-code-eq-NIL.false b.if-code-eq-FALSE.false a.if-code-eq-TRUE.false c.if-code-eq-NUMBER.false c.refused.ensures,
-      λ h. ahead-refused f.args.text.now (carried f.args.s.now) c.refused.ensures h,
-    )
+    record {
+      piece = λ h names.
+          literal-none c.args.text.now names h c.if-s-ne0.false c.if-code-eq-NIL.false c.if-code-eq-FALSE.false c.if-code-eq-TRUE.false c.if-code-eq-NUMBER.false c.refused.ensures;
+      ahead = λ h. ahead-refused c.args.text.now (carried c.args.s.now) c.refused.ensures h;
+    }

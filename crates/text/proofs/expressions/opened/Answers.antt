@@ -17,31 +17,25 @@ returns-then-s-ne0 c = record { opens = λ h. opening-stopped (c.loop-b.invarian
 pub returns-then-s-ne-OPEN_BRACKET : goal.returns-then-s-ne-OPEN_BRACKET
 unfolding carried
 returns-then-s-ne-OPEN_BRACKET c =
-    let a = c in
-    let d = a in
-    let e = d in
-    let f = e in (
-      λ h. opening-ends (e.loop-b.invariant.0 h) d.loop-b-test.true a.if-s-ne0.false (e.loop-b.invariant.1 h) c.if-s-ne-OPEN_BRACKET.true c.count.ensures,
-      λ h. ahead-counted f.args.text.now (carried e.loop-b.s) e.loop-b.b c.count.ensures (e.loop-b.invariant.1 h),
-    )
+    record {
+      opens = λ h. opening-ends (c.loop-b.invariant.0 h) c.loop-b-test.true c.if-s-ne0.false (c.loop-b.invariant.1 h) c.if-s-ne-OPEN_BRACKET.true c.count.ensures;
+      ahead = λ h. ahead-counted c.args.text.now (carried c.loop-b.s) c.loop-b.b c.count.ensures (c.loop-b.invariant.1 h);
+    }
 
 -- src/expressions.rt:159:5
 pub loop-b-preserved : goal.loop-b-preserved
 unfolding carried
 loop-b-preserved c =
-    let a = c in
-    let b = a in
-    let d = b in (
-      λ h. opening-goes-on (d.loop-b.invariant.0 h) b.loop-b-test.true a.if-s-ne0.false (d.loop-b.invariant.1 h) c.if-s-ne-OPEN_BRACKET.false
-          (c.take.ensures.follows (d.loop-b.invariant.1 h)),
-      λ h. c.take.ensures.ahead (d.loop-b.invariant.1 h),
+    (
+      λ h. opening-goes-on (c.loop-b.invariant.0 h) c.loop-b-test.true c.if-s-ne0.false (c.loop-b.invariant.1 h) c.if-s-ne-OPEN_BRACKET.false
+          (c.take.ensures.follows (c.loop-b.invariant.1 h)),
+      λ h. c.take.ensures.ahead (c.loop-b.invariant.1 h),
     )
 
 -- src/expressions.rt:154:1
 pub returns : goal.returns
 returns c =
-    let a = c in
-    let d = a in (
-      λ h. opening-over (a.loop-b.invariant.0 h) c.loop-b-test.false c.count-2.ensures,
-      λ h. ahead-counted d.args.text.now (carried a.loop-b.s) a.loop-b.b c.count-2.ensures (a.loop-b.invariant.1 h),
-    )
+    record {
+      opens = λ h. opening-over (c.loop-b.invariant.0 h) c.loop-b-test.false c.count-2.ensures;
+      ahead = λ h. ahead-counted c.args.text.now (carried c.loop-b.s) c.loop-b.b c.count-2.ensures (c.loop-b.invariant.1 h);
+    }

@@ -10,15 +10,9 @@ returns-then-s-ne0 c = record { piece = λ h. does-stopped c.if-s-ne0.true; ahea
 pub returns-then-s-eq-NAME : goal.returns-then-s-eq-NAME
 unfolding carried
 returns-then-s-eq-NAME c =
-    let a = c in
-    let b = a in
-    let d = b in
-    (λ h. operand-named d.args.text.now d.args.in_c h b.if-s-eq-NAME.true (a.path_or_same.ensures.piece h), λ h. a.path_or_same.ensures.ahead h)
+    record { piece = λ h. operand-named c.args.text.now c.args.in_c h c.if-s-eq-NAME.true (c.path_or_same.ensures.piece h); ahead = λ h. c.path_or_same.ensures.ahead h }
 
 pub returns : goal.returns
 unfolding carried
 returns c =
-    let a = c in
-    let b = a in
-    let d = b in
-    (λ h. operand-other d.args.text.now d.args.in_c h b.if-s-eq-NAME.false (a.literal.ensures.piece h d.args.names.now), λ h. a.literal.ensures.ahead h)
+    record { piece = λ h. operand-other c.args.text.now c.args.in_c h c.if-s-eq-NAME.false (c.literal.ensures.piece h c.args.names.now); ahead = λ h. c.literal.ensures.ahead h }

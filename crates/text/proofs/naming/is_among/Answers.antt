@@ -14,9 +14,8 @@ loop-i-init c = among-starts
 -- src/naming.rt:101:13
 pub returns-then-seen-i : goal.returns-then-seen-i
 returns-then-seen-i c =
-    let b = c in
-    let a = b.args in
-    rw (lt-ltb a.number a.count b.if-count-number.false) (among-hits c.loop-i.invariant c.loop-i-test.true c.if-seen-i.true)
+    let a = c.args in
+    rw (lt-ltb a.number a.count c.if-count-number.false) (among-hits c.loop-i.invariant c.loop-i-test.true c.if-seen-i.true)
 
 -- src/naming.rt:99:5
 pub loop-i-preserved : goal.loop-i-preserved
@@ -25,5 +24,4 @@ loop-i-preserved c = among-goes-on c.loop-i.invariant c.loop-i-test.true c.if-se
 -- src/naming.rt:92:1
 pub returns : goal.returns
 returns c =
-    let a = c in
-    rw (lt-ltb a.args.number a.args.count c.if-count-number.false) (among-ends c.loop-i.invariant c.loop-i-test.false)
+    rw (lt-ltb c.args.number c.args.count c.if-count-number.false) (among-ends c.loop-i.invariant c.loop-i-test.false)

@@ -10,7 +10,6 @@ returns-then-length-less c =
 -- src/naming.rt:39:1
 pub returns : goal.returns
 returns c =
-    let b = c in
-    let a = b.args in
-    that-name a.text.now a.names.now a.i a.t b.word-length.ensures c.less.ensures c.if-length-less.false c.word.ensures
+    let a = c.args in
+    that-name a.text.now a.names.now a.i a.t c.word-length.ensures c.less.ensures c.if-length-less.false c.word.ensures
     c.same.ensures

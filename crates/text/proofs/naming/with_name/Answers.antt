@@ -11,7 +11,6 @@ returns-then-number-count c = rw (lt-ltb c.args.number c.args.count c.if-number-
 -- src/naming.rt:67:1
 pub returns : goal.returns
 returns c =
-    let b = c in
-    let a = b.args in
-    table-with a.names.now a.from a.count a.number a.t b.if-number-count.false b.put.ensures c.less.ensures
+    let a = c.args in
+    table-with a.names.now a.from a.count a.number a.t c.if-number-count.false c.put.ensures c.less.ensures
     c.put-2.ensures

@@ -14,20 +14,18 @@ returns-then-s-ne0 c = record { follows = λ h. follows-stopped c.if-s-ne0.true;
 pub returns-then-s-c : goal.returns-then-s-c
 unfolding carried
 returns-then-s-c c =
-    let b = c in
-    let a = b.args in
-    let r = carried a.s.now in (
-      λ h. need-refused a.text.now r (next_of r) a.k b.if-s-ne0.false h a.c c.if-s-c.true c.refused.ensures,
-      λ h. ahead-refused a.text.now r c.refused.ensures h,
-    )
+    let a = c.args in
+    let r = carried a.s.now in record {
+      follows = λ h. need-refused a.text.now r (next_of r) a.k c.if-s-ne0.false h a.c c.if-s-c.true c.refused.ensures;
+      ahead = λ h. ahead-refused a.text.now r c.refused.ensures h;
+    }
 
 -- src/reading.rt:121:1
 pub returns : goal.returns
 unfolding carried
 returns c =
-    let b = c in
-    let a = b.args in
-    let r = carried a.s.now in (
-      λ h. took-follows a.text.now a.k r c.taken.ensures (need-taken a.text.now r (next_of r) a.k b.if-s-ne0.false h a.c c.if-s-c.false refl),
-      λ h. ahead-took a.text.now r a.k c.taken.ensures h,
-    )
+    let a = c.args in
+    let r = carried a.s.now in record {
+      follows = λ h. took-follows a.text.now a.k r c.taken.ensures (need-taken a.text.now r (next_of r) a.k c.if-s-ne0.false h a.c c.if-s-c.false refl);
+      ahead = λ h. ahead-took a.text.now r a.k c.taken.ensures h;
+    }

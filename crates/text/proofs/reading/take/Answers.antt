@@ -15,7 +15,7 @@ pub returns : goal.returns
 unfolding carried
 returns c =
     let a = c.args in
-    let r = carried a.s.now in (
-      λ h. took-follows a.text.now a.k r c.taken.ensures (take-follows a.text.now r (next_of r) a.k c.if-s-ne0.false h refl),
-      λ h. ahead-took a.text.now r a.k c.taken.ensures h,
-    )
+    let r = carried a.s.now in record {
+      follows = λ h. took-follows a.text.now a.k r c.taken.ensures (take-follows a.text.now r (next_of r) a.k c.if-s-ne0.false h refl);
+      ahead = λ h. ahead-took a.text.now r a.k c.taken.ensures h;
+    }

@@ -17,95 +17,67 @@ returns-then-s-ne0 c = record { numbers = λ h. numbers-stopped c.if-s-ne0.true;
 pub returns-then-s-ne-NAME : goal.returns-then-s-ne-NAME
 unfolding carried
 returns-then-s-ne-NAME c =
-    let b = c in
-    let d = b in
-    let a = d.args in
-    let r = carried a.s.now in (
-      λ h. variable-unnamed a.text.now a.names.now r (next_of r) b.if-s-ne0.false h a.k c.if-s-ne-NAME.true c.refused.ensures,
-      λ h. ahead-refused a.text.now r c.refused.ensures h,
-    )
+    let a = c.args in
+    let r = carried a.s.now in record {
+      numbers = λ h. variable-unnamed a.text.now a.names.now r (next_of r) c.if-s-ne0.false h a.k c.if-s-ne-NAME.true c.refused.ensures;
+      ahead = λ h. ahead-refused a.text.now r c.refused.ensures h;
+    }
 
 -- src/reading.rt:155:9
 pub number_in-n-requires : goal.number_in-n-requires
 number_in-n-requires c =
-    let b = c in
-    let d = b in
-    let e = d in
-    (omega arith, omega (arith, c.at_most-count.ensures, most-small 64 (get_or e.args.s.now 7 0)))
+    record { from_bound = omega arith; count_bound = omega (arith, c.at_most-count.ensures, most-small 64 (get_or c.args.s.now 7 0)) }
 
 -- src/reading.rt:158:9
 pub returns-then-n-ge-VARIABLES : goal.returns-then-n-ge-VARIABLES
 unfolding carried
 returns-then-n-ge-VARIABLES c =
-    let b = c in
-    let d = b in
-    let e = d in
-    let f = e in
-    let a = f.args in
-    let r = carried a.s.now in (
-      λ h. variable-full a.text.now a.names.now r (next_of r) e.if-s-ne0.false h d.if-s-ne-NAME.false b.at_most-count.ensures
-          c.number_in-n.ensures a.k c.if-n-ge-VARIABLES.true c.refused_at.ensures,
-      λ h. ahead-refused-at a.text.now r 21 c.refused_at.ensures h,
-    )
+    let a = c.args in
+    let r = carried a.s.now in record {
+      numbers = λ h. variable-full a.text.now a.names.now r (next_of r) c.if-s-ne0.false h c.if-s-ne-NAME.false c.at_most-count.ensures
+          c.number_in-n.ensures a.k c.if-n-ge-VARIABLES.true c.refused_at.ensures;
+      ahead = λ h. ahead-refused-at a.text.now r 21 c.refused_at.ensures h;
+    }
 
 -- src/reading.rt:162:9
 pub returns-then-s-ne0-2 : goal.returns-then-s-ne0-2
 unfolding carried
 returns-then-s-ne0-2 c =
-    let b = c in
-    let d = b in
-    let e = d in
-    let f = e in
-    let a = f.args in
-    let r = carried a.s.now in (
-      λ h.
+    let a = c.args in
+    let r = carried a.s.now in record {
+      numbers = λ h.
           took_numbers a.text.now a.k r c.taken.ensures
-          (variable-stopped a.text.now a.names.now r (next_of r) e.if-s-ne0.false h e.if-s-ne-NAME.false b.at_most-count.ensures
-          b.number_in-n.ensures a.k b.if-n-ge-VARIABLES.false refl
-          (λ y. c.if-s-ne0-2.true (ap (λ q. q.number) c.taken.ensures ∙ took_number a.text.now a.k r ∙ y))),
-      λ h. ahead-took a.text.now r a.k c.taken.ensures h,
-    )
+          (variable-stopped a.text.now a.names.now r (next_of r) c.if-s-ne0.false h c.if-s-ne-NAME.false c.at_most-count.ensures
+          c.number_in-n.ensures a.k c.if-n-ge-VARIABLES.false refl
+          (λ y. c.if-s-ne0-2.true (ap (λ q. q.number) c.taken.ensures ∙ took_number a.text.now a.k r ∙ y)));
+      ahead = λ h. ahead-took a.text.now r a.k c.taken.ensures h;
+    }
 
 -- src/reading.rt:164:5
 pub with_name-requires : goal.with_name-requires
 with_name-requires c =
-    let b = c in
-    let d = b in
-    let e = d in
-    let f = e in
-    (omega arith, omega (arith, d.at_most-count.ensures, most-small 64 (get_or f.args.s.now 7 0)))
+    record { from_bound = omega arith; count_bound = omega (arith, c.at_most-count.ensures, most-small 64 (get_or c.args.s.now 7 0)) }
 
 -- src/reading.rt:165:29
 pub count_with-requires : goal.count_with-requires
 count_with-requires c =
-    let b = c in
-    let d = b in
-    let e = d in
-    let f = e in
-    let g = f in
-    omega (arith, e.at_most-count.ensures, most-small 64 (get_or g.args.s.now 7 0))
+    omega (arith, c.at_most-count.ensures, most-small 64 (get_or c.args.s.now 7 0))
 
 -- src/reading.rt:138:1
 pub returns : goal.returns
 unfolding carried
 returns c =
-    let b = c in
-    let d = b in
-    let e = d in
-    let f = e in
-    let g = f in
-    let o = g in
-    let a = o.args in
+    let a = c.args in
     let r = carried a.s.now in
     let m = c.count_with.result in
-    let n = e.number_in-n.result in
+    let n = c.number_in-n.result in
     let is : carried (set c.put.new.names 9 n) ≡ named_variable m n (took_by a.text.now a.k r) =
-    rw c.put.ensures (row-variable d.taken.new.s c.put-arg-1.given.0.1 m n ∙ ap (named_variable m n) d.taken.ensures) in (
-      λ h.
+    rw c.put.ensures (row-variable c.taken.new.s c.put-arg-1.given.0.1 m n ∙ ap (named_variable m n) c.taken.ensures) in record {
+      numbers = λ h.
           took-variable a.text.now a.k r m n is
-          (variable-named a.text.now a.names.now r (next_of r) g.if-s-ne0.false h f.if-s-ne-NAME.false e.at_most-count.ensures
-          e.number_in-n.ensures a.k d.if-n-ge-VARIABLES.false refl
-          (sym (took_number a.text.now a.k r) ∙ sym (ap (λ q. q.number) d.taken.ensures) ∙ b.if-s-ne0-2.false) b.with_name.ensures
-          c.count_with.ensures refl),
-      λ h. ahead-variable a.text.now (took_by a.text.now a.k r) m n is (ahead-took a.text.now r a.k refl h),
-    )
+          (variable-named a.text.now a.names.now r (next_of r) c.if-s-ne0.false h c.if-s-ne-NAME.false c.at_most-count.ensures
+          c.number_in-n.ensures a.k c.if-n-ge-VARIABLES.false refl
+          (sym (took_number a.text.now a.k r) ∙ sym (ap (λ q. q.number) c.taken.ensures) ∙ c.if-s-ne0-2.false) c.with_name.ensures
+          c.count_with.ensures refl);
+      ahead = λ h. ahead-variable a.text.now (took_by a.text.now a.k r) m n is (ahead-took a.text.now r a.k refl h);
+    }

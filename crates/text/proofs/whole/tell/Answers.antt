@@ -11,8 +11,7 @@ loop-i-init c = telling-starts
 -- src/whole.rt:64:5
 pub loop-i-preserved : goal.loop-i-preserved
 loop-i-preserved c =
-    let a = c in
-    telling-goes-on a.loop-i.invariant a.loop-i-test.true c.word.ensures
+    telling-goes-on c.loop-i.invariant c.loop-i-test.true c.word.ensures
     (back32 c.word_of.result (record { sfits = c.word_of.type_inv }) ∙ c.word_of.ensures) c.store.ensures
 
 -- src/whole.rt:58:1

@@ -13,12 +13,10 @@ loop-i-init c = (filling-starts, filling-starts)
 -- src/writing.rt:136:5
 pub loop-i-preserved : goal.loop-i-preserved
 loop-i-preserved c =
-    let b = c in
-    let d = b in
-    let a = d.args in (
-      filling-goes-on d.loop-i.invariant.0 (gap-words a.gap.now d.loop-i.i b.loop-i-test.true)
-          (rw (back32 b.word_at.result (record { sfits = b.word_at.type_inv }), b.word_at.ensures) at c.put_word.ensures.words_after),
-      filling-goes-on d.loop-i.invariant.1 (gap-places a.p a.gap.now d.loop-i.i b.loop-i-test.true) c.put_word.ensures.origins_after,
+    let a = c.args in (
+      filling-goes-on c.loop-i.invariant.0 (gap-words a.gap.now c.loop-i.i c.loop-i-test.true)
+          (rw (back32 c.word_at.result (record { sfits = c.word_at.type_inv }), c.word_at.ensures) at c.put_word.ensures.words_after),
+      filling-goes-on c.loop-i.invariant.1 (gap-places a.p a.gap.now c.loop-i.i c.loop-i-test.true) c.put_word.ensures.origins_after,
     )
 
 -- src/writing.rt:129:1
@@ -32,7 +30,7 @@ shape_of-origins c = c.loop-i.invariant.1.long
 -- src/writing.rt:129:1
 pub returns : goal.returns
 returns c =
-    let a = c.args in (
-      filling-ends c.loop-i.invariant.0 (drop_of_length-le a.gap.now c.loop-i-test.false),
-      filling-ends c.loop-i.invariant.1 (ap (everywhere a.p) (drop_of_length-le a.gap.now c.loop-i-test.false)),
-    )
+    let a = c.args in record {
+      words_after = filling-ends c.loop-i.invariant.0 (drop_of_length-le a.gap.now c.loop-i-test.false);
+      origins_after = filling-ends c.loop-i.invariant.1 (ap (everywhere a.p) (drop_of_length-le a.gap.now c.loop-i-test.false));
+    }

@@ -18,8 +18,7 @@ returns-then-k-gt-MOST_WORDS c = record { owes = owes-many c.args.k (carried c.a
 -- src/writing.rt:47:1
 pub returns : goal.returns
 returns c =
-    let a = c in
-    let owes = ap carried c.put.ensures ∙ row-owing a.args.s.now c.put-arg-1.given.0.1 a.args.k in (
-      owes_more a.args.k (carried a.args.s.now) owes,
-      λ text h. ahead-owing text (carried a.args.s.now) a.args.k owes h,
-    )
+    let owes = ap carried c.put.ensures ∙ row-owing c.args.s.now c.put-arg-1.given.0.1 c.args.k in record {
+      owes = owes_more c.args.k (carried c.args.s.now) owes;
+      by_index = λ text h. ahead-owing text (carried c.args.s.now) c.args.k owes h;
+    }

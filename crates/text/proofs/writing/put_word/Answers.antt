@@ -4,6 +4,5 @@ use Rattle.text.proofs.writing.put_word.Goals as goal
 -- src/writing.rt:88:1
 pub returns : goal.returns
 returns c =
-    let b = c in
-    let a = b.args in
-    (rw (back32 a.w b.ranges.w) at b.store.ensures, c.put.ensures)
+    let a = c.args in
+    record { words_after = rw (back32 a.w c.ranges.w) at c.store.ensures; origins_after = c.put.ensures }

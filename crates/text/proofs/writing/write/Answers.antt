@@ -7,21 +7,17 @@ use Rattle.text.proofs.writing.write.Goals as goal
 -- src/writing.rt:28:9
 pub returns-then-at-ge-ROW : goal.returns-then-at-ge-ROW
 returns-then-at-ge-ROW c =
-    let a = c in (
-      with_none a.args.s.now a.args.words.now a.args.w c.if-at-ge-ROW.true,
-      (with_none a.args.s.now a.args.origins.now a.args.p c.if-at-ge-ROW.true, wrote_none a.args.s.now c.if-at-ge-ROW.true),
-    )
+    record {
+      words_after = with_none c.args.s.now c.args.words.now c.args.w c.if-at-ge-ROW.true;
+      origins_after = with_none c.args.s.now c.args.origins.now c.args.p c.if-at-ge-ROW.true;
+      s_after = wrote_none c.args.s.now c.if-at-ge-ROW.true;
+    }
 
 -- src/writing.rt:21:1
 pub returns : goal.returns
 returns c =
-    let a = c in
-    let b = a in
-    let d = b in
-    let e = d in (
-      with-more e.args.s.now e.args.words.now e.args.w d.if-at-ge-ROW.false (rw (back32 e.args.w e.ranges.w) at b.store.ensures),
-      (
-        with-more e.args.s.now e.args.origins.now e.args.p d.if-at-ge-ROW.false a.put.ensures,
-        ap carried c.put-2.ensures ∙ row_wrote e.args.s.now c.put-arg-2-1.given.0.1 d.if-at-ge-ROW.false,
-      ),
-    )
+    record {
+      words_after = with-more c.args.s.now c.args.words.now c.args.w c.if-at-ge-ROW.false (rw (back32 c.args.w c.ranges.w) at c.store.ensures);
+      origins_after = with-more c.args.s.now c.args.origins.now c.args.p c.if-at-ge-ROW.false c.put.ensures;
+      s_after = ap carried c.put-2.ensures ∙ row_wrote c.args.s.now c.put-arg-2-1.given.0.1 c.if-at-ge-ROW.false;
+    }

@@ -16,17 +16,11 @@ returns-then-is_between-2 c = rw (sym c.is_between.ensures ∙ c.if-is_between.f
 pub returns-then-is_between-3 : goal.returns-then-is_between-3
 unfolding is_named
 returns-then-is_between-3 c =
-    let a = c in
-    let b = a in
-    let d = b in
     rw
-    (sym d.is_between.ensures ∙ b.if-is_between.false, sym a.is_between-2.ensures ∙ c.if-is_between-2.false, sym c.is_between-3.ensures ∙ c.if-is_between-3.true)
+    (sym c.is_between.ensures ∙ c.if-is_between.false, sym c.is_between-2.ensures ∙ c.if-is_between-2.false, sym c.is_between-3.ensures ∙ c.if-is_between-3.true)
 
 -- src/bytes.rt:53:1
 pub returns : goal.returns
 unfolding is_named
 returns c =
-    let a = c in
-    let b = a in
-    let d = b in
-    rw (sym d.is_between.ensures ∙ b.if-is_between.false, sym a.is_between-2.ensures ∙ c.if-is_between-2.false, sym c.is_between-3.ensures ∙ c.if-is_between-3.false)
+    rw (sym c.is_between.ensures ∙ c.if-is_between.false, sym c.is_between-2.ensures ∙ c.if-is_between-2.false, sym c.is_between-3.ensures ∙ c.if-is_between-3.false)

@@ -16,12 +16,10 @@ returns-then-b-eq9 c = rw (ne_eqb c.args.b 32 c.if-b-eq32.false, eq-eqb c.args.b
 pub returns-then-b-eq10 : goal.returns-then-b-eq10
 unfolding is_white
 returns-then-b-eq10 c =
-    let a = c in
-    rw (ne_eqb a.args.b 32 c.if-b-eq32.false, ne_eqb a.args.b 9 c.if-b-eq9.false, eq-eqb a.args.b 10 c.if-b-eq10.true)
+    rw (ne_eqb c.args.b 32 c.if-b-eq32.false, ne_eqb c.args.b 9 c.if-b-eq9.false, eq-eqb c.args.b 10 c.if-b-eq10.true)
 
 -- src/bytes.rt:37:1
 pub returns : goal.returns
 unfolding is_white
 returns c =
-    let a = c in
-    rw (ne_eqb a.args.b 32 c.if-b-eq32.false, ne_eqb a.args.b 9 c.if-b-eq9.false, ne_eqb a.args.b 10 c.if-b-eq10.false)
+    rw (ne_eqb c.args.b 32 c.if-b-eq32.false, ne_eqb c.args.b 9 c.if-b-eq9.false, ne_eqb c.args.b 10 c.if-b-eq10.false)

@@ -12,16 +12,12 @@ loop-i-init c = running-starts
 -- src/bytes.rt:86:13
 pub returns-then-not-is_of : goal.returns-then-not-is_of
 returns-then-not-is_of c =
-    let a = c in
-    let b = a in
-    running-stops b.loop-i.invariant a.loop-i-test.true (sym c.is_of.ensures ∙ not-true _ c.if-not-is_of.true)
+    running-stops c.loop-i.invariant c.loop-i-test.true (sym c.is_of.ensures ∙ c.if-not-is_of.true)
 
 -- src/bytes.rt:84:5
 pub loop-i-preserved : goal.loop-i-preserved
 loop-i-preserved c =
-    let a = c in
-    let b = a in
-    running-goes-on b.loop-i.invariant a.loop-i-test.true (sym c.is_of.ensures ∙ not-false _ c.if-not-is_of.false)
+    running-goes-on c.loop-i.invariant c.loop-i-test.true (sym c.is_of.ensures ∙ c.if-not-is_of.false)
 
 -- src/bytes.rt:80:1
 pub returns : goal.returns

@@ -14,16 +14,12 @@ loop-i-init c = spelling-starts c.if-s-word.false
 -- src/bytes.rt:110:13
 pub returns-then-byte-word : goal.returns-then-byte-word
 returns-then-byte-word c =
-    let a = c in
-    let b = a in
-    spelling-differs b.loop-i.invariant a.loop-i-test.true (λ e. c.if-byte-word.true (c.byte.ensures ∙ e))
+    spelling-differs c.loop-i.invariant c.loop-i-test.true (λ e. c.if-byte-word.true (c.byte.ensures ∙ e))
 
 -- src/bytes.rt:108:5
 pub loop-i-preserved : goal.loop-i-preserved
 loop-i-preserved c =
-    let a = c in
-    let b = a in
-    spelling-goes-on b.loop-i.invariant a.loop-i-test.true (sym c.byte.ensures ∙ c.if-byte-word.false)
+    spelling-goes-on c.loop-i.invariant c.loop-i-test.true (sym c.byte.ensures ∙ c.if-byte-word.false)
 
 -- src/bytes.rt:101:1
 pub returns : goal.returns

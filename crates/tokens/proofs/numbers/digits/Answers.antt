@@ -11,9 +11,7 @@ loop-i-init c = counting-starts
 -- src/numbers.rt:37:13
 pub overflow_add-n : goal.overflow_add-n
 overflow_add-n c =
-    let a = c in
-    let b = a in
-    omega (arith, a.loop-i.invariant.small, c.digit.ensures, digit-small (get_or b.args.s.now a.loop-i.i 0))
+    omega (arith, c.loop-i.invariant.small, c.digit.ensures, digit-small (get_or c.args.s.now c.loop-i.i 0))
 
 -- src/numbers.rt:39:13
 pub returns-then-n-gt-GREATEST : goal.returns-then-n-gt-GREATEST

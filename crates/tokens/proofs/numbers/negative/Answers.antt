@@ -14,7 +14,5 @@ returns-then-n-gt-GREATEST c = negative-outside c.args.n c.if-n-gt-GREATEST.true
 -- src/numbers.rt:55:1
 pub returns : goal.returns
 returns c =
-    let a = c in
-    let b = a in
-    c.minus.ensures ∙ negative-less b.args.n a.if-n-eq0.false c.if-n-gt-GREATEST.false
+    c.minus.ensures ∙ negative-less c.args.n c.if-n-eq0.false c.if-n-gt-GREATEST.false
     (back32 c.word_of.result (record { sfits = c.word_of.type_inv }) ∙ c.word_of.ensures)

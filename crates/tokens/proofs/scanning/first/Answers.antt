@@ -15,47 +15,27 @@ returns-then-s-eq0 c = first-end c.args.due c.args.s.now c.if-s-eq0.true
 -- src/scanning.rt:91:9
 pub returns-then-is_of : goal.returns-then-is_of
 returns-then-is_of c =
-    let a = c in
-    let b = a in
-    c.name.ensures ∙ first-name b.args.due b.args.s.now a.if-s-eq0.false (sym c.is_of.ensures ∙ c.if-is_of.true)
+    c.name.ensures ∙ first-name c.args.due c.args.s.now c.if-s-eq0.false (sym c.is_of.ensures ∙ c.if-is_of.true)
 
 -- src/scanning.rt:94:9
 pub returns-then-is_of-2 : goal.returns-then-is_of-2
 returns-then-is_of-2 c =
-    let a = c in
-    let b = a in
-    let d = b in
-    let e = d in
-    ap (λ k. piece number_code k) c.run.ensures ∙ first-number e.args.due e.args.s.now d.if-s-eq0.false (sym b.is_of.ensures ∙ a.if-is_of.false)
+    ap (λ k. piece number_code k) c.run.ensures ∙ first-number c.args.due c.args.s.now c.if-s-eq0.false (sym c.is_of.ensures ∙ c.if-is_of.false)
     (sym c.is_of-2.ensures ∙ c.if-is_of-2.true)
 
 -- src/scanning.rt:102:21
 pub overflow_add-result : goal.overflow_add-result
 overflow_add-result c =
-    let a = c in
-    omega (arith, run_length is_digit (drop 1 a.args.s.now), length-drop 1 a.args.s.now, c.run-then-is_signed.ensures ∙ ap (run is_digit) c.bytes_from.ensures)
+    omega (arith, run_length is_digit (drop 1 c.args.s.now), length-drop 1 c.args.s.now, c.run-then-is_signed.ensures ∙ ap (run is_digit) c.bytes_from.ensures)
 
 -- src/scanning.rt:100:9
 pub returns-then-is_signed : goal.returns-then-is_signed
 returns-then-is_signed c =
-    let a = c in
-    let b = a in
-    let d = b in
-    let e = d in
-    let f = e in
-    let g = f in
-    let j = g in
-    signed-told j.args.due j.args.s.now g.if-s-eq0.false (sym f.is_of.ensures ∙ e.if-is_of.false) (sym d.is_of-2.ensures ∙ b.if-is_of-2.false)
-    (sym a.is_signed.ensures ∙ c.if-is_signed.true) (c.run-then-is_signed.ensures ∙ ap (run is_digit) c.bytes_from.ensures)
+    signed-told c.args.due c.args.s.now c.if-s-eq0.false (sym c.is_of.ensures ∙ c.if-is_of.false) (sym c.is_of-2.ensures ∙ c.if-is_of-2.false)
+    (sym c.is_signed.ensures ∙ c.if-is_signed.true) (c.run-then-is_signed.ensures ∙ ap (run is_digit) c.bytes_from.ensures)
 
 -- src/scanning.rt:81:1
 pub returns : goal.returns
 returns c =
-    let a = c in
-    let b = a in
-    let d = b in
-    let e = d in
-    let f = e in
-    let g = f in
-    c.mark.ensures ∙ first-mark g.args.due g.args.s.now f.if-s-eq0.false (sym e.is_of.ensures ∙ d.if-is_of.false) (sym b.is_of-2.ensures ∙ a.if-is_of-2.false)
+    c.mark.ensures ∙ first-mark c.args.due c.args.s.now c.if-s-eq0.false (sym c.is_of.ensures ∙ c.if-is_of.false) (sym c.is_of-2.ensures ∙ c.if-is_of-2.false)
     (sym c.is_signed.ensures ∙ c.if-is_signed.false)

@@ -8,21 +8,17 @@ use Rattle.tokens.proofs.scanning.is_signed.Goals as goal
 -- src/scanning.rt:72:9
 pub returns-then-not-due : goal.returns-then-not-due
 unfolding signs
-returns-then-not-due c = rw (not-true c.args.due c.if-not-due.true)
+returns-then-not-due c = rw c.if-not-due.true
 
 -- src/scanning.rt:75:9
 pub returns-then-byte-ne45 : goal.returns-then-byte-ne45
 unfolding signs
 returns-then-byte-ne45 c =
-    let a = c in
-    rw (not-false a.args.due c.if-not-due.false, ne_eqb (get_or a.args.s.now 0 0) 45 (λ e. c.if-byte-ne45.true (c.byte.ensures ∙ e)))
+    rw (c.if-not-due.false, ne_eqb (get_or c.args.s.now 0 0) 45 (λ e. c.if-byte-ne45.true (c.byte.ensures ∙ e)))
 
 -- src/scanning.rt:68:1
 pub returns : goal.returns
 unfolding signs
 returns c =
-    let a = c in
-    let b = a in
-    let d = b in
-    rw (not-false d.args.due b.if-not-due.false, eq-eqb (get_or d.args.s.now 0 0) 45 (sym a.byte.ensures ∙ c.if-byte-ne45.false))
+    rw (c.if-not-due.false, eq-eqb (get_or c.args.s.now 0 0) 45 (sym c.byte.ensures ∙ c.if-byte-ne45.false))
     (c.is_of.ensures ∙ ap is_digit c.byte-2.ensures)

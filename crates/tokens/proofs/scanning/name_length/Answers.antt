@@ -6,8 +6,7 @@ use Rattle.tokens.proofs.scanning.name_length.Goals as goal
 -- src/scanning.rt:24:16
 pub overflow_add-result : goal.overflow_add-result
 overflow_add-result c =
-    let a = c in
-    omega (arith, byte_inside a.args.s.now c.run-n.result (sym c.byte.ensures ∙ c.if-byte-eq63.true))
+    omega (arith, byte_inside c.args.s.now c.run-n.result (sym c.byte.ensures ∙ c.if-byte-eq63.true))
 
 -- src/scanning.rt:24:9
 pub returns-then-byte-eq63 : goal.returns-then-byte-eq63
