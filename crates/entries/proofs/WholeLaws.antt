@@ -35,6 +35,7 @@ few =
     (more {x = 17} (omega arith) (more {x = 18} (omega arith) (more {x = 19} (omega arith) (more {x = 23} (omega arith) none)))))))))))))))
 
 among : {n : ℕ} {ns : List ℕ} → Each (λ k. k ≤ 23) ns → OneOf n ns → n ≤ 23
+among none m = elim m [ ]
 among (more h hs) (OneOf.head e) = rw e h
 among (more h hs) (OneOf.tail m) = among hs m
 

@@ -6,7 +6,7 @@ use mathlib.Core.List.{List, [], ◌∷◌, ◌++◌, append_assoc, append-nil}
 use native.Mathlib.Omega.{arith}
 use lib.IntN.{ℤ}
 use Rattle.tokens.specs.Bytes.{is_white, is_named}
-use Rattle.tokens.specs.Codes.{name_code, number_code, colon_code, dot_code, semicolon_code, open_brace_code, close_brace_code, close_bracket_code}
+use Rattle.tokens.specs.Codes.{name_code, number_code, comma_code, beside_code, then_code, else_code, do_code, colon_code, dot_code, semicolon_code, open_brace_code, close_brace_code, close_bracket_code}
 use Rattle.tokens.specs.Spelling.{row, keywords, singles}
 use Rattle.tokens.specs.Rules.{All, In, is_question}
 use Rattle.tokens.proofs.SpellingLaws.{keyword-great, pair-great, single-great}
@@ -137,7 +137,7 @@ operands-fine {o = o} sa sb rest x y p q =
     rw (operands-are k sa sb, append_assoc sa (space ∷ Sign.fixed (40 + o) k.spelling ∷ space ∷ sb) rest)
     (p _ (spaced-follows k.apart (λ z. omega arith) (q (due-operator o x y) (λ z. omega arith))))
 
-pub expression-fine : {last : ℕ} {in_c : Bool} {low : ℕ} {ws : List ℤ} {ss rest : List Sign}
+pub expression-fine : {in_c : Bool} {last low : ℕ} {ws : List ℤ} {ss rest : List Sign}
     → Expression in_c low ws ss → due_after last ≡ true → (last ≡ dot_code → ⊥) → Follows rest → Fine last (ss ++ rest)
 expression-fine Expression.nil d u f = last_word nil-there f
 expression-fine Expression.no d u f = last_word false-there f
@@ -145,8 +145,8 @@ expression-fine Expression.yes d u f = last_word true-there f
 expression-fine Expression.number d u f = Fine.integer d f.ends (f.fine number_code)
 expression-fine (Expression.at p) d u f = path-fine p u f
 expression-fine (Expression.identity n p q) d u f = sides-fine p q u f
-expression-fine {rest = rest} (Expression.operation {sa = sa} {sb = sb} x y v m p q) d u f =
-    operands-fine sa sb rest x y (λ st g. expression-fine p d u g) (λ e w. expression-fine q e w f)
+expression-fine {last = last} {rest = rest} (Expression.operation {o = o} {sa = sa} {sb = sb} x y v m p q) d u f =
+    operands-fine sa sb rest x y (λ st g. expression-fine {last = last} p d u g) (λ e w. expression-fine {last = 40 + o} q e w f)
 expression-fine {rest = rest} (Expression.brackets {o = o} {sa = sa} {sb = sb} x y v m p q) d u f =
     let g : Follows (close_bracket_sign ∷ rest) = mark-follows close-bracket-there Alone.close_bracket unnamed-41 refl (f.fine close_bracket_code) in
     rw (append_assoc (sa ++ operator_text o ++ sb) (close_bracket_sign ∷ []) rest)
@@ -162,9 +162,9 @@ part-fine {k = k} a b p f =
 
 pub parts-fine : {last n : ℕ} {ws : List ℤ} {ss rest : List Sign} → Parts n ws ss → Follows rest → Fine last (ss ++ rest)
 parts-fine (Parts.one a b p) f = part-fine a b p f
-parts-fine {rest = rest} (Parts.more {k = k} {se = se} {ss = ss} a b p ps) f =
+parts-fine {last = last} {rest = rest} (Parts.more {k = k} {se = se} {ss = ss} a b p ps) f =
     rw (append_assoc (priority_text k ++ se) (space ∷ beside_sign ∷ space ∷ ss) rest)
-    (part-fine a b p (spaced-follows (λ st o. Fixed.pair beside-there) (λ z. omega arith) (parts-fine ps f)))
+    (part-fine a b p (spaced-follows (λ st o. Fixed.pair beside-there) (λ z. omega arith) (parts-fine {last = beside_code} ps f)))
 
 field-fine : {last l : ℕ} {e : List ℤ} {se rest : List Sign}
     → Expression false 1 e se → (last ≡ dot_code → ⊥) → Follows rest → Fine last (Sign.label l ∷ colon_sign ∷ space ∷ (se ++ rest))
@@ -173,9 +173,9 @@ field-fine p u f =
 
 pub fields-fine : {last n : ℕ} {ws : List ℤ} {ss rest : List Sign} → Fields n ws ss → (last ≡ dot_code → ⊥) → Follows rest → Fine last (ss ++ rest)
 fields-fine (Fields.one p) u f = field-fine p u f
-fields-fine {rest = rest} (Fields.more {se = se} {ss = ss} p fs) u f =
+fields-fine {last = last} {rest = rest} (Fields.more {se = se} {ss = ss} p fs) u f =
     rw (append_assoc se (comma_sign ∷ space ∷ ss) rest)
-    (field-fine p u (mark-follows comma-there Alone.comma unnamed-44 refl (spaced (fields-fine fs (λ z. omega arith) f))))
+    (field-fine p u (mark-follows comma-there Alone.comma unnamed-44 refl (spaced (fields-fine {last = comma_code} fs (λ z. omega arith) f))))
 
 -- ---- statements and blocks
 
@@ -201,27 +201,27 @@ prints-fine (Prints.always ps) u f = word-fine always-there (parts-fine ps f)
 prints-fine (Prints.once ps) u f = word-fine once-there (parts-fine ps f)
 prints-fine (Prints.always-same p q) u f = word-fine always-there (sides-fine p q (λ z. omega arith) f)
 prints-fine (Prints.once-same p q) u f = word-fine once-there (sides-fine p q (λ z. omega arith) f)
-prints-fine {rest = rest} (Prints.branch {se = se} {sa = sa} {sb = sb} e p q) u f =
+prints-fine {last = last} {rest = rest} (Prints.branch {se = se} {sa = sa} {sb = sb} e p q) u f =
     rw (append_assoc (se ++ space ∷ then_sign ∷ space ∷ sa) (space ∷ else_sign ∷ space ∷ sb) rest, append_assoc se (space ∷ then_sign ∷ space ∷ sa) (space ∷ else_sign ∷ space ∷ sb ++ rest))
     (word-fine if-there
     (expression-fine e due-if (λ z. omega arith)
     (spaced-follows (λ st o. Fixed.keyword then-there (Ends.spaced o)) (λ z. omega arith)
-    (prints-fine p (λ z. omega arith)
-    (spaced-follows (λ st o. Fixed.keyword else-there (Ends.spaced o)) (λ z. omega arith) (prints-fine q (λ z. omega arith) f))))))
-prints-fine {rest = rest} (Prints.loop {se = se} {sa = sa} e p) u f =
+    (prints-fine {last = then_code} p (λ z. omega arith)
+    (spaced-follows (λ st o. Fixed.keyword else-there (Ends.spaced o)) (λ z. omega arith) (prints-fine {last = else_code} q (λ z. omega arith) f))))))
+prints-fine {last = last} {rest = rest} (Prints.loop {se = se} {sa = sa} e p) u f =
     rw (append_assoc se (space ∷ do_sign ∷ space ∷ sa) rest)
     (word-fine while-there
     (expression-fine e due-while (λ z. omega arith)
-    (spaced-follows (λ st o. Fixed.keyword do-there (Ends.spaced o)) (λ z. omega arith) (prints-fine p (λ z. omega arith) f))))
+    (spaced-follows (λ st o. Fixed.keyword do-there (Ends.spaced o)) (λ z. omega arith) (prints-fine {last = do_code} p (λ z. omega arith) f))))
 prints-fine (Prints.last p) u f = prints-fine p u f
-prints-fine {rest = rest} (Prints.more {d = d} {ss = ss} {st = st} p q) u f =
+prints-fine {last = last} {rest = rest} (Prints.more {d = d} {ss = ss} {st = st} p q) u f =
     rw (append_assoc ss (semicolon_sign ∷ line d ∷ st) rest)
     (prints-fine p u
-    (mark-follows semicolon-there Alone.semicolon unnamed-59 refl (Fine.blank (line-white d) (prints-fine q (λ z. omega arith) f))))
+    (mark-follows semicolon-there Alone.semicolon unnamed-59 refl (Fine.blank (line-white d) (prints-fine {last = semicolon_code} q (λ z. omega arith) f))))
 prints-fine Prints.empty u f = mark-fine open-brace-there Alone.open_brace (mark-fine close-brace-there Alone.close_brace (f.fine close_brace_code))
-prints-fine {rest = rest} (Prints.braces {d = d} {ss = ss} p) u f =
+prints-fine {last = last} {rest = rest} (Prints.braces {d = d} {ss = ss} p) u f =
     rw (append_assoc ss (line (suc d) ∷ close_brace_sign ∷ []) rest)
-    (mark-fine open-brace-there Alone.open_brace (Fine.blank (line-white d) (prints-fine p (λ z. omega arith) (brace-follows (suc d) f))))
+    (mark-fine open-brace-there Alone.open_brace (Fine.blank (line-white d) (prints-fine {last = open_brace_code} p (λ z. omega arith) (brace-follows (suc d) f))))
 
 pub text-fine : {p : List ℤ} {ss : List Sign} → Text p ss → Fine semicolon_code ss
 text-fine Text.nothing = Fine.none

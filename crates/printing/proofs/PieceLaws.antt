@@ -24,27 +24,27 @@ use Rattle.printing.proofs.LeftLaws.{Leaves, behind}
 
 -- a piece is written, and r words are left behind it
 abbrev pub Gives : Naming → Page → Printed → Page → ℕ → Type 0
-Gives N a x b r = Wrote N a x.0 b × (r ≡ length x.1)
+Gives N a x b r = record { wrote : Wrote N a x.0 b; value : r ≡ length x.1 }
 
 -- a piece that is nothing
 pub gives_none : {N : Naming} {a : Page} (p : List ℤ) → Gives N a ([], p) a (length p)
-gives_none p = (wrote_none, refl)
+gives_none p = record { wrote = wrote_none; value = refl }
 
 module _ {N : Naming} {a : Page} where
   -- signs before a piece, and behind it
   pub gives-say : {b c : Page} {r : ℕ} (ss : List Sign) (x : Printed) → Wrote N a ss b → Gives N b x c r → Gives N a (say ss x) c r
-  gives-say ss x w g = (wrote_then {ss = ss} {tt = x.0} w g.0, g.1)
+  gives-say ss x w g = record { wrote = wrote_then {ss = ss} {tt = x.0} w g.wrote; value = g.value }
 
   pub gives-until : {b c : Page} {r : ℕ} (x : Printed) (ss : List Sign) → Gives N a x b r → Wrote N b ss c → Gives N a (until x ss) c r
-  gives-until x ss g w = (wrote_then {ss = x.0} {tt = ss} g.0 w, g.1)
+  gives-until x ss g w = record { wrote = wrote_then {ss = x.0} {tt = ss} g.wrote w; value = g.value }
 
   -- a piece, signs, and a piece from the words that are left
   pub gives_then : {b c e : Page} {p q : List ℤ} {left r : ℕ} (x f : List ℤ → Printed) (ss : List Sign)
       → Leaves x → Gives N a (x p) b left → Wrote N b ss c → q ≡ last_of left p → Gives N c (f q) e r → Gives N a (then (x p) (λ s. say ss (f s))) e r
   gives_then {p = p} x f ss l g w i h =
-      let j = behind (l p) g.1 i in
+      let j = behind (l p) g.value i in
       let k : Gives N _ (f (x p).1) _ _ = rw j at h in
-      (wrote_then {ss = (x p).0} g.0 (wrote_then {ss = ss} w k.0), k.1)
+      record { wrote = wrote_then {ss = (x p).0} g.wrote (wrote_then {ss = ss} w k.wrote); value = k.value }
 
 -- ---- paths
 
@@ -52,7 +52,7 @@ pub path-gives : {N : Naming} {a b c : Page} {x n r : ℕ} {q : List ℤ} (p : L
     → Wrote N a (variable x ∷ []) b → Wrote N b (labels_text n q) c → r ≡ length q - n → Gives N a (path_text p) c r
 unfolding path_text
 path-gives p i j k w v l =
-    (wrote_then {ss = variable (number_at p 0) ∷ []} (rw i at w) (rw (j, k) at v), rw (j, k) at l ∙ sym (length-drop (number_at p 1) (drop 2 p)))
+    record { wrote = wrote_then {ss = variable (number_at p 0) ∷ []} (rw i at w) (rw (j, k) at v); value = rw (j, k) at l ∙ sym (length-drop (number_at p 1) (drop 2 p)) }
 
 -- ---- expressions
 
@@ -83,10 +83,10 @@ pub integer-gives : {N : Naming} {a : Page} {out at : List ℕ} {q : List ℤ} {
     → ink out at ≡ onto (ink a.bytes a.at) (numeral (to_z w32 (of_z w32 w))) → r ≡ length q - 1
     → Gives N a (integer (word_at (drop 1 p) 0) ∷ [], drop 1 (drop 1 p)) (page out at a.seen) r
 integer-gives {N} {a} {q = q} {w = w} p i j f e l =
-    let z : word_at (drop 1 p) 0 ≡ w = sym (j ∙ ap (λ s. word_at s 0) i) in (
-      wrote-plain {ss = integer (word_at (drop 1 p) 0) ∷ []} (rw (append-nil (numeral (word_at (drop 1 p) 0)), z) (rw (back32 w f) at e)) refl,
-      rw i at l ∙ sym (length-drop 1 (drop 1 p)),
-    )
+    let z : word_at (drop 1 p) 0 ≡ w = sym (j ∙ ap (λ s. word_at s 0) i) in record {
+      wrote = wrote-plain {ss = integer (word_at (drop 1 p) 0) ∷ []} (rw (append-nil (numeral (word_at (drop 1 p) 0)), z) (rw (back32 w f) at e)) refl;
+      value = rw i at l ∙ sym (length-drop 1 (drop 1 p));
+    }
 
 module _ {N : Naming} {a : Page} {level r : ℕ} {q : List ℤ} (go : ℕ → List ℤ → Printed) (k : ℕ) where
   pub operands-give : {b c e : Page} {left : ℕ} (p : List ℤ) → Leaves (go level) → Gives N a (go level p) b left → Wrote N b (operator_text k) c

@@ -51,17 +51,23 @@ bytes_same N P (Sign.integer z ∷ ss) f = ap (λ t. numeral z ++ t) (bytes_same
 bytes_same N P (Sign.variable x ∷ ss) f = rw (f x Used.here, bytes_same N P ss (λ i u. f i (Used.later u)))
 bytes_same N P (Sign.label l ∷ ss) f = rw (f (first_label + l) Used.here, bytes_same N P ss (λ i u. f i (Used.later u)))
 
+-- a number that is used is the first, or one of the others
+used-cases {ℓ} : {X : Type ℓ} {i k : ℕ} {is : List ℕ} → Used i (k ∷ is) → (i ≡ k → X) → (Used i is → X) → X
+used-cases Used.here f g = f refl
+used-cases (Used.later u) f g = g u
+
 -- a number that is used is a variable's or a label's
 by-sort {ℓ} : {X : Type ℓ} {i : ℕ} (ss : List Sign) → Used i (numbers_of ss) → (Used i (variables_of ss) → X) → ((l : ℕ) → i ≡ first_label + l → Used l (labels_of ss) → X) → X
+by-sort [] u f g = elim u [ ]
 by-sort (Sign.blank s ∷ ss) u f g = by-sort ss u f g
 by-sort (Sign.fixed c s ∷ ss) u f g = by-sort ss u f g
 by-sort (Sign.integer z ∷ ss) u f g = by-sort ss u f g
 by-sort (Sign.variable x ∷ ss) Used.here f g = f Used.here
 by-sort (Sign.variable x ∷ ss) (Used.later u) f g = by-sort ss u (λ v. f (Used.later v)) g
-by-sort (Sign.label l ∷ ss) Used.here f g = g l refl Used.here
-by-sort (Sign.label l ∷ ss) (Used.later u) f g = by-sort ss u f (λ m e v. g m e (Used.later v))
+by-sort (Sign.label l ∷ ss) u f g = used-cases u (λ e. g l e Used.here) (λ v. by-sort ss v f (λ m e w. g m e (Used.later w)))
 
 order_below : {k n x : ℕ} {xs : List ℕ} → InOrder k xs n → Used x xs → x < n
+order_below InOrder.none u = elim u [ ]
 order_below (InOrder.old h o) Used.here = omega (arith, order-grows o)
 order_below (InOrder.old h o) (Used.later u) = order_below o u
 order_below (InOrder.new o) Used.here = omega (arith, order-grows o)

@@ -16,6 +16,7 @@ use Rattle.printing.specs.Naming.{Naming, bytes_of, numbers_of}
 use Rattle.printing.specs.Printing.{Printed, row_text, labels_text}
 use Rattle.printing.specs.Page.{ink, onto, Page, page, Wrote}
 use Rattle.printing.proofs.PageLaws.{wrote_none, wrote_then, wrote-plain}
+use Rattle.printing.proofs.PieceLaws.{Gives}
 
 -- what stands before piece i
 abbrev pub between : ℕ → List Sign → List Sign
@@ -76,12 +77,12 @@ module _ {N : Naming} {a b : Page} {sep : List Sign} {one : List ℤ → Printed
         behind = rw (between_next i sep, v) (rw (z, ← l) at inv.behind);
       }
 
-  pub row_ends : n ≤ i → Wrote N a whole.0 b × (left ≡ length whole.1)
+  pub row_ends : n ≤ i → Gives N a whole b left
   unfolding row_text
   row_ends h =
       let z : n - i ≡ 0 = omega arith in
       let d : inv.done ≡ whole.0 = sym (append-nil inv.done) ∙ rw z at inv.signs in
-      (rw d at inv.wrote, sym (last-length left p inv.short) ∙ ap length (rw z at inv.behind))
+      record { wrote = rw d at inv.wrote; value = sym (last-length left p inv.short) ∙ ap length (rw z at inv.behind) }
 
 -- ---- the labels of a path
 

@@ -141,18 +141,18 @@ module _ (seen : List ℕ) where
   unfolding noted_all
   standing_on n l s = record { led = λ x. s.led (led_on seen l x); unled = λ m. s.unled (λ x. m (led-back seen n x)) }
 
-pub standing : (seen : List ℕ) {i : ℕ} {is : List ℕ} → get_or seen i 0 ≡ 0 → i < length seen → Used i is → Standing seen is i
+pub standing : {i : ℕ} (seen : List ℕ) {is : List ℕ} → get_or seen i 0 ≡ 0 → i < length seen → Used i is → Standing seen is i
 standing seen z l Used.here = standing-now seen z l
-standing seen {i} z l (Used.later {j = k} {is = is} u) =
+standing {i} seen z l (Used.later {j = k} {is = is} u) =
     go (ℕ_discrete k i) (λ (n : k ≡ i → ⊥). standing (noted seen k) (noted_other seen k i (λ e. n (sym e)) ∙ z) (rw noted-length l) u)
   where
     go : Dec (k ≡ i) → ((k ≡ i → ⊥) → Standing (noted seen k) is i) → Standing seen (k ∷ is) i
     go (yes e) f = rw e (standing-now seen z l)
     go (no n) f = standing_on seen n l (f n)
 
-pub used-there : (seen : List ℕ) {i : ℕ} {is : List ℕ} → i < length seen → Used i is → 0 < get_or (noted_all seen is) i 0
+pub used-there : {i : ℕ} (seen : List ℕ) {is : List ℕ} → i < length seen → Used i is → 0 < get_or (noted_all seen is) i 0
 unfolding noted_all
-used-there seen {i} l (Used.here {is = is}) = let h : 0 < get_or (noted seen i) i 0 = noted-there seen i l in rw (all-stays (noted seen i) is i h) h
+used-there {i} seen l (Used.here {is = is}) = let h : 0 < get_or (noted seen i) i 0 = noted-there seen i l in rw (all-stays (noted seen i) is i h) h
 used-there seen l (Used.later {j = k} u) = used-there (noted seen k) (rw noted-length l) u
 
 used-either : {X : Type 0} {i k : ℕ} {is : List ℕ} → Used i (k ∷ is) → (i ≡ k → X) → (Used i is → X) → X

@@ -41,13 +41,13 @@ module _ {N : Naming} {a b c : Page} {left r : ℕ} (block : List ℤ → Printe
       → Gives N a (branch_text block p) h r
   unfolding branch_text
   branch-gives {g = g} {h = h} {q = q} {s = s} w x v i y u j z =
-      let k : q ≡ (whole_text p).1 = behind (expression-leaves expression_depth 1 p) x.1 i in
-      let l : s ≡ (block q).1 = behind {p = p} (part-trans (rw k (expression-leaves expression_depth 1 p)) (leaves q)) y.1 j in
-      let t : Gives N g (block (block (whole_text p).1).1) h r = rw (← k, ← l) z in (
-        wrote_then {ss = if_sign ∷ space ∷ []} w (wrote_then {ss = (whole_text p).0} x.0 (wrote_then {ss = space ∷ then_sign ∷ space ∷ []} v
-            (wrote_then {ss = (block (whole_text p).1).0} (rw k at y.0) (wrote_then {ss = space ∷ else_sign ∷ space ∷ []} u t.0)))),
-        t.1,
-      )
+      let k : q ≡ (whole_text p).1 = behind (expression-leaves expression_depth 1 p) x.value i in
+      let l : s ≡ (block q).1 = behind {p = p} (part-trans (rw k (expression-leaves expression_depth 1 p)) (leaves q)) y.value j in
+      let t : Gives N g (block (block (whole_text p).1).1) h r = rw (← k, ← l) z in record {
+        wrote = wrote_then {ss = if_sign ∷ space ∷ []} w (wrote_then {ss = (whole_text p).0} x.wrote (wrote_then {ss = space ∷ then_sign ∷ space ∷ []} v
+            (wrote_then {ss = (block (whole_text p).1).0} (rw k at y.wrote) (wrote_then {ss = space ∷ else_sign ∷ space ∷ []} u t.wrote))));
+        value = t.value;
+      }
 
 -- ---- a statement by the number of its verb
 
@@ -81,7 +81,7 @@ module _ {N : Naming} {a b : Page} {n r : ℕ} (d : ℕ) (p : List ℤ) (deep : 
   unfolding statements_text row_text
   block-empty z w l =
       let e : number_at p 0 ≡ 0 = sym is ∙ z in
-      rw (← block-open d p deep, e) (w, l ∙ sym (length-drop 1 p))
+      rw (← block-open d p deep, e) (record { wrote = w; value = l ∙ sym (length-drop 1 p) })
 
   pub block-gives : {c e f g : Page} → (n ≡ 0 → ⊥) → Wrote N a (open_brace_sign ∷ []) b → Wrote N b (line (d - 1) ∷ []) c → Gives N c (statements_text (d - 1) p) e r
       → Wrote N e (line d ∷ []) f → Wrote N f (close_brace_sign ∷ []) g → Gives N a (block_text d p) g r

@@ -46,8 +46,8 @@ positions-inside program S s e = (positions-iff (λ k. k < length program) S.kep
 order-inside : (program : List ℤ) (S : State) → constraints_stand program S.kept ≡ true → Each (λ (x : Sort × ℕ). x.1 < length program) (in_order S.kept)
 order-inside program S e = each-join (each_over _ (λ k h. h) (positions-inside program S Values e)) (each_over _ (λ k h. h) (positions-inside program S Identities e))
 
-third : {program : List ℤ} {S : State} → Each (TableFits program S) (0 ∷ 1 ∷ 2 ∷ []) → constraints_stand program S.kept ≡ true
-third (more a (more b (more c none))) = c
+third : (program : List ℤ) (S : State) → Each (TableFits program S) (0 ∷ 1 ∷ 2 ∷ []) → constraints_stand program S.kept ≡ true
+third program S (more a (more b (more c none))) = c
 
 few : Each (λ k. k ≤ 2) (0 ∷ 1 ∷ 2 ∷ [])
 few = more {x = 0} (omega arith) (more {x = 1} (omega arith) (more {x = 2} (omega arith) none))
@@ -56,7 +56,7 @@ pub early-small : {program : List ℤ} {budget : ℤ} {S : State} {n k : ℕ} �
 early-small (wrong x) = omega arith
 early-small {program} {k = k} (unreadable x e) = omega (arith, (unread-places program k e).0)
 early-small (unfit x p f) = omega (arith, first-each few f)
-early-small {program} {S = S} (broken {k = k} x p t f) = let l : k < length program = first-each (order-inside program S (third t)) f in omega (arith, p.short)
+early-small {program} {S = S} (broken {k = k} x p t f) = let l : k < length program = first-each (order-inside program S (third program S t)) f in omega (arith, p.short)
 
 -- ---- all numbers
 

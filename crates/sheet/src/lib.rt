@@ -52,11 +52,3 @@ pub fn answer_text(text: &[u8], out: &mut [u8]) -> usize
         ),
     }
 }
-
-// The same, for a program in C or Rust.
-#[unsafe(no_mangle)]
-pub extern "C" fn sheet_answer(text: &[u8], out: &mut [u8]) -> usize
-    ensures { Listed (answer_to text.now) out.old out.new result }
-{
-    answer_text(text, out)
-}

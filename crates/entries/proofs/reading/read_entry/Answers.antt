@@ -8,22 +8,22 @@ use Rattle.entries.proofs.reading.read_entry.Goals as goal
 
 -- src/reading.rt:16:9
 pub returns-then-not-path : goal.returns-then-not-path
-returns-then-not-path c = path-halts c.args.p.now c.read_path-path.ensures c.if-not-path.true
+returns-then-not-path c = path-halts c.args.p.now c.read_path-path.ensures (not-true _ c.if-not-path.true)
 
 -- src/reading.rt:21:9
 pub returns-then-form-lt20 : goal.returns-then-form-lt20
 returns-then-form-lt20 c =
-    let e = onward (read_path c.args.p.now) (after-part _ (uses-keeps (path-uses c.args.p.now))) c.read_path-path.ensures c.if-not-path.false c.part_last-q.ensures in
+    let e = onward (read_path c.args.p.now) (after-part _ (uses-keeps (path-uses c.args.p.now))) c.read_path-path.ensures (not-false _ c.if-not-path.false) c.part_last-q.ensures in
     c.unfit.ensures ∙ form-low c.args.p.now e (rw c.number_at-form.ensures at c.if-form-lt20.true)
 
 -- src/reading.rt:24:9
 pub returns-then-form-gt23 : goal.returns-then-form-gt23
 returns-then-form-gt23 c =
-    let e = onward (read_path c.args.p.now) (after-part _ (uses-keeps (path-uses c.args.p.now))) c.read_path-path.ensures c.if-not-path.false c.part_last-q.ensures in
+    let e = onward (read_path c.args.p.now) (after-part _ (uses-keeps (path-uses c.args.p.now))) c.read_path-path.ensures (not-false _ c.if-not-path.false) c.part_last-q.ensures in
     c.unfit-then-form-gt23.ensures ∙ form-high c.args.p.now e (rw c.number_at-form.ensures at c.if-form-gt23.true)
 
 -- src/reading.rt:11:1
 pub returns : goal.returns
 returns c =
-    let e = onward (read_path c.args.p.now) (after-part _ (uses-keeps (path-uses c.args.p.now))) c.read_path-path.ensures c.if-not-path.false c.part_last-q.ensures in
+    let e = onward (read_path c.args.p.now) (after-part _ (uses-keeps (path-uses c.args.p.now))) c.read_path-path.ensures (not-false _ c.if-not-path.false) c.part_last-q.ensures in
     c.read_expression.ensures ∙ form-literal c.args.p.now e (rw c.number_at-form.ensures at c.if-form-lt20.false) (rw c.number_at-form.ensures at c.if-form-gt23.false)

@@ -14,12 +14,12 @@ loop-left-init c = starts c.args.program.now c.args.entries.now c.args.proposals
 
 -- src/whole.rt:79:13
 pub returns-then-not-piece : goal.returns-then-not-piece
-returns-then-not-piece c = ends-unfit c.loop-left.invariant c.part_last-p.ensures c.loop-left-test.true c.read_entry-piece.ensures c.if-not-piece.true c.ended.ensures
+returns-then-not-piece c = ends-unfit c.loop-left.invariant c.part_last-p.ensures c.loop-left-test.true c.read_entry-piece.ensures (not-true _ c.if-not-piece.true) c.ended.ensures
 
 -- src/whole.rt:81:13
 pub enter-u-requires : goal.enter-u-requires
 enter-u-requires c =
-    let x = entry-reads _ c.read_entry-piece.ensures c.if-not-piece.false in
+    let x = entry-reads _ c.read_entry-piece.ensures (not-false _ c.if-not-piece.false) in
     rw c.less.ensures (record { begins = c.loop-left.invariant.begins; n_in_bounds = inside-it c.loop-left.invariant c.part_last-p.ensures c.loop-left-test.true x; n_bound = short-it c.loop-left.invariant c.part_last-p.ensures c.loop-left-test.true x })
 
 -- src/whole.rt:93:13
@@ -37,7 +37,7 @@ shape_of-constraints-then-u-ne0 c = c.enter-u.auto.constraints ∙ c.loop-left.i
 -- src/whole.rt:93:13
 pub returns-then-u-ne0 : goal.returns-then-u-ne0
 returns-then-u-ne0 c =
-    let x = entry-reads _ c.read_entry-piece.ensures c.if-not-piece.false in
+    let x = entry-reads _ c.read_entry-piece.ensures (not-false _ c.if-not-piece.false) in
     ends-refused c.loop-left.invariant c.part_last-p.ensures c.loop-left-test.true x {Y = tables c.enter-u.new.environment c.enter-u.new.heap c.enter-u.new.constraints} (rw c.less.ensures at c.enter-u.ensures) c.if-u-ne0.true c.ended-then-u-ne0.ensures
 
 -- src/whole.rt:97:9
@@ -51,12 +51,12 @@ overflow_add-i c =
 
 -- src/whole.rt:75:5
 pub loop-left-smaller : goal.loop-left-smaller
-loop-left-smaller c = fewer c.loop-left.invariant c.part_last-p.ensures c.loop-left-test.true (entry-reads _ c.read_entry-piece.ensures c.if-not-piece.false)
+loop-left-smaller c = fewer c.loop-left.invariant c.part_last-p.ensures c.loop-left-test.true (entry-reads _ c.read_entry-piece.ensures (not-false _ c.if-not-piece.false))
 
 -- src/whole.rt:75:5
 pub loop-left-preserved : goal.loop-left-preserved
 loop-left-preserved c =
-    let x = entry-reads _ c.read_entry-piece.ensures c.if-not-piece.false in
+    let x = entry-reads _ c.read_entry-piece.ensures (not-false _ c.if-not-piece.false) in
     goes_on c.loop-left.invariant c.part_last-p.ensures c.loop-left-test.true x {Y = tables c.enter-u.new.environment c.enter-u.new.heap c.enter-u.new.constraints} (rw c.less.ensures at c.enter-u.ensures) c.if-u-ne0.false
     (record { environment = c.enter-u.auto.environment; heap = c.enter-u.auto.heap; constraints = c.enter-u.auto.constraints })
 

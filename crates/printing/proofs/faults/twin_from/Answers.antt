@@ -1,8 +1,8 @@
 use Prim.Native.Nat.{◌-◌}
 use mathlib.Core.Path.{◌∙◌, sym}
-use mathlib.Core.Logic.{⊎_elim}
 use Rattle.printing.proofs.FaultLaws.{twins-start, twins-found, twins-unhad, twins-unlike, twins-end}
 use Rattle.printing.proofs.faults.twin_from.Goals as goal
+use Rattle.printing.proofs.faults.twin_from.Goals.{then-is_had+else-are_twins, else-is_had}
 
 -- src/faults.rt:93:5
 pub loop-k-init : goal.loop-k-init
@@ -17,10 +17,10 @@ returns-then-are_twins c =
 -- src/faults.rt:93:5
 pub loop-k-preserved : goal.loop-k-preserved
 loop-k-preserved c =
-    ⊎_elim
-    (λ w. twins-unlike c.loop-k.invariant c.loop-k-test.true (sym w.1.ensures ∙ w.2.left))
-    (λ w. twins-unhad c.loop-k.invariant c.loop-k-test.true (sym c.is_had.ensures ∙ w.left))
-    c.if-is_had.branch
+    elim c.if-is_had.branch [
+      then-is_had+else-are_twins w ↦ twins-unlike c.loop-k.invariant c.loop-k-test.true (sym w.are_twins.ensures ∙ w.if-are_twins.false) |
+      else-is_had w ↦ twins-unhad c.loop-k.invariant c.loop-k-test.true (sym c.is_had.ensures ∙ w.if-is_had.false)
+    ]
 
 -- src/faults.rt:89:1
 pub returns : goal.returns

@@ -1,7 +1,7 @@
 use Prim.Native.Nat.{◌-◌}
-use mathlib.Core.Logic.{⊎_elim}
 use Rattle.printing.proofs.FaultLaws.{counting-starts, counting-one, counting-none, counting-ends}
 use Rattle.printing.proofs.faults.used.Goals as goal
+use Rattle.printing.proofs.faults.used.Goals.{then-standing-gt0, else-standing-gt0}
 
 -- src/faults.rt:152:5
 pub loop-i-init : goal.loop-i-init
@@ -10,10 +10,10 @@ loop-i-init c = counting-starts
 -- src/faults.rt:152:5
 pub loop-i-preserved : goal.loop-i-preserved
 loop-i-preserved c =
-    ⊎_elim
-    (λ w. counting-one c.loop-i.invariant c.loop-i-test.true c.standing.ensures w.0.taken w.1)
-    (λ w. counting-none c.loop-i.invariant c.loop-i-test.true c.standing.ensures w.0.left w.1)
-    c.if-standing-gt0.branch
+    elim c.if-standing-gt0.branch [
+      then-standing-gt0 w ↦ counting-one c.loop-i.invariant c.loop-i-test.true c.standing.ensures w.if-standing-gt0.true w.count-is |
+      else-standing-gt0 w ↦ counting-none c.loop-i.invariant c.loop-i-test.true c.standing.ensures w.if-standing-gt0.false w.count-is
+    ]
 
 -- src/faults.rt:145:1
 pub returns : goal.returns

@@ -10,7 +10,7 @@ returns-then-standing-gt0 c = noted-old _ _ c.standing.ensures c.if-standing-gt0
 
 -- src/names.rt:92:9
 pub returns-then-i-ge-NUMBERS : goal.returns-then-i-ge-NUMBERS
-returns-then-i-ge-NUMBERS c = noted-past _ _ c.standing.ensures c.if-standing-gt0.false (omega (arith, c.standing-arg-2-1.given.0, c.if-i-ge-NUMBERS.true))
+returns-then-i-ge-NUMBERS c = noted-past _ _ c.standing.ensures c.if-standing-gt0.false (omega (arith, c.standing-arg-2-1.given, c.if-i-ge-NUMBERS.true))
 
 -- src/names.rt:96:9
 pub returns-then-is_led : goal.returns-then-is_led

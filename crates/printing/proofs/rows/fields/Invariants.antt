@@ -9,7 +9,7 @@ use Rattle.printing.proofs.rows.fields.Given as goal
 
 abbrev pub invariant-loop-i : goal.invariant-loop-i
 invariant-loop-i l =
-    InRow (naming l.source l.names) (page l.initial.out l.initial.at l.initial.seen) (comma_sign ∷ space ∷ []) field_text l.n l.p (fields_text l.p) i l.i (page l.at l.seen l.left)
+    InRow (naming l.source l.names) (page l.initial.out l.initial.at l.initial.seen) (comma_sign ∷ space ∷ []) field_text l.n l.p (fields_text l.p) l.i l.left (page l.out l.at l.seen)
 
 abbrev pub decreases-loop-i : goal.decreases-loop-i
-decreases-loop-i l = l.n - i
+decreases-loop-i l = l.n - l.i
