@@ -1,6 +1,5 @@
 -- The claims of specs/Claims.antt. Assumes nothing.
-use mathlib.Core.Path.{◌≡◌, refl, ap}
-use Rattle.rules.specs.Start.{Ended}
+use mathlib.Core.Path.{refl, ap}
 use Rattle.rules.specs.Entries.{assigns}
 use Rattle.rules.proofs.EntryRules.{entries-rules}
 use Rattle.rules.proofs.EntryFacts.{entries-answers, entries-stand}

@@ -1,12 +1,12 @@
 -- The words of an entry laid behind a 1. Assumes nothing.
-use mathlib.Core.Path.{◌≡◌, refl, sym, ap, ◌∙◌}
-use mathlib.Core.List.{List, [], ◌∷◌}
+use mathlib.Core.Path.{◌≡◌, sym, ap, ◌∙◌}
+use mathlib.Core.List.{List, ◌∷◌}
 use Prim.Native.Nat.{ℕ, zero, suc, ◌+◌, ◌≤◌, ◌<◌}
 use native.Mathlib.Omega.{arith}
 use lib.IntN.{ℤ, pos}
 use lib.ListN.{length, take, set, get_or, length-set}
 use lib.Seq.{ext_get_or, get_or-take, get_or-set_same, length-take-le}
-use Rattle.words.specs.Words.{word_at, copied}
+use Rattle.words.specs.Words.{copied}
 use Rattle.words.proofs.Laws.{length-copied, copied-in, copied-out}
 
 module _ (p : List ℤ) (n : ℕ) (s : List ℤ) (h : n ≤ length p) (k : n < length s) where

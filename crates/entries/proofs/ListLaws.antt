@@ -1,36 +1,34 @@
 -- The loop over the entries: so many are done, and the rest gives the whole's answer. Assumes nothing.
 use mathlib.Core.Path.{◌≡◌, refl, sym, ap, ◌∙◌}
-use mathlib.Core.Bool.{true, false}
-use mathlib.Core.List.{List, [], ◌∷◌}
+use mathlib.Core.Bool.{false}
+use mathlib.Core.List.{List, ◌∷◌}
 use Prim.Native.Nat.{ℕ, suc, ◌+◌, ◌-◌, ◌≤◌, ◌<◌}
 use native.Mathlib.Omega.{arith}
 use native.Mathlib.Decide.{dec_lt}
 use lib.IntN.{ℤ, pos}
-use lib.ListN.{length, take, drop, length-append}
+use lib.ListN.{length, take, length-append}
 use lib.Seq.{drop-drop, drop-length}
 use Rattle.words.specs.Words.{number_at, last_of}
-use Rattle.words.specs.Answer.{got, stop}
 use Rattle.words.proofs.AnswerLaws.{either}
 use Rattle.program.specs.declared.Piece.{Piece}
 use Rattle.program.specs.Forms.{assign, verb_of}
 use Rattle.program.specs.Told.{told}
-use Rattle.program.specs.Grammar.{Takes}
 use Rattle.program.specs.Reading.{read_block, after}
 use Rattle.program.proofs.RowLaws.{last-length, last-all}
 use Rattle.rules.specs.State.{State}
-use Rattle.rules.specs.Statements.{Left, position_of, place_of, do_assign, do_simple}
-use Rattle.rules.specs.Running.{Out, on, end, then_out, one_more, leaves, paid, taken, do_verb, do_statement, do_block}
+use Rattle.rules.specs.Statements.{position_of, do_assign}
+use Rattle.rules.specs.Running.{Out, on, end, then_out, one_more, paid, taken, do_verb, do_block}
 use Rattle.rules.specs.Running.{Tally as Carries}
-use Rattle.rules.specs.Start.{Ended, given_by, tally_from}
-use Rattle.rules.specs.Entries.{read_entry, assigning, do_entry, onwards, next_entry, do_entries}
+use Rattle.rules.specs.Start.{Ended, tally_from}
+use Rattle.rules.specs.Entries.{read_entry, do_entry, onwards, next_entry, do_entries}
 use Rattle.rules.specs.Rules.Entries.{Entry}
 use Rattle.rules.proofs.RunningClauses.{is-assign, paid-on, paid-ends, taken-got, taken-stop, verb-simple, statement-is}
 use Rattle.rules.proofs.StatementClauses.{simple-assign}
 use Rattle.rules.proofs.EntryClauses.{entry-unpaid, entry-goes, entry-stops, onwards-on, onwards-end, next-unfit, next-got, entries_none, entries-open}
 use Rattle.rules.proofs.EntryWords.{entry-reads, entry-short, takes-shorter, takes-last, assigning-is, entry-verb}
 use Rattle.lent.specs.declared.Tally.{Tally}
-use Rattle.lent.specs.Tallied.{carries, out_of, untold, untold_out, Begins, Goes, ended_at}
-use Rattle.lent.specs.Lending.{holds_blocks, unless_blocks, one_statement}
+use Rattle.lent.specs.Tallied.{carries, out_of, untold_out, Begins, Goes, ended_at}
+use Rattle.lent.specs.Lending.{holds_blocks, one_statement}
 use Rattle.lent.proofs.TallyLaws.{ends_by, went_on}
 use Rattle.block.proofs.RunLaws.{SameLengths, lengths-then}
 use Rattle.entries.specs.Told.{given_of}

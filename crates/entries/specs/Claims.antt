@@ -1,5 +1,5 @@
 -- What a host may rely on: the claims of the rules on lists, said of what assign leaves and hands back. Assumes nothing: these are statements.
-use Rattle.std.specs.Prelude.{◌≡◌, ℕ, suc, ◌≤◌, ℤ, length}
+use Rattle.std.specs.Prelude.{◌≡◌, suc, ◌≤◌, ℤ, length}
 use mathlib.Core.List.{List, [], ◌∷◌, Memᴰ as OneOf}
 use Rattle.words.specs.Words.{number_of, number_at, last_of}
 use Rattle.rules.specs.State.{State}

@@ -1,9 +1,9 @@
 -- What the code of constraints and their parts comes to. Assumes nothing.
-use mathlib.Core.Path.{◌≡◌, refl, sym, ap, ◌∙◌}
+use mathlib.Core.Path.{◌≡◌, refl, sym, ◌∙◌}
 use mathlib.Core.Bool.{Bool, true, false, not, cond, ◌&&◌, ◌||◌}
 use mathlib.Core.List.{List, [], ◌∷◌, ◌++◌}
 use mathlib.Core.Option.{Option}
-use Prim.Native.Nat.{ℕ, zero, suc, ◌+◌, ◌-◌, ◌≤◌, ◌<◌}
+use Prim.Native.Nat.{ℕ, suc, ◌+◌, ◌-◌, ◌≤◌, ◌<◌}
 use native.Mathlib.Omega.{arith}
 use native.Mathlib.Numerals.{add-one}
 use borrow.Author.Tests.{ne_eqb}
@@ -12,18 +12,17 @@ use lib.IntN.{ℤ}
 use lib.ListN.{length, drop}
 use lib.Seq.{drop-drop}
 use Rattle.words.specs.Words.{number_at, last_of}
-use Rattle.words.specs.Answer.{Answer, got, stop, ◌>>=◌, ◌>>◌, want}
+use Rattle.words.specs.Answer.{got, stop, ◌>>=◌, ◌>>◌, want}
 use Rattle.words.proofs.AnswerLaws.{either}
 use Rattle.tables.specs.declared.Value.{Value}
 use Rattle.tables.specs.declared.Sort.TheVariants.{Values}
 use Rattle.tables.specs.Cells.{Cells}
 use Rattle.tables.specs.Kept.{kept_count, position_at}
-use Rattle.program.specs.Reading.{number}
 use Rattle.program.proofs.NumberLaws.{number_fits_lem, number-low, number-high}
 use Rattle.program.proofs.LengthLaws.{part-trans}
 use Rattle.program.proofs.RowLaws.{last-part, last-all}
-use Rattle.rules.specs.State.{Fault, Res, refused, reads, listed, positions}
-use Rattle.rules.specs.Evaluation.{Kind, is_nil, is_bool, is_int, is_ref, kind_of, a_bool, bool_of, evaluate, kind}
+use Rattle.rules.specs.State.{Fault, Res, refused, listed, positions}
+use Rattle.rules.specs.Evaluation.{Kind, is_nil, is_bool, is_int, is_ref, a_bool, bool_of, evaluate, kind}
 use Rattle.rules.specs.Constraints.{Part, satisfies, part_at, parts_at, constraint_at, fifteen, kept_parts, own_parts, counted, all_hold, required_hold}
 use Rattle.rules.proofs.KindLaws.{OfKind, kind-value}
 use Rattle.rules.proofs.RefusalLaws.{refusal-least, kind-refuses}

@@ -9,14 +9,14 @@ use lib.Dec.{eqb}
 use lib.IntN.{ℤ}
 use lib.ListN.{length, drop}
 use Rattle.words.specs.Words.{number_at, last_of}
-use Rattle.words.specs.Answer.{Answer, got, stop}
+use Rattle.words.specs.Answer.{got, stop}
 use Rattle.words.proofs.AnswerLaws.{either}
 use Rattle.tables.specs.declared.Value.{Value}
 use Rattle.tables.specs.Cells.{Cells}
 use Rattle.tables.proofs.SearchLaws.{cases}
-use Rattle.program.proofs.LengthLaws.{Part, part-drop, part-trans, part-refl}
+use Rattle.program.proofs.LengthLaws.{Part, part-drop, part-trans}
 use Rattle.program.proofs.RowLaws.{last-part, last-all, last-length}
-use Rattle.rules.specs.State.{Fault, Res}
+use Rattle.rules.specs.State.{Res}
 use Rattle.rules.specs.Evaluation.{Kind, evaluate, kind}
 use Rattle.rules.proofs.EvaluateClauses.{evaluate-part}
 use Rattle.rules.proofs.KindClauses.{kind-part}
@@ -25,7 +25,7 @@ use Rattle.expressions.specs.declared.Valued.{Valued}
 use Rattle.expressions.specs.declared.Row.{Row}
 use Rattle.expressions.specs.declared.Evaluated.TheVariants.{Got, Fails}
 use Rattle.expressions.specs.Told.{evaluated_of}
-use Rattle.expressions.specs.Valuing.{known, unread, unknown, judged_of, value_only, valued_at, settled_by, Alone, Two, Rows}
+use Rattle.expressions.specs.Valuing.{known, unread, judged_of, value_only, valued_at, settled_by, Rows}
 use Rattle.expressions.proofs.OperandLaws.{Reads, operand-reads, left-refused, right-refused, both-settled}
 
 -- a refusal is known by its number and its word

@@ -9,27 +9,23 @@ use lib.ListN.{length, drop, length-drop}
 use Rattle.words.specs.Words.{word_at, number_at, last_of}
 use Rattle.words.specs.Answer.{Answer, got, stop, ◌>>=◌}
 use Rattle.tables.specs.declared.Value.{Value}
-use Rattle.tables.specs.declared.Value.TheVariants.{Nil, Bool as Truth, Int, Ref}
+use Rattle.tables.specs.declared.Value.TheVariants.{Bool as Truth, Int}
 use Rattle.tables.specs.declared.Slot.{Slot}
 use Rattle.tables.specs.declared.Slot.TheVariants.{Absent, Has}
-use Rattle.tables.specs.declared.Found.{Found}
-use Rattle.tables.specs.declared.Found.TheVariants.{At, Nothing}
 use Rattle.tables.specs.Cells.{Cells}
-use Rattle.program.specs.Reading.{any_word}
 use Rattle.program.proofs.NumberLaws.{any-fits, any-short}
 use Rattle.program.proofs.LengthLaws.{Part}
-use Rattle.rules.specs.State.{Res, refuse, or_refuse, reads, slot_at, present}
-use Rattle.rules.specs.Paths.{Way, follow, way_at, value_at}
-use Rattle.rules.specs.Evaluation.{same, kind, evaluate}
+use Rattle.rules.specs.State.{Res, or_refuse, slot_at, present}
+use Rattle.rules.specs.Paths.{Way, follow, value_at}
+use Rattle.rules.specs.Evaluation.{same, evaluate}
 use Rattle.rules.proofs.PathClauses.{way-variable, way-steps, way-is, value-is}
-use Rattle.rules.proofs.EvaluateClauses.{value-part}
 use Rattle.rules.proofs.KindClauses.{kind_first, kind-identity, kind-leaf}
 use Rattle.expressions.specs.declared.Evaluated.{Evaluated}
 use Rattle.expressions.specs.declared.Evaluated.TheVariants.{Got, Fails}
 use Rattle.expressions.specs.declared.Valued.{Valued}
 use Rattle.expressions.specs.Told.{evaluated_of}
 use Rattle.expressions.specs.Following.{landed, slot_in}
-use Rattle.expressions.specs.Valuing.{known, unread, judged_of, value_only, valued_by, valued_at, literal_of, identity_of}
+use Rattle.expressions.specs.Valuing.{known, unread, judged_of, value_only, valued_at, literal_of, identity_of}
 use Rattle.expressions.proofs.PathLaws.{cell_only, land-follow}
 
 -- ---- a literal

@@ -1,34 +1,33 @@
 -- What the code of an operator and its two operands comes to. Assumes nothing.
-use mathlib.Core.Path.{◌≡◌, refl, sym, ap, ◌∙◌}
+use mathlib.Core.Path.{◌≡◌, refl, ap, ◌∙◌}
 use mathlib.Core.Bool.{Bool, true, false, cond, ◌&&◌}
 use mathlib.Core.List.{List}
 use Prim.Native.Nat.{ℕ, ◌-◌, ◌≤◌, ◌<◌}
 use native.Mathlib.Omega.{arith}
 use borrow.Author.Tests.{eqb-true}
 use lib.Dec.{eqb}
-use lib.IntN.{ℤ, pos}
+use lib.IntN.{ℤ}
 use lib.ListN.{length, drop}
 use Rattle.words.specs.Words.{number_at, last_of}
 use Rattle.words.specs.Answer.{Answer, got, stop, ◌>>=◌, ◌>>◌, want}
-use Rattle.words.proofs.AnswerLaws.{either, got-inj}
+use Rattle.words.proofs.AnswerLaws.{either}
 use Rattle.tables.specs.declared.Value.{Value}
-use Rattle.tables.specs.declared.Value.TheVariants.{Nil, Bool as Truth, Int, Ref}
 use Rattle.tables.specs.Cells.{Cells}
 use Rattle.program.proofs.NumberLaws.{number_fits_lem, number-low, number-high}
 use Rattle.program.proofs.LengthLaws.{Part, part-trans}
-use Rattle.rules.specs.State.{Fault, Res, refuse, reads}
+use Rattle.rules.specs.State.{Fault, Res, refuse}
 use Rattle.rules.specs.Evaluation.{Kind, is_nil, is_bool, is_int, is_ref, kind_of, op_of, takes, gives, made, apply, at, evaluate, kind}
 use Rattle.rules.proofs.OperatorClauses.{apply-is}
 use Rattle.rules.proofs.EvaluateClauses.{evaluate-part, evaluate-deep, evaluate-operation}
 use Rattle.rules.proofs.KindClauses.{kind-part, kind-deep, kind-operation}
-use Rattle.rules.proofs.KindLaws.{OfKind, kind-value}
+use Rattle.rules.proofs.KindLaws.{kind-value}
 use Rattle.rules.proofs.FineLaws.{apply-fine}
 use Rattle.rules.proofs.RefusalLaws.{refusal-least, evaluate-refuses, kind-refuses}
 use Rattle.expressions.specs.declared.Valued.{Valued}
 use Rattle.expressions.specs.declared.Row.{Row}
 use Rattle.expressions.specs.declared.Applied.{Applied}
 use Rattle.expressions.specs.Told.{does, applied_of}
-use Rattle.expressions.specs.Valuing.{known, unread, unknown, stand_in, judged_of, value_only, valued_by, valued_at, made_by, settled_by, Alone, Two, Rows}
+use Rattle.expressions.specs.Valuing.{known, unread, unknown, stand_in, judged_of, value_only, valued_at, made_by, settled_by, Rows}
 
 pub stands-kind : (k : Kind) → kind_of (stand_in k) ≡ k
 stands-kind is_nil = refl

@@ -1,5 +1,5 @@
 -- What the code of the operators comes to. Assumes nothing.
-use mathlib.Core.Path.{◌≡◌, refl, sym, ap, ◌∙◌}
+use mathlib.Core.Path.{◌≡◌, refl}
 use mathlib.Core.Bool.{Bool, true, false, cond, ◌&&◌, ◌||◌}
 use Prim.Native.Nat.{ℕ, zero, suc, ◌≤◌, ◌<◌}
 use native.Mathlib.Omega.{arith}
@@ -8,15 +8,14 @@ use borrow.Author.Tests.{eqb-true, ne_eqb, lt-ltb, le-ltb}
 use Rattle.words.specs.declared.Ranged.TheVariants.{Within, Outside}
 use lib.IntN.{ℤ}
 use Rattle.words.specs.Range.{fits, ranged}
-use Rattle.words.specs.Answer.{Answer, got, stop, ◌>>◌, want}
+use Rattle.words.specs.Answer.{got, ◌>>◌, want}
 use Rattle.words.proofs.Laws.{ranged-is}
 use Rattle.tables.specs.declared.Value.{Value}
-use Rattle.tables.specs.declared.Value.TheVariants.{Nil, Bool as Truth, Int, Ref}
+use Rattle.tables.specs.declared.Value.TheVariants.{Nil, Int}
 use Rattle.tables.proofs.SearchLaws.{cases}
-use Rattle.rules.specs.Evaluation.{Kind, is_nil, is_bool, is_int, is_ref, kind_of, an_int, a_bool, the_nil, takes, op_of, made, apply}
+use Rattle.rules.specs.Evaluation.{Kind, is_nil, is_bool, is_int, is_ref, an_int, a_bool, the_nil, op_of, made}
 use Rattle.rules.specs.Evaluation.{ranged as in_range}
-use Rattle.rules.proofs.OperatorClauses.{ranged-is as in-range-is, apply-is, no-op, takes_none, made-0, made_none}
-use Rattle.expressions.specs.declared.Applied.{Applied}
+use Rattle.rules.proofs.OperatorClauses.{ranged-is as in-range-is, made-0, made_none}
 use Rattle.expressions.specs.Told.{kind_number, kind_from, applied_of, ranged_of}
 
 -- kinds by their numbers

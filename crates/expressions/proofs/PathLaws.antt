@@ -1,6 +1,6 @@
 -- What the code that follows a path comes to. Assumes nothing.
 use mathlib.Core.Path.{◌≡◌, refl, sym, ap, ◌∙◌}
-use mathlib.Core.List.{List, [], ◌∷◌}
+use mathlib.Core.List.{List, ◌∷◌}
 use Prim.Native.Nat.{ℕ, zero, suc, ◌+◌, ◌-◌, ◌≤◌, ◌<◌}
 use native.Mathlib.Omega.{arith}
 use borrow.Author.Tests.{eqb-true}
@@ -13,7 +13,6 @@ use Rattle.words.specs.Words.{number_of, number_at, eq_z}
 use Rattle.words.specs.Answer.{Answer, got, stop, ◌>>=◌}
 use Rattle.words.proofs.Laws.{number-drop}
 use Rattle.tables.specs.declared.Cell.{Cell}
-use Rattle.tables.specs.declared.Value.{Value}
 use Rattle.tables.specs.declared.Value.TheVariants.{Nil, Bool as Truth, Int, Ref}
 use Rattle.tables.specs.declared.Slot.{Slot}
 use Rattle.tables.specs.declared.Slot.TheVariants.{Absent, Has}
@@ -24,7 +23,7 @@ use Rattle.tables.specs.Values.{slot_of}
 use Rattle.tables.specs.Records.{field_with}
 use Rattle.tables.proofs.SearchLaws.{cases}
 use Rattle.tables.proofs.ValueLaws.{slot-reference, slot-other}
-use Rattle.rules.specs.State.{Fault, Res, refuse, or_refuse, slot_at, present}
+use Rattle.rules.specs.State.{Res, or_refuse, slot_at, present}
 use Rattle.rules.specs.Paths.{a_record, a_field, follow, Way, way_at, value_at}
 use Rattle.rules.proofs.PathClauses.{slot_is, follow-none, follow-more, way-variable, way-steps, way-is, value-is}
 use Rattle.expressions.specs.declared.Named.{Named}

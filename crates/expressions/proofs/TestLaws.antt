@@ -1,12 +1,12 @@
 -- What the code of the test of an if or while comes to. Assumes nothing.
-use mathlib.Core.Path.{◌≡◌, refl, sym, ap, ◌∙◌}
+use mathlib.Core.Path.{◌≡◌, refl, sym, ◌∙◌}
 use mathlib.Core.Bool.{Bool, true, false, cond}
 use mathlib.Core.List.{List}
 use Prim.Native.Nat.{ℕ}
 use native.Mathlib.Omega.{arith}
 use lib.IntN.{ℤ}
 use lib.ListN.{length}
-use Rattle.words.specs.Answer.{Answer, got, stop, ◌>>=◌, ◌>>◌, want}
+use Rattle.words.specs.Answer.{got, stop, ◌>>=◌, ◌>>◌, want}
 use Rattle.tables.specs.declared.Value.{Value}
 use Rattle.tables.specs.Cells.{Cells}
 use Rattle.rules.specs.State.{Res, refused}
@@ -15,7 +15,6 @@ use Rattle.rules.specs.Running.{test}
 use Rattle.rules.proofs.ConstraintClauses.{test-is}
 use Rattle.expressions.specs.declared.Evaluated.{Evaluated}
 use Rattle.expressions.specs.declared.Evaluated.TheVariants.{Got, Fails}
-use Rattle.expressions.specs.declared.Tested.{Tested}
 use Rattle.expressions.specs.declared.Tested.TheVariants.{Is as Comes, Fails as Untested}
 use Rattle.expressions.specs.Told.{evaluated_of, kind_number}
 use Rattle.expressions.specs.Judging.{tested_of}

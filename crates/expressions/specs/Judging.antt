@@ -1,9 +1,8 @@
 -- What the code answers of tests and of constraints. Assumes nothing: these are definitions.
-use Rattle.std.specs.Prelude.{ℕ, Bool, true, false, not, cond, ◌&&◌, ◌||◌, List, eqb, ℤ, length}
+use Rattle.std.specs.Prelude.{ℕ, Bool, true, false, cond, List, eqb, ℤ, length}
 use Rattle.std.proofs.Math.Option.{Option, none, some}
-use Rattle.words.specs.Answer.{Answer, got, stop, ◌>>=◌}
-use Rattle.tables.specs.declared.Value.{Value}
-use Rattle.rules.specs.State.{Fault, Res}
+use Rattle.words.specs.Answer.{got, stop, ◌>>=◌}
+use Rattle.rules.specs.State.{Res}
 use Rattle.rules.specs.Evaluation.{kind_of, bool_of}
 use Rattle.rules.specs.Constraints.{Part, all_hold, required_hold}
 use Rattle.expressions.specs.declared.Valued.{Valued}

@@ -1,12 +1,12 @@
 -- What the code answers in numbers, for what the rules answer. A part is told by how many words are left in it.
 -- Assumes nothing: these are definitions.
-use Rattle.std.specs.Prelude.{ℕ, Bool, true, false, cond, eqb, List, ℤ, length}
+use Rattle.std.specs.Prelude.{ℕ, cond, eqb, List, ℤ, length}
 use Rattle.words.specs.declared.Ranged.{Ranged}
 use Rattle.words.specs.declared.Ranged.TheVariants.{Within, Outside}
 use Rattle.words.specs.Answer.{Answer, got, stop}
 use Rattle.tables.specs.declared.Value.{Value}
-use Rattle.tables.specs.declared.Value.TheVariants.{Nil, Bool as Truth, Int, Ref}
-use Rattle.rules.specs.State.{Fault, Res}
+use Rattle.tables.specs.declared.Value.TheVariants.{Nil, Int}
+use Rattle.rules.specs.State.{Res}
 use Rattle.rules.specs.Paths.{Way}
 use Rattle.rules.specs.Evaluation.{Kind, is_nil, is_bool, is_int, is_ref}
 use Rattle.expressions.specs.declared.Named.{Named}

@@ -12,7 +12,6 @@ use lib.ListN.{length, get_or-replicate, length-replicate, get_or-eq_default}
 use Rattle.words.specs.Words.{word_at, number_of}
 use Rattle.tables.specs.Sizes.{environment_words, heap_words, constraints_words, field_location}
 use Rattle.tables.specs.Search.{every}
-use Rattle.tables.specs.Values.{absent}
 use Rattle.tables.specs.Cells.{Cells, cells, Sized, cell_at, put_cell, fresh}
 use Rattle.tables.specs.Records.{record_count, count_at, field_count, label_at, blank_place, new_cell, with_record}
 use Rattle.tables.specs.Kept.{most_kept, kept_number, kept_count, position_at, blank_position, is_kept, with_position}

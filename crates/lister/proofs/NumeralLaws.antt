@@ -17,7 +17,7 @@ use Rattle.words.proofs.Signed.{back32}
 use Rattle.tables.proofs.SearchLaws.{cases}
 use Rattle.lister.specs.declared.Numeral.TheVariants.{Number, Unfit}
 use Rattle.lister.specs.Bytes.{Puts}
-use Rattle.lister.specs.Numerals.{no_number, minus, digit_of, value_from, natural_in, positive_of, negative_of, numeral_in, digits_by, digits, numeral}
+use Rattle.lister.specs.Numerals.{no_number, digit_of, value_from, natural_in, positive_of, negative_of, numeral_in, digits_by, digits, numeral}
 use Rattle.words.proofs.Laws.{drop-next}
 use Rattle.lister.proofs.BufferLaws.{then, puts_none, puts-as}
 

@@ -9,7 +9,7 @@ use lib.Dec.{ltb}
 use lib.IntN.{ℤ}
 use lib.ListN.{length}
 use Rattle.words.specs.Answer.{got}
-use Rattle.tables.specs.Sizes.{variables, labels}
+use Rattle.tables.specs.Sizes.{labels}
 use Rattle.tables.proofs.SearchLaws.{cases}
 use Rattle.program.specs.Reading.{read_program}
 use Rattle.program.proofs.GrammarLaws.{program-sound}

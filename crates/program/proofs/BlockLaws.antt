@@ -1,25 +1,24 @@
 -- What the code that reads statements, blocks and programs comes to, step by step. Assumes nothing.
 use mathlib.Core.Path.{◌≡◌, refl, sym, ap, ◌∙◌}
-use mathlib.Core.Bool.{Bool, true, false, not, cond}
+use mathlib.Core.Bool.{Bool, true, false}
 use mathlib.Core.List.{List, [], ◌∷◌}
 use Prim.Native.Nat.{ℕ, zero, suc, ◌+◌, ◌-◌, ◌≤◌, ◌<◌}
 use native.Mathlib.Omega.{arith}
 use native.Mathlib.Numerals.{sub-one}
-use native.Mathlib.Decide.{dec_lt}
 use borrow.Author.Tests.{le-leb, lt-leb, eq-eqb, ne_eqb, eqb-true, eqb-false}
 use lib.Dec.{eqb}
 use lib.IntN.{ℤ}
-use lib.ListN.{length, drop, get_or, set, replicate, length-set, length-replicate, get_or-replicate}
+use lib.ListN.{length, drop, get_or, set, replicate, length-set, get_or-replicate}
 use lib.Seq.{get_or-set_same, get_or-set_other}
 use Rattle.words.specs.Words.{number_at, last_of}
-use Rattle.words.specs.Answer.{Answer, got, stop, ◌>>=◌, ◌>>◌, want}
+use Rattle.words.specs.Answer.{got, stop, ◌>>=◌}
 use Rattle.tables.proofs.SearchLaws.{cases}
-use Rattle.program.specs.Forms.{Verb, no_verb, verb_of}
+use Rattle.program.specs.Forms.{no_verb, verb_of}
 use Rattle.program.specs.declared.Piece.{Piece}
 use Rattle.program.specs.declared.Verdict.TheVariants.{Reads, Unfit}
 use Rattle.program.specs.Told.{told, verdict_of}
-use Rattle.program.specs.Reading.{Reading, read_path, read_expression, among, read_fields, read_new, read_assign, read_verb, read_with, read_statements, read_block, read_statement, ends, place_in, read_program, after}
-use Rattle.program.proofs.NumberLaws.{number_fits_lem, number-low, number-high, verb-high}
+use Rattle.program.specs.Reading.{Reading, read_path, read_expression, among, read_fields, read_new, read_assign, read_verb, read_with, read_block, read_statement, ends, place_in, read_program, after}
+use Rattle.program.proofs.NumberLaws.{number_fits_lem, number-high, verb-high}
 use Rattle.program.proofs.LengthLaws.{Part, part-trans, part-drop}
 use Rattle.program.proofs.ReadLaws.{halted, onward, told-left, past}
 use Rattle.program.proofs.RowLaws.{many, statements-many, last-part, last-length, last-all, last-but-one}

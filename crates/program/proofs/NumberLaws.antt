@@ -1,20 +1,20 @@
 -- Laws of single words: a number in its range, any word, and the forms and verbs by their numbers. Assumes nothing.
-use mathlib.Core.Path.{◌≡◌, refl, sym, ap, ◌∙◌}
-use mathlib.Core.Bool.{Bool, true, false, cond, ◌&&◌}
-use mathlib.Core.List.{List, [], ◌∷◌}
-use Prim.Native.Nat.{ℕ, zero, suc, ◌+◌, ◌-◌, ◌≤◌, ◌<◌}
+use mathlib.Core.Path.{◌≡◌, sym, ap, ◌∙◌}
+use mathlib.Core.Bool.{◌&&◌}
+use mathlib.Core.List.{List, ◌∷◌}
+use Prim.Native.Nat.{ℕ, ◌-◌, ◌≤◌, ◌<◌}
 use native.Mathlib.Omega.{arith}
 use borrow.Author.Tests.{le-leb, lt-leb, leb-true, lt-ltb, le-ltb, ltb-true}
 use lib.Dec.{leb, ltb}
-use lib.IntN.{ℤ, pos, negsuc}
-use lib.ListN.{length, drop, get_or, get_or-eq_default}
-use Rattle.words.specs.Words.{number_of, number_at}
-use Rattle.words.specs.Answer.{Answer, got, stop, ◌>>=◌, ◌>>◌, want}
-use Rattle.words.proofs.AnswerLaws.{tested, got-inj, stop≢got}
+use lib.IntN.{ℤ, pos}
+use lib.ListN.{length, drop, get_or-eq_default}
+use Rattle.words.specs.Words.{number_at}
+use Rattle.words.specs.Answer.{got, stop}
+use Rattle.words.proofs.AnswerLaws.{tested, got-inj}
 use Rattle.words.proofs.Laws.{number-first, number-cons}
 use Rattle.tables.proofs.SearchLaws.{and_left, and_right, and-true}
-use Rattle.program.specs.Forms.{Form, no_form, forms, form_of, Verb, no_verb, verbs, verb_of}
-use Rattle.program.specs.Reading.{Reading, number, any_word}
+use Rattle.program.specs.Forms.{no_form, forms, form_of, no_verb, verbs, verb_of}
+use Rattle.program.specs.Reading.{number, any_word}
 
 -- a number that was read: its range, and the word that it is
 pub record IsNumber (low high : ℕ) (p : List ℤ) (n : ℕ) (q : List ℤ) : Type 0 where

@@ -1,25 +1,22 @@
 -- What the readers' code comes to, step by step. Assumes nothing.
 use mathlib.Core.Path.{◌≡◌, refl, sym, ap, ◌∙◌}
-use mathlib.Core.Bool.{Bool, true, false, not, cond}
-use mathlib.Core.List.{List, [], ◌∷◌}
+use mathlib.Core.Bool.{Bool, true, false, not}
+use mathlib.Core.List.{List}
 use Prim.Native.Nat.{ℕ, zero, suc, ◌+◌, ◌-◌, ◌≤◌, ◌<◌}
 use native.Mathlib.Omega.{arith}
 use native.Mathlib.Numerals.{sub-one}
 use native.Mathlib.Decide.{dec_lt}
-use borrow.Author.Tests.{lt-ltb, le-ltb, le-leb, lt-leb, eq-eqb, ne_eqb}
 use lib.IntN.{ℤ}
 use lib.ListN.{length, drop, length-drop}
 use lib.Seq.{drop-drop}
 use Rattle.words.specs.Words.{number_at, last_of}
-use Rattle.words.specs.Answer.{Answer, got, stop, ◌>>=◌, ◌>>◌, want}
+use Rattle.words.specs.Answer.{got, stop, ◌>>=◌, ◌>>◌, want}
 use Rattle.words.proofs.Laws.{number-drop}
-use Rattle.tables.specs.Sizes.{variables, labels, most_fields}
-use Rattle.program.specs.Forms.{expression_depth, most_steps, most_parts, required, operators, most_statements, block_depth, most_words}
-use Rattle.program.specs.Forms.{Form, no_form, form_of, Verb, no_verb, verb_of}
+use Rattle.program.specs.Forms.{no_form, form_of}
 use Rattle.program.specs.declared.Piece.{Piece}
 use Rattle.program.specs.Told.{told}
-use Rattle.program.specs.Reading.{Reading, number, any_word, read_labels, read_path, read_paths, read_form, read_expression, read_part, read_parts, read_constraint, after}
-use Rattle.program.proofs.NumberLaws.{number_fits_lem, number-low, number-high, any-fits, any-short, form-low, form-high, verb-high}
+use Rattle.program.specs.Reading.{Reading, any_word, read_labels, read_path, read_paths, read_form, read_expression, read_part, read_parts, read_constraint, after}
+use Rattle.program.proofs.NumberLaws.{number_fits_lem, number-low, number-high, any-fits, any-short, form-low, form-high}
 use Rattle.program.proofs.LengthLaws.{Part}
 
 -- ---- a piece and what follows it

@@ -1,13 +1,13 @@
 -- Pieces in a row, as the loops read them: the parts of C, and the statements of a block. Assumes nothing.
-use mathlib.Core.Path.{◌≡◌, refl, sym, ap, ◌∙◌}
-use mathlib.Core.Bool.{Bool, true, false, not, cond}
+use mathlib.Core.Path.{◌≡◌, refl, ap, ◌∙◌}
+use mathlib.Core.Bool.{true, false}
 use mathlib.Core.List.{List, [], ◌∷◌}
 use Prim.Native.Nat.{ℕ, zero, suc, ◌+◌, ◌-◌, ◌≤◌, ◌<◌}
 use native.Mathlib.Omega.{arith}
 use lib.IntN.{ℤ}
 use lib.ListN.{length, drop, length-drop}
-use Rattle.words.specs.Words.{number_at, last_of}
-use Rattle.words.specs.Answer.{Answer, got, stop, ◌>>=◌, ◌>>◌, want}
+use Rattle.words.specs.Words.{last_of}
+use Rattle.words.specs.Answer.{got, ◌>>=◌}
 use Rattle.words.proofs.AnswerLaws.{bind-cong}
 use Rattle.program.specs.declared.Piece.{Piece}
 use Rattle.program.specs.Told.{told}

@@ -1,16 +1,14 @@
 -- What the code that looks for a statement comes to, step by step. Assumes nothing.
-use mathlib.Core.Path.{◌≡◌, refl, sym, ap, ◌∙◌}
-use mathlib.Core.Bool.{Bool, true, false, not, cond, ◌&&◌}
-use mathlib.Core.List.{List, [], ◌∷◌}
+use mathlib.Core.Path.{◌≡◌, refl, sym, ◌∙◌}
+use mathlib.Core.Bool.{false}
+use mathlib.Core.List.{List}
 use Prim.Native.Nat.{ℕ, zero, suc, ◌+◌, ◌-◌, ◌≤◌, ◌<◌}
 use native.Mathlib.Omega.{arith}
 use native.Mathlib.Numerals.{sub-one}
 use borrow.Author.Tests.{le-leb, lt-leb, lt-ltb, le-ltb, eq-eqb, ne_eqb}
-use lib.Dec.{eqb}
 use lib.IntN.{ℤ}
 use lib.ListN.{length, drop}
 use Rattle.words.specs.Words.{number_at, last_of}
-use Rattle.words.specs.Answer.{Answer, got, stop}
 use Rattle.program.specs.Forms.{Verb, skip, assign, new, always, once, always_same, once_same, branch, loop, no_verb, verb_of}
 use Rattle.program.specs.declared.Piece.{Piece}
 use Rattle.program.specs.declared.Spot.{Spot}
@@ -19,7 +17,7 @@ use Rattle.program.specs.Told.{told}
 use Rattle.program.specs.Reading.{Reading, read_expression, read_block, read_statement, after}
 use Rattle.program.specs.Where.{or_else, spot_inside, spot_statement, spot_statements, spot_block, statement_at}
 use Rattle.program.proofs.FormLaws.{verb-number}
-use Rattle.program.proofs.LengthLaws.{Part, part-trans, after-part, uses-keeps, expression-uses, statement-uses, block-uses}
+use Rattle.program.proofs.LengthLaws.{Part, part-trans, after-part, uses-keeps, statement-uses}
 use Rattle.program.proofs.ReadLaws.{told-left}
 use Rattle.program.proofs.RowLaws.{last-part, last-but-one}
 

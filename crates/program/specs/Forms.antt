@@ -1,6 +1,6 @@
 -- The forms of statements and expressions by their numbers, and the limits of a program (01, "The program's words").
 -- Assumes nothing: these are definitions.
-use Rattle.std.specs.Prelude.{ℕ, ◌-◌, Bool, true, false, cond, List, [], ◌∷◌, leb, get_or}
+use Rattle.std.specs.Prelude.{ℕ, ◌-◌, cond, List, [], ◌∷◌, leb, get_or}
 
 -- "A program is one block, filling at most 4,096 words."
 abbrev pub most_words : ℕ

@@ -1,5 +1,5 @@
 -- The grammar of a program's words, in the order of document 01, "The program's words". Assumes nothing: these are definitions.
-use Rattle.std.specs.Prelude.{ℕ, zero, suc, ◌<◌, ◌≤◌, ◌≡◌, Bool, true, false, List, [], ◌∷◌, ◌++◌, ℤ, pos, length}
+use Rattle.std.specs.Prelude.{ℕ, suc, ◌<◌, ◌≤◌, ◌≡◌, Bool, true, false, List, [], ◌∷◌, ◌++◌, ℤ, pos, length}
 use Rattle.tables.specs.Sizes.{variables, labels, most_fields}
 use Rattle.program.specs.Forms.{most_words, most_statements, block_depth, expression_depth, most_steps, most_parts, required, operators}
 use Rattle.program.specs.Reading.{among}

@@ -1,6 +1,6 @@
 -- What a word may be where it stands, judged from the words before it (01, "What comes back": "the first unfit word").
 -- Assumes nothing: these are definitions.
-use Rattle.std.specs.Prelude.{ℕ, zero, suc, ◌-◌, ◌≤◌, ◌≡◌, Bool, true, false, not, cond, ◌&&◌, List, [], ◌∷◌, ◌++◌, leb, ℤ, length, take, drop, replicate}
+use Rattle.std.specs.Prelude.{ℕ, zero, suc, ◌-◌, ◌≤◌, ◌≡◌, Bool, true, false, cond, ◌&&◌, List, [], ◌∷◌, ◌++◌, leb, ℤ, length, take, drop, replicate}
 use Rattle.words.specs.Words.{number_of}
 use Rattle.words.specs.Answer.{Answer, got, stop}
 use Rattle.tables.specs.Sizes.{variables, labels, most_fields}

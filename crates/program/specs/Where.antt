@@ -1,6 +1,6 @@
 -- Where the statements of a program are (01, "Lent tables": "A position is the word of an always-statement of that sort in the program").
 -- A word is named by how many words are left from it on. Assumes nothing: these are definitions.
-use Rattle.std.specs.Prelude.{ℕ, zero, suc, ◌-◌, Bool, true, false, cond, ◌&&◌, List, eqb, ltb, leb, ℤ, length, drop}
+use Rattle.std.specs.Prelude.{ℕ, zero, suc, ◌-◌, Bool, false, cond, ◌&&◌, List, eqb, ltb, leb, ℤ, length, drop}
 use Rattle.words.specs.Words.{number_at}
 use Rattle.tables.specs.declared.Sort.{Sort}
 use Rattle.tables.specs.declared.Sort.TheVariants.{Values, Identities}

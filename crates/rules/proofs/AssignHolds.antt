@@ -16,7 +16,7 @@ use Rattle.tables.specs.declared.Value.{Value}
 use Rattle.tables.specs.declared.Value.TheVariants.{Bool as Truth, Int, Ref}
 use Rattle.tables.specs.declared.Slot.TheVariants.{Has}
 use Rattle.tables.specs.Values.{cell_of}
-use Rattle.tables.specs.Cells.{Cells, cells}
+use Rattle.tables.specs.Cells.{Cells}
 use Rattle.tables.specs.Records.{record_count}
 use Rattle.fit.specs.Fit.{cell_fits, Fit}
 use Rattle.fit.proofs.CellFits.{cell-fits}

@@ -1,13 +1,13 @@
 -- Constraints, their parts, and the test of an if or while, clause by clause: the laws by which code knows them. Assumes nothing.
-use mathlib.Core.Path.{◌≡◌, refl, sym, ap, ◌∙◌}
+use mathlib.Core.Path.{◌≡◌, refl}
 use mathlib.Core.Bool.{Bool, true, false, not, ◌&&◌, ◌||◌}
 use mathlib.Core.List.{List, [], ◌∷◌, ◌++◌}
 use mathlib.Core.Option.{Option, none, some}
-use Prim.Native.Nat.{ℕ, zero, suc, ◌+◌}
+use Prim.Native.Nat.{ℕ, suc, ◌+◌}
 use lib.Dec.{eqb}
 use lib.IntN.{ℤ}
 use lib.ListN.{drop}
-use Rattle.words.specs.Answer.{Answer, got, stop, ◌>>=◌, ◌>>◌, want}
+use Rattle.words.specs.Answer.{got, stop, ◌>>=◌, ◌>>◌, want}
 use Rattle.words.proofs.AnswerLaws.{step, tested, got-inj}
 use Rattle.tables.specs.declared.Value.{Value}
 use Rattle.tables.specs.declared.Sort.{Sort}
@@ -15,11 +15,11 @@ use Rattle.tables.specs.declared.Sort.TheVariants.{Values}
 use Rattle.tables.specs.Cells.{Cells}
 use Rattle.tables.specs.Kept.{kept_count, position_at}
 use Rattle.program.specs.Reading.{number}
-use Rattle.program.proofs.NumberLaws.{IsNumber, number_read}
+use Rattle.program.proofs.NumberLaws.{number_read}
 use Rattle.program.proofs.LengthLaws.{part-drop, part-trans}
 use Rattle.program.proofs.LengthLaws.{Part as IsPart}
-use Rattle.rules.specs.State.{Fault, Res, refused, reads, listed, positions}
-use Rattle.rules.specs.Evaluation.{Kind, kind_of, a_bool, bool_of, evaluate, kind}
+use Rattle.rules.specs.State.{Fault, refused, reads, listed, positions}
+use Rattle.rules.specs.Evaluation.{kind_of, a_bool, bool_of, evaluate, kind}
 use Rattle.rules.specs.Constraints.{Part, satisfies, part_at, parts_at, constraint_at, fifteen, kept_at, kept_parts, own_parts, counted, all_hold, required_hold}
 use Rattle.rules.specs.Running.{test}
 use Rattle.rules.proofs.WordSteps.{reads-got}

@@ -1,10 +1,10 @@
 -- A list of entries, clause by clause: the laws by which code and rules know it. Assumes nothing.
-use mathlib.Core.Path.{◌≡◌, refl, ap, ◌∙◌}
+use mathlib.Core.Path.{◌≡◌, refl}
 use Prim.Native.Nat.{ℕ, zero, suc, ◌-◌, ◌<◌, ◌≤◌}
 use native.Mathlib.Omega.{arith}
 use mathlib.Core.Bool.{false}
 use mathlib.Core.List.{List, [], ◌∷◌}
-use lib.IntN.{ℤ, pos}
+use lib.IntN.{ℤ}
 use lib.ListN.{length}
 use Rattle.words.specs.Words.{number_at, number_of}
 use Rattle.words.specs.Answer.{got, stop}
@@ -14,12 +14,12 @@ use Rattle.program.specs.Grammar.{Takes}
 use Rattle.program.proofs.NumberLaws.{number-low, number-high, number_fits_lem}
 use Rattle.rules.specs.State.{State, Fault}
 use Rattle.rules.specs.Statements.{Left, place_of, do_assign}
-use Rattle.rules.specs.Running.{Tally, Out, on, end, one_more, leaves, taken}
+use Rattle.rules.specs.Running.{Tally, on, end, one_more, leaves, taken}
 use Rattle.rules.specs.Start.{Early, Ended, starts, given_by, tally_from}
 use Rattle.rules.specs.Entries.{read_entry, assigning, do_entry, onwards, judged, next_entry, do_entries, assigns}
 use Rattle.rules.specs.Rules.Entries.{Entry}
 use Rattle.rules.proofs.RunningClauses.{paid-on, paid-ends}
-use Rattle.rules.proofs.EntryWords.{entry-sound, entry-reads, entry-not, assigning-is}
+use Rattle.rules.proofs.EntryWords.{entry-sound}
 
 -- ---- the words of an entry
 

@@ -1,28 +1,25 @@
 -- What every answer of a list keeps to, and what holds wherever it stops. Assumes nothing.
-use mathlib.Core.Path.{◌≡◌, refl, sym, ap, subst, ◌∙◌}
-use Prim.Native.Nat.{ℕ, suc, ◌+◌, ◌-◌, ◌<◌, ◌≤◌}
+use mathlib.Core.Path.{◌≡◌, refl, sym, ap, subst}
+use Prim.Native.Nat.{ℕ, suc, ◌+◌, ◌≤◌}
 use native.Mathlib.Omega.{arith}
 use mathlib.Core.List.{List, [], ◌∷◌, Memᴰ as OneOf}
 use lib.IntN.{ℤ, pos}
-use lib.ListN.{length}
-use Rattle.words.specs.Words.{number_of, last_of}
-use Rattle.program.specs.Grammar.{Takes}
+use Rattle.words.specs.Words.{number_of}
 use Rattle.program.proofs.LengthLaws.{Part, part-refl, part-trans}
 use Rattle.rules.specs.State.{State}
 use Rattle.rules.specs.Statements.{Left}
 use Rattle.rules.specs.Running.{Tally}
 use Rattle.rules.specs.Start.{Ended}
 use Rattle.rules.specs.Rules.Statements.{Steps}
-use Rattle.rules.specs.Rules.Runs.{begun, afterwards}
-use Rattle.rules.specs.Rules.Answers.{Unstarted, wrong, unreadable, unfit, broken, first_tally, given}
-use Rattle.rules.specs.Rules.Entries.{Entry, Sets, e_none, e_unfit, e_unpaid, e_refused, e_more, Listed, unstarted, started}
-use Rattle.rules.specs.Claims.Entries.{Went, no_more, next, Kept, EntriesAnswers, EntriesStand}
+use Rattle.rules.specs.Rules.Answers.{Unstarted, wrong, unreadable, unfit, broken}
+use Rattle.rules.specs.Rules.Entries.{Sets, e_none, e_unfit, e_unpaid, e_refused, e_more, unstarted, started}
+use Rattle.rules.specs.Claims.Entries.{Went, no_more, next, EntriesAnswers, EntriesStand}
 use Rattle.rules.specs.Steps.Holds.{Holds}
 use Rattle.rules.proofs.LeavesLaws.{formed-part}
 use Rattle.rules.proofs.RunFacts.{unstarted-low}
 use Rattle.rules.proofs.StandRules.{stands-iff}
 use Rattle.rules.proofs.EntryRules.{entry-holds, passes-hold}
-use Rattle.rules.proofs.EntrySteps.{Gave, entry-gave, numbers, there, entry-number}
+use Rattle.rules.proofs.EntrySteps.{entry-gave, numbers, there, entry-number}
 
 -- the outcome of a list that began, by the steps after t: so many entries went through before it
 pub record Ends (budget n outcome before steps : ℕ) : Type 0 where

@@ -1,14 +1,12 @@
 -- A list of entries goes through, or is refused, as its assignments in a row of a program are. Assumes nothing.
 use mathlib.Core.Path.{◌≡◌, refl, sym, ap, ◌∙◌}
-use Prim.Native.Nat.{ℕ, zero, suc, ◌+◌, ◌<◌, ◌≤◌}
+use Prim.Native.Nat.{ℕ, suc, ◌+◌, ◌<◌, ◌≤◌}
 use native.Mathlib.Omega.{arith}
-use mathlib.Core.Bool.{true, false}
+use mathlib.Core.Bool.{false}
 use mathlib.Core.List.{List, [], ◌∷◌, ◌++◌, append_assoc, append-nil}
-use mathlib.Core.Option.{none, some}
 use lib.IntN.{ℤ, pos}
-use lib.ListN.{length, length-append}
+use lib.ListN.{length}
 use Rattle.words.specs.Words.{number_at, number_of}
-use Rattle.words.specs.Answer.{got}
 use Rattle.words.proofs.Laws.{number-first}
 use Rattle.words.proofs.AnswerLaws.{got-inj, stop-inj, stop≢got}
 use Rattle.tables.specs.declared.Value.{Value}
@@ -19,23 +17,23 @@ use Rattle.program.proofs.GrammarLaws.{yields-complete}
 use Rattle.rules.specs.State.{State, Fault, refused}
 use Rattle.rules.specs.Paths.{Way}
 use Rattle.rules.specs.Proposals.{Asked}
-use Rattle.rules.specs.Statements.{Left, position_of, place_of}
+use Rattle.rules.specs.Statements.{Left, place_of}
 use Rattle.rules.specs.Running.{Tally, Out, on, end}
 use Rattle.rules.specs.Start.{Ended}
 use Rattle.rules.specs.Rules.Expressions.{HasField, Leads, here, by, Names, names, Literal, Within, e_literal, Astray, astray, Meets}
 use Rattle.rules.specs.Rules.Proposals.{Each, Unsettled}
-use Rattle.rules.specs.Rules.Statements.{past_path, asking, Gives, assigns, makes, Steps, s_gives, Refused}
+use Rattle.rules.specs.Rules.Statements.{past_path, Gives, assigns, makes, Steps, s_gives, Refused}
 use Rattle.rules.specs.Rules.Runs.{block, statement, statements, begun, afterwards, Runs, r_block}
 use Rattle.rules.specs.Rules.Runs.{r_none, r_some, r_unpaid, r_ended, r_simple, r_refused, r_then, r_else, r_no_if, r_while}
 use Rattle.rules.specs.Rules.Answers.{Unstarted, Passes, first_tally, given, Answered, finished, stopped}
 use Rattle.rules.specs.Rules.Entries.{Entry, entry, Sets, e_none, e_unfit, e_unpaid, e_refused, e_more, Listed, started}
-use Rattle.rules.specs.Claims.Entries.{words_of, row_of, Alike, AsAProgram, program_of, tally_in, AsItsProgram}
+use Rattle.rules.specs.Claims.Entries.{words_of, row_of, AsAProgram, program_of, tally_in, AsItsProgram}
 use Rattle.rules.proofs.EvaluationLaws.{evaluate-iff}
 use Rattle.rules.proofs.StatementWords.{path-past}
 use Rattle.rules.proofs.WalkLaws.{tally_of}
 use Rattle.rules.proofs.StartRules.{passes-iff, unstarted-iff}
 use Rattle.rules.proofs.EntryRules.{entries-rules}
-use Rattle.rules.proofs.EntryWords.{entry-long, takes-shorter, entry-yields}
+use Rattle.rules.proofs.EntryWords.{takes-shorter, entry-yields}
 use Rattle.rules.proofs.EntrySteps.{other, entry-gave, literal-meets, Turned, by_value, by-target, by-phase, by-proposal, turned, entry-number}
 use Rattle.rules.proofs.EntryStructure.{same-entry}
 

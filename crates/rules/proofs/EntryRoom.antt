@@ -1,14 +1,13 @@
 -- A list gives no room back. Assumes nothing.
 use mathlib.Core.Path.{◌≡◌}
 use Prim.Native.Nat.{ℕ}
-use native.Mathlib.Omega.{arith}
 use mathlib.Core.List.{List}
 use lib.IntN.{ℤ}
 use lib.ListN.{length}
 use Rattle.tables.specs.Sizes.{constraints_words}
 use Rattle.tables.specs.Cells.{Sized}
 use Rattle.rules.specs.State.{State}
-use Rattle.rules.specs.Rules.Entries.{Listed, unstarted, started}
+use Rattle.rules.specs.Rules.Entries.{unstarted, started}
 use Rattle.rules.specs.Claims.Entries.{Went, no_more, next, EntriesStay}
 use Rattle.rules.proofs.RoomLaws.{Step, step_stays, step-trans, step-self, step_of, stays-self}
 use Rattle.rules.proofs.EntryFacts.{facts}

@@ -1,5 +1,5 @@
 -- A list of entries gives exactly what the rules derive. Assumes nothing.
-use mathlib.Core.Path.{◌≡◌, refl, sym, ◌∙◌}
+use mathlib.Core.Path.{◌≡◌, sym, ◌∙◌}
 use mathlib.Core.Logic.{◌↔◌}
 use Prim.Native.Nat.{ℕ, zero, suc, ◌-◌, ◌<◌, ◌≤◌}
 use native.Mathlib.Omega.{arith}
@@ -10,7 +10,7 @@ use lib.ListN.{length}
 use Rattle.words.specs.Words.{number_at, number_of}
 use Rattle.words.specs.Answer.{got, stop}
 use Rattle.words.proofs.AnswerLaws.{either}
-use Rattle.program.specs.Forms.{assign, verb_of}
+use Rattle.program.specs.Forms.{verb_of}
 use Rattle.program.specs.Grammar.{Takes}
 use Rattle.rules.specs.State.{State, Fault}
 use Rattle.rules.specs.Statements.{Left, place_of, do_assign, do_simple}

@@ -3,7 +3,7 @@ use mathlib.Core.Path.{◌≡◌, refl, sym, ap, subst, ◌∙◌}
 use Prim.Native.Nat.{ℕ, zero, suc, ◌<◌, ◌≤◌}
 use native.Mathlib.Omega.{arith}
 use mathlib.Core.Bool.{true, false, true≢false}
-use mathlib.Core.List.{List, [], ◌∷◌, ◌++◌, Memᴰ as OneOf}
+use mathlib.Core.List.{List, [], ◌∷◌, Memᴰ as OneOf}
 use mathlib.Core.Option.{Option, none, some}
 use lib.IntN.{ℤ, pos}
 use lib.ListN.{length, get_or}
@@ -24,7 +24,7 @@ use Rattle.rules.specs.Rules.Identities.{Phase, PhaseFails}
 use Rattle.rules.specs.Rules.Proposals.{Settles, Fails, Unsettled}
 use Rattle.rules.specs.Rules.Statements.{leaves, asking, past_path, Gives, assigns, makes, Steps, Refused}
 use Rattle.rules.specs.Rules.Entries.{Entry, entry}
-use Rattle.rules.specs.Claims.Entries.{Moved, EntriesMove}
+use Rattle.rules.specs.Claims.Entries.{EntriesMove}
 use Rattle.rules.proofs.EvaluationLaws.{evaluate-iff}
 use Rattle.rules.proofs.MeetLaws.{meets-complete}
 use Rattle.rules.proofs.ProposalLaws.{proposals-move}

@@ -2,23 +2,22 @@
 use mathlib.Core.Path.{◌≡◌, refl, sym, ◌∙◌}
 use Prim.Native.Nat.{ℕ, suc, ◌<◌, ◌≤◌}
 use native.Mathlib.Omega.{arith}
-use mathlib.Core.List.{List, [], ◌∷◌}
+use mathlib.Core.List.{List, ◌∷◌}
 use lib.IntN.{ℤ, pos}
 use lib.ListN.{length}
 use Rattle.words.specs.Words.{number_of}
-use Rattle.words.specs.Answer.{got}
 use Rattle.words.proofs.AnswerLaws.{got-inj}
 use Rattle.program.specs.Forms.{assign}
 use Rattle.program.specs.Grammar.{Takes}
 use Rattle.rules.specs.State.{State}
-use Rattle.rules.specs.Statements.{Left, do_assign, do_simple}
+use Rattle.rules.specs.Statements.{Left, do_simple}
 use Rattle.rules.specs.Running.{Tally}
 use Rattle.rules.specs.Start.{Ended}
 use Rattle.rules.specs.Structure.{SameState}
 use Rattle.rules.specs.Rules.Statements.{Steps}
 use Rattle.rules.specs.Rules.Runs.{begun, afterwards}
 use Rattle.rules.specs.Rules.Answers.{given}
-use Rattle.rules.specs.Rules.Entries.{Entry, Sets, e_none, e_unfit, e_unpaid, e_refused, e_more, Listed, unstarted, started}
+use Rattle.rules.specs.Rules.Entries.{Entry, Sets, e_none, e_unfit, e_unpaid, e_refused, e_more, unstarted, started}
 use Rattle.rules.specs.Claims.Entries.{EntriesStructure}
 use Rattle.rules.specs.Steps.Holds.{Holds}
 use Rattle.rules.proofs.Structure.{state-refl}

@@ -1,6 +1,6 @@
 -- The words of an entry: they read exactly where they are an L and a literal, and behind a 1 they are those of an assignment. Assumes nothing.
-use mathlib.Core.Path.{◌≡◌, refl, sym, ap, ◌∙◌}
-use Prim.Native.Nat.{ℕ, suc, ◌+◌, ◌-◌, ◌<◌, ◌≤◌}
+use mathlib.Core.Path.{◌≡◌, sym, ap, ◌∙◌}
+use Prim.Native.Nat.{ℕ, suc, ◌-◌, ◌<◌, ◌≤◌}
 use native.Mathlib.Omega.{arith}
 use mathlib.Core.Bool.{true, false}
 use mathlib.Core.List.{List, [], ◌∷◌, ◌++◌, append_assoc, append-nil}
@@ -10,16 +10,16 @@ use lib.Seq.{take-append_seam, drop-append_seam}
 use Rattle.words.specs.Words.{number_at, last_of}
 use Rattle.words.specs.Answer.{got, stop}
 use Rattle.words.proofs.Laws.{number-first}
-use Rattle.words.proofs.AnswerLaws.{stop≢got, got-inj, step}
+use Rattle.words.proofs.AnswerLaws.{stop≢got, step}
 use Rattle.tables.specs.declared.Value.{Value}
 use Rattle.tables.specs.declared.Value.TheVariants.{Nil, Int}
 use Rattle.tables.specs.declared.Value.TheVariants.{Bool as Truth}
-use Rattle.program.specs.Forms.{expression_depth, assign, verb_of}
-use Rattle.program.specs.Reading.{read_path, number, read_expression}
+use Rattle.program.specs.Forms.{assign, verb_of}
+use Rattle.program.specs.Reading.{read_path, number}
 use Rattle.program.specs.Grammar.{Path, Expression, statement_of, Yields, Takes}
 use Rattle.program.proofs.NumberLaws.{number_read, number-of}
 use Rattle.program.proofs.GrammarLaws.{path-complete, expression-complete, yields-complete}
-use Rattle.program.proofs.GrammarSound.{takes_two, path-sound, expression-sound}
+use Rattle.program.proofs.GrammarSound.{path-sound, expression-sound}
 use Rattle.rules.specs.Entries.{read_entry, assigning}
 use Rattle.rules.specs.Rules.Expressions.{Literal}
 use Rattle.rules.specs.Rules.Entries.{Entry, entry}

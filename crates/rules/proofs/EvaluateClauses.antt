@@ -1,27 +1,27 @@
 -- Evaluation, clause by clause, and the part that it leaves: the laws by which code knows it. Assumes nothing.
-use mathlib.Core.Path.{◌≡◌, refl, sym, ap, ◌∙◌}
-use mathlib.Core.Bool.{Bool, true, false}
-use mathlib.Core.List.{List, [], ◌∷◌}
-use Prim.Native.Nat.{ℕ, zero, suc, ◌-◌, ◌≤◌, ◌<◌}
+use mathlib.Core.Path.{◌≡◌, refl}
+use mathlib.Core.Bool.{true, false}
+use mathlib.Core.List.{List}
+use Prim.Native.Nat.{ℕ, zero, suc, ◌-◌}
 use native.Mathlib.Omega.{arith}
 use native.Mathlib.Numerals.{sub-one}
 use lib.IntN.{ℤ}
-use lib.ListN.{length, drop}
+use lib.ListN.{drop}
 use Rattle.words.specs.Words.{word_at, number_at}
-use Rattle.words.specs.Answer.{Answer, got, stop, ◌>>=◌}
+use Rattle.words.specs.Answer.{got, ◌>>=◌}
 use Rattle.words.proofs.AnswerLaws.{step, got-inj, stop≢got}
 use Rattle.tables.specs.declared.Value.{Value}
-use Rattle.tables.specs.declared.Value.TheVariants.{Nil, Bool as Truth, Int, Ref}
+use Rattle.tables.specs.declared.Value.TheVariants.{Nil, Bool as Truth, Int}
 use Rattle.tables.specs.Cells.{Cells}
 use Rattle.program.specs.Forms.{Form, a_nil, a_false, a_true, an_integer, a_path, an_operation, an_identity, no_form, form_of}
 use Rattle.program.specs.Reading.{number, any_word}
-use Rattle.program.proofs.NumberLaws.{IsNumber, number_read, number_fits_lem, number-low, number-high, any-read, any-fits, any-short}
+use Rattle.program.proofs.NumberLaws.{number_read, any-read}
 use Rattle.program.proofs.FormLaws.{number_of_form}
 use Rattle.program.proofs.LengthLaws.{Part, part-drop, part-trans}
 use Rattle.rules.specs.State.{Res, refuse, or_refuse, reads, slot_at, present}
 use Rattle.rules.specs.Paths.{follow, Way, way_at, value_at}
 use Rattle.rules.specs.Evaluation.{op_of, apply, at, same, evaluate_form, evaluate}
-use Rattle.rules.proofs.WordSteps.{reads-got, or-got, at-got, form-is, apart}
+use Rattle.rules.proofs.WordSteps.{reads-got, form-is, apart}
 
 -- ---- what is left is a part of what was there
 

@@ -2,18 +2,18 @@
 use mathlib.Core.Path.{◌≡◌, refl}
 use mathlib.Core.Bool.{Bool, true, false, not, ◌||◌}
 use mathlib.Core.List.{List, [], ◌∷◌, ◌++◌}
-use Prim.Native.Nat.{ℕ, zero, suc, ◌+◌}
+use Prim.Native.Nat.{ℕ, ◌+◌}
 use lib.Dec.{eqb}
 use lib.IntN.{ℤ}
 use lib.ListN.{drop}
-use Rattle.words.specs.Answer.{Answer, got, stop, ◌>>=◌, ◌>>◌, want}
+use Rattle.words.specs.Answer.{got, ◌>>=◌, ◌>>◌, want}
 use Rattle.tables.specs.declared.Value.{Value}
 use Rattle.tables.specs.declared.Value.TheVariants.{Nil, Bool as Truth, Int, Ref}
 use Rattle.tables.specs.declared.Sort.TheVariants.{Identities}
 use Rattle.tables.specs.Values.{cell_of}
 use Rattle.tables.specs.Cells.{Cells, put_cell}
 use Rattle.rules.specs.State.{refused, positions}
-use Rattle.rules.specs.Paths.{Way, way_at, value_at}
+use Rattle.rules.specs.Paths.{way_at, value_at}
 use Rattle.rules.specs.Evaluation.{same}
 use Rattle.rules.specs.Identities.{is_node, same_now, Tie, tie_at, ties_of, ties, member, frozen_by, class_of, names, clash_free, put_all, identity_phase}
 

@@ -1,6 +1,6 @@
 -- Operators, clause by clause: the laws by which code knows them. Assumes nothing.
 use mathlib.Core.Path.{◌≡◌, refl}
-use mathlib.Core.Bool.{Bool, true, false, not, ◌&&◌, ◌||◌}
+use mathlib.Core.Bool.{false, not, ◌&&◌, ◌||◌}
 use Prim.Native.Nat.{ℕ, zero, suc, ◌≤◌, ◌<◌}
 use native.Mathlib.Omega.{arith}
 use lib.IntN.{ℤ, ◌+ℤ◌, ◌-ℤ◌, ◌*ℤ◌}
@@ -8,11 +8,11 @@ use lib.ListN.{get_or-eq_default}
 use lib.Signed.{lt_z, le_z}
 use Rattle.words.specs.Words.{eq_z}
 use Rattle.words.specs.Range.{fits}
-use Rattle.words.specs.Answer.{Answer, got, stop, ◌>>◌, want}
+use Rattle.words.specs.Answer.{got, stop, ◌>>◌, want}
 use Rattle.tables.specs.declared.Value.{Value}
-use Rattle.tables.specs.declared.Value.TheVariants.{Nil, Bool as Truth, Int, Ref}
+use Rattle.tables.specs.declared.Value.TheVariants.{Bool as Truth, Int}
 use Rattle.tables.specs.Values.{cell_of}
-use Rattle.rules.specs.Evaluation.{Kind, is_bool, is_int, is_nil, kind_of, Op, no_op, ops, op_of, an_int, a_bool, the_nil, comparable, two, takes, gives, same, int_of, bool_of, ranged, made, apply}
+use Rattle.rules.specs.Evaluation.{Kind, kind_of, Op, no_op, ops, op_of, an_int, a_bool, the_nil, comparable, takes, same, int_of, bool_of, ranged, made, apply}
 
 pub no-op : (o : ℕ) → 11 < o → op_of o ≡ no_op
 unfolding op_of

@@ -19,7 +19,7 @@ use Rattle.tables.specs.Values.{cell, cell_of, slot_of, Sound}
 use Rattle.tables.proofs.SearchLaws.{cases, and_left, and_right, and-true}
 use Rattle.tables.proofs.ValueLaws.{slot-of-cell}
 use Rattle.program.specs.Forms.{operators}
-use Rattle.rules.specs.Evaluation.{Kind, is_nil, is_bool, is_int, is_ref, kind_of, op_of, an_int, a_bool, comparable, two, takes, gives, same, int_of, bool_of, ranged, made, apply}
+use Rattle.rules.specs.Evaluation.{Kind, is_nil, is_bool, is_int, is_ref, kind_of, op_of, an_int, a_bool, comparable, takes, gives, same, int_of, bool_of, ranged, made, apply}
 use Rattle.rules.specs.Rules.Operators.{Gives, Makes}
 
 -- ---- kind and payload

@@ -1,21 +1,18 @@
 -- Paths, clause by clause: the laws by which code knows them. Assumes nothing.
-use mathlib.Core.Path.{◌≡◌, refl, sym, ap, ◌∙◌}
+use mathlib.Core.Path.{◌≡◌, refl}
 use mathlib.Core.List.{List, [], ◌∷◌}
-use Prim.Native.Nat.{ℕ, zero, suc, ◌-◌, ◌≤◌, ◌<◌}
+use Prim.Native.Nat.{ℕ, suc, ◌≤◌, ◌<◌}
 use native.Mathlib.Omega.{arith}
 use lib.IntN.{ℤ}
 use lib.ListN.{drop}
 use Rattle.words.specs.Words.{number_at}
-use Rattle.words.specs.Answer.{Answer, got, stop, ◌>>=◌}
-use Rattle.tables.specs.declared.Value.{Value}
-use Rattle.tables.specs.declared.Slot.TheVariants.{Absent, Has}
+use Rattle.words.specs.Answer.{got, ◌>>=◌}
 use Rattle.tables.specs.Values.{slot_of}
 use Rattle.tables.specs.Cells.{Cells, cell_at}
 use Rattle.tables.specs.Records.{field_with}
-use Rattle.program.specs.Reading.{number}
 use Rattle.program.proofs.NumberLaws.{number_fits_lem, number-high}
-use Rattle.rules.specs.State.{Fault, Res, refuse, or_refuse, reads, slot_at, present}
-use Rattle.rules.specs.Paths.{a_record, a_field, follow, Way, way_at, value_at}
+use Rattle.rules.specs.State.{refuse, or_refuse, slot_at, present}
+use Rattle.rules.specs.Paths.{a_record, a_field, follow, way_at, value_at}
 
 pub slot_is : (S : Cells) (l : ℕ) → slot_of (cell_at S l) ≡ slot_at S l
 unfolding slot_at

@@ -32,7 +32,7 @@ use Rattle.program.proofs.GrammarSound.{expression-sound, statement-sound}
 use Rattle.program.proofs.GrammarLaws.{expression-complete}
 use Rattle.program.proofs.OpenLaws.{assign-opens, new-opens, always-opens, once-opens, same-opens}
 use Rattle.program.proofs.StandLaws.{always-is, stand-iff}
-use Rattle.rules.specs.State.{State, Fault, refused, positions}
+use Rattle.rules.specs.State.{State, Fault, positions}
 use Rattle.rules.specs.Constraints.{Part as Piece, kept_at}
 use Rattle.rules.specs.Proposals.{Asked}
 use Rattle.rules.specs.Statements.{position_of, place_of}
@@ -43,7 +43,7 @@ use Rattle.rules.specs.Rules.Identities.{Phase, PhaseFails}
 use Rattle.rules.specs.Rules.Proposals.{Each, more, Fails, Unsettled, uncounted, no_room, turned-down}
 use Rattle.rules.specs.Rules.Proposals.{no_words, not_formed, not_allowed, not_needed, not_met}
 use Rattle.rules.specs.Rules.Statements.{past_path, Gives, Refused, f_value, f_target, f_field, f_full, f_phase, f_given, f_always, f_once, f_identity, f_unkept}
-use Rattle.rules.specs.Rules.Kept.{AtStatement, at}
+use Rattle.rules.specs.Rules.Kept.{at}
 use Rattle.rules.specs.Steps.Holds.{Holds, StatementThere}
 use Rattle.rules.specs.Claims.Answers.{Wrong, path, operator, test, part, side, Found, in_statement, in_test, Inside, of_statement, of_kept}
 use Rattle.rules.proofs.KeepLaws.{positions-iff}

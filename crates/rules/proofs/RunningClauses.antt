@@ -1,19 +1,18 @@
 -- Blocks, while, the budget and the tally, clause by clause: the laws by which code knows them. Assumes nothing.
 use mathlib.Core.Path.{◌≡◌, refl}
-use mathlib.Core.Bool.{Bool, true, false}
-use mathlib.Core.List.{List, [], ◌∷◌}
-use Prim.Native.Nat.{ℕ, zero, suc, ◌+◌, ◌-◌, ◌≤◌, ◌<◌}
+use mathlib.Core.Bool.{true, false}
+use mathlib.Core.List.{List}
+use Prim.Native.Nat.{ℕ, suc, ◌≤◌, ◌<◌}
 use native.Mathlib.Omega.{arith}
 use borrow.Author.Tests.{lt-ltb, le-ltb}
-use lib.Dec.{ltb}
 use lib.IntN.{ℤ}
-use lib.ListN.{length, drop}
+use lib.ListN.{drop}
 use Rattle.words.specs.Words.{number_at}
-use Rattle.words.specs.Answer.{Answer, got, stop}
+use Rattle.words.specs.Answer.{got, stop}
 use Rattle.program.specs.Forms.{Verb, skip, assign, new, always, once, always_same, once_same, branch, loop, no_verb, verb_of}
-use Rattle.program.specs.Reading.{number, read_block, read_statement, after}
+use Rattle.program.specs.Reading.{read_block, read_statement, after}
 use Rattle.program.proofs.NumberLaws.{number_fits_lem, number-high}
-use Rattle.rules.specs.State.{State, Fault, Res}
+use Rattle.rules.specs.State.{Fault}
 use Rattle.rules.specs.Statements.{Left, position_of, place_of, do_simple}
 use Rattle.rules.specs.Running.{Tally, Out, on, end, then_out, one_more, paid, leaves, taken, noted, test, tested, turns, past_test, do_verb, do_statement, do_statements, do_block}
 

@@ -1,10 +1,10 @@
 -- One statement with two proposals, clause by clause: the laws by which code knows it. Assumes nothing.
-use mathlib.Core.Path.{◌≡◌, refl, sym, ap, ◌∙◌}
-use Prim.Native.Nat.{ℕ, suc, ◌+◌, ◌*◌}
-use mathlib.Core.Bool.{Bool, true, false, not, cond, ◌&&◌, ◌||◌}
+use mathlib.Core.Path.{◌≡◌, refl, ap}
+use Prim.Native.Nat.{ℕ, ◌+◌, ◌*◌}
+use mathlib.Core.Bool.{true, false, not, cond, ◌&&◌, ◌||◌}
 use mathlib.Core.List.{List, [], ◌∷◌}
 use lib.Dec.{eqb, ltb, leb}
-use lib.IntN.{ℤ, pos, negsuc}
+use lib.IntN.{ℤ, negsuc}
 use lib.ListN.{length, drop}
 use Rattle.words.specs.Words.{number_of, number_at}
 use Rattle.words.specs.Answer.{got, stop, want}
@@ -13,12 +13,11 @@ use Rattle.fit.specs.Fit.{sized}
 use Rattle.program.specs.Forms.{verb_of}
 use Rattle.program.specs.Reading.{read_program}
 use Rattle.program.specs.Where.{statement_at}
-use Rattle.program.specs.declared.Spot.TheVariants.{At, Nowhere}
-use Rattle.rules.specs.State.{State, Fault, Res}
+use Rattle.rules.specs.State.{State, Fault}
 use Rattle.rules.specs.Proposals.{none?}
 use Rattle.rules.specs.Statements.{Left, do_simple}
-use Rattle.rules.specs.Start.{Early, early, tables_at_start}
-use Rattle.rules.specs.Solvers.{Given, accepting, refusing, refused_by, one_to_four, is_named, has_more, whole, alone, turns_down, then_second, tries, passing, ask}
+use Rattle.rules.specs.Start.{early, tables_at_start}
+use Rattle.rules.specs.Solvers.{accepting, refusing, refused_by, one_to_four, is_named, has_more, whole, alone, turns_down, then_second, tries, passing, ask}
 
 pub named-is : (program : List ℤ) (word : ℤ) → is_named program word ≡ one_to_four (statement_at program (number_of word))
 unfolding is_named

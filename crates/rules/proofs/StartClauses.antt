@@ -1,24 +1,22 @@
 -- The start and the whole run, clause by clause: the laws by which code knows them. Assumes nothing.
 use mathlib.Core.Path.{◌≡◌, refl}
-use mathlib.Core.Bool.{Bool, true, false, ◌&&◌}
+use mathlib.Core.Bool.{◌&&◌}
 use mathlib.Core.List.{List, [], ◌∷◌}
-use Prim.Native.Nat.{ℕ, zero, suc, ◌+◌}
+use Prim.Native.Nat.{ℕ, ◌+◌}
 use lib.Dec.{leb}
 use lib.IntN.{ℤ}
-use lib.ListN.{length, drop}
+use lib.ListN.{drop}
 use Rattle.words.specs.Words.{word_at, number_of}
-use Rattle.words.specs.Answer.{Answer, got, stop, ◌>>=◌, ◌>>◌, want}
+use Rattle.words.specs.Answer.{got, stop, ◌>>◌, want}
 use Rattle.tables.specs.declared.Sort.TheVariants.{Values, Identities}
 use Rattle.tables.specs.Cells.{Cells}
 use Rattle.fit.specs.Fit.{sized, environment_fits, heap_fits}
-use Rattle.program.specs.Forms.{block_depth}
 use Rattle.program.specs.Reading.{read_program}
 use Rattle.program.specs.Where.{constraints_stand}
-use Rattle.rules.specs.State.{State, Fault, Res, positions}
+use Rattle.rules.specs.State.{State, Fault, positions}
 use Rattle.rules.specs.Constraints.{Part, kept_at, required_hold}
 use Rattle.rules.specs.Identities.{same_now}
-use Rattle.rules.specs.Running.{Tally, Out, on, end, do_block}
-use Rattle.rules.specs.Start.{Early, budget_fits, values_hold, identities_hold, early, starts, Ended, ended, run}
+use Rattle.rules.specs.Start.{budget_fits, values_hold, identities_hold, early, starts}
 
 pub budget-is : (b : ℤ) → budget_fits b ≡ leb (number_of b) 1000000
 unfolding budget_fits

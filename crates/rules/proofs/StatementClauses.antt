@@ -2,12 +2,12 @@
 use mathlib.Core.Path.{◌≡◌, refl}
 use mathlib.Core.Bool.{Bool, true, false, cond, ◌||◌}
 use mathlib.Core.List.{List, [], ◌∷◌}
-use mathlib.Core.Option.{Option, none, some}
-use Prim.Native.Nat.{ℕ, zero, suc, ◌-◌}
+use mathlib.Core.Option.{none, some}
+use Prim.Native.Nat.{ℕ, suc}
 use lib.Dec.{ltb}
 use lib.IntN.{ℤ, pos}
-use lib.ListN.{length, drop}
-use Rattle.words.specs.Answer.{Answer, got, stop, ◌>>=◌, ◌>>◌, want}
+use lib.ListN.{drop}
+use Rattle.words.specs.Answer.{got, ◌>>=◌, ◌>>◌, want}
 use Rattle.tables.specs.declared.Value.TheVariants.{Ref}
 use Rattle.tables.specs.declared.Sort.{Sort}
 use Rattle.tables.specs.declared.Sort.TheVariants.{Values, Identities}
@@ -15,14 +15,14 @@ use Rattle.tables.specs.Values.{cell_of}
 use Rattle.tables.specs.Cells.{Cells, cells}
 use Rattle.tables.specs.Records.{record_count, with_record}
 use Rattle.tables.specs.Kept.{most_kept, kept_count, is_kept, with_position}
-use Rattle.program.specs.Forms.{Verb, skip, assign, new, always, once, always_same, once_same, branch, loop, no_verb}
+use Rattle.program.specs.Forms.{skip, assign, new, always, once, always_same, once_same, branch, loop, no_verb}
 use Rattle.program.specs.Reading.{number, read_path, after}
 use Rattle.rules.specs.State.{State, refused, refuse, reads}
-use Rattle.rules.specs.Paths.{Way, way_at}
+use Rattle.rules.specs.Paths.{way_at}
 use Rattle.rules.specs.Evaluation.{evaluate}
 use Rattle.rules.specs.Identities.{same_now, identity_phase}
-use Rattle.rules.specs.Proposals.{Asked, settle}
-use Rattle.rules.specs.Statements.{Left, position_of, has_room, keep, value_phase, do_assign, field_words, do_new, do_constraint, do_identity, do_simple}
+use Rattle.rules.specs.Proposals.{settle}
+use Rattle.rules.specs.Statements.{position_of, has_room, keep, value_phase, do_assign, field_words, do_new, do_constraint, do_identity, do_simple}
 
 pub room-is : (kept : List ℤ) (s : Sort) (position : ℕ) → has_room kept s position ≡ (is_kept kept s position || ltb (kept_count kept s) (most_kept s))
 unfolding has_room

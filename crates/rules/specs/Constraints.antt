@@ -1,15 +1,14 @@
 -- Constraints and their parts (01, "The program's words": C; "Always C, once C"; "Proposal"). Assumes nothing: these are definitions.
-use Rattle.std.specs.Prelude.{ℕ, zero, suc, ◌+◌, Bool, true, false, not, cond, ◌&&◌, ◌||◌, List, [], ◌∷◌, ◌++◌, eqb, ℤ, drop}
+use Rattle.std.specs.Prelude.{ℕ, zero, suc, ◌+◌, Bool, true, false, not, ◌&&◌, ◌||◌, List, [], ◌∷◌, ◌++◌, eqb, ℤ, drop}
 use Rattle.std.proofs.Math.Option.{Option, none, some}
-use Rattle.words.specs.Words.{number_at}
-use Rattle.words.specs.Answer.{Answer, got, stop, ◌>>=◌, ◌>>◌, want}
+use Rattle.words.specs.Answer.{got, stop, ◌>>=◌, ◌>>◌, want}
 use Rattle.tables.specs.declared.Value.{Value}
 use Rattle.tables.specs.declared.Sort.TheVariants.{Values}
 use Rattle.tables.specs.Cells.{Cells}
 use Rattle.program.specs.Forms.{expression_depth, most_parts, required}
 use Rattle.program.specs.Reading.{number}
-use Rattle.rules.specs.State.{Fault, Res, refused, reads, positions}
-use Rattle.rules.specs.Evaluation.{Kind, a_bool, bool_of, evaluate, kind}
+use Rattle.rules.specs.State.{Res, refused, reads, positions}
+use Rattle.rules.specs.Evaluation.{a_bool, bool_of, evaluate, kind}
 
 -- a part of a constraint: its priority, and whether it is satisfied
 pub record Part : Type 0 where

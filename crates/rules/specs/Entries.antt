@@ -1,7 +1,7 @@
 -- A list of entries (02, W3): the assignments one by one, by the assignment's rule (Statements.do_assign). Assumes nothing: these are definitions.
 use Rattle.std.specs.Prelude.{ℕ, zero, suc, ◌-◌, false, List, [], ◌∷◌, ℤ, pos, length, take}
 use Rattle.words.specs.Words.{number_of}
-use Rattle.words.specs.Answer.{Answer, got, stop, ◌>>=◌, ◌>>◌}
+use Rattle.words.specs.Answer.{got, stop, ◌>>=◌}
 use Rattle.program.specs.Reading.{Reading, number, read_path, read_expression}
 use Rattle.rules.specs.State.{State}
 use Rattle.rules.specs.Statements.{do_assign}

@@ -1,5 +1,5 @@
 -- Expressions: what one evaluates to, and its kind (01, "The program's words"; 000, E- and T-rules). Assumes nothing: these are definitions.
-use Rattle.std.specs.Prelude.{ℕ, zero, suc, Bool, true, false, not, cond, ◌&&◌, ◌||◌, List, [], ◌∷◌, eqb, ℤ, pos, ◌+ℤ◌, ◌-ℤ◌, ◌*ℤ◌, get_or, drop}
+use Rattle.std.specs.Prelude.{ℕ, zero, suc, Bool, true, false, not, ◌&&◌, ◌||◌, List, [], ◌∷◌, ℤ, pos, ◌+ℤ◌, ◌-ℤ◌, ◌*ℤ◌, get_or, drop}
 use Rattle.std.specs.Int.Signed.{lt_z, le_z}
 use Rattle.words.specs.Words.{word_at, number_at, eq_z}
 use Rattle.words.specs.Range.{fits}
@@ -10,7 +10,7 @@ use Rattle.tables.specs.Values.{cell_of}
 use Rattle.tables.specs.Cells.{Cells}
 use Rattle.program.specs.Forms.{operators, Form, a_nil, a_false, a_true, an_integer, a_path, an_operation, an_identity, no_form, form_of}
 use Rattle.program.specs.Reading.{number, any_word}
-use Rattle.rules.specs.State.{Fault, Res, refuse, or_refuse, reads}
+use Rattle.rules.specs.State.{Res, refuse, reads}
 use Rattle.rules.specs.Paths.{value_at}
 
 pub data Kind : Type 0 where

@@ -1,6 +1,6 @@
 -- Kept identities, and the identity phase (01, "What a statement does"; 000, stay_prefix). Assumes nothing: these are definitions.
-use Rattle.std.specs.Prelude.{ℕ, zero, suc, ◌+◌, Bool, true, false, not, cond, ◌&&◌, ◌||◌, List, [], ◌∷◌, ◌++◌, eqb, ℤ, drop}
-use Rattle.words.specs.Answer.{Answer, got, stop, ◌>>=◌, ◌>>◌, want}
+use Rattle.std.specs.Prelude.{ℕ, ◌+◌, Bool, true, false, not, cond, ◌&&◌, ◌||◌, List, [], ◌∷◌, ◌++◌, eqb, ℤ, drop}
+use Rattle.words.specs.Answer.{got, ◌>>=◌, ◌>>◌, want}
 use Rattle.tables.specs.declared.Value.{Value}
 use Rattle.tables.specs.declared.Value.TheVariants.{Nil, Bool as Truth, Int, Ref}
 use Rattle.tables.specs.declared.Slot.{Slot}
@@ -8,8 +8,8 @@ use Rattle.tables.specs.declared.Slot.TheVariants.{Absent, Has}
 use Rattle.tables.specs.declared.Sort.TheVariants.{Identities}
 use Rattle.tables.specs.Values.{cell_of}
 use Rattle.tables.specs.Cells.{Cells, put_cell}
-use Rattle.rules.specs.State.{Fault, Res, refused, slot_at, positions}
-use Rattle.rules.specs.Paths.{Way, way_at, value_at}
+use Rattle.rules.specs.State.{Res, refused, slot_at, positions}
+use Rattle.rules.specs.Paths.{way_at, value_at}
 use Rattle.rules.specs.Evaluation.{same}
 
 -- "references or nil"

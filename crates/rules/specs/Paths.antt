@@ -1,7 +1,7 @@
 -- Paths (01, "What a statement does": "An L names one cell, reached through its prefix cells"). Assumes nothing: these are definitions.
 use Rattle.std.specs.Prelude.{ℕ, zero, suc, ◌-◌, List, [], ◌∷◌, ℤ, drop}
 use Rattle.words.specs.Words.{number_at}
-use Rattle.words.specs.Answer.{Answer, got, stop, ◌>>=◌, ◌>>◌, want}
+use Rattle.words.specs.Answer.{Answer, got, stop, ◌>>=◌}
 use Rattle.tables.specs.declared.Value.{Value}
 use Rattle.tables.specs.declared.Value.TheVariants.{Nil, Bool as Truth, Int, Ref}
 use Rattle.tables.specs.declared.Slot.{Slot}

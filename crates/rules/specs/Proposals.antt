@@ -1,5 +1,5 @@
 -- A proposal (01, "Proposal"): 6, 16, 17, 18, 19, in this order. Assumes nothing: these are definitions.
-use Rattle.std.specs.Prelude.{ℕ, zero, suc, Bool, true, false, not, cond, ◌&&◌, ◌||◌, List, [], ◌∷◌, eqb, ltb, leb, ℤ, pos, negsuc}
+use Rattle.std.specs.Prelude.{ℕ, zero, suc, Bool, true, false, not, cond, ◌&&◌, ◌||◌, List, [], ◌∷◌, eqb, ltb, leb, ℤ, pos}
 use Rattle.std.proofs.Math.Option.{Option, none, some}
 use Rattle.words.specs.Words.{number_of, eq_z}
 use Rattle.words.specs.Answer.{Answer, got, stop, ◌>>=◌, ◌>>◌, want}
@@ -7,9 +7,9 @@ use Rattle.tables.specs.declared.Cell.{Cell}
 use Rattle.tables.specs.Sizes.{locations}
 use Rattle.tables.specs.Values.{cell}
 use Rattle.tables.specs.Cells.{Cells, cell_at, put_cell}
-use Rattle.rules.specs.State.{Fault, Res, refused}
+use Rattle.rules.specs.State.{Res, refused}
 use Rattle.rules.specs.Evaluation.{at}
-use Rattle.rules.specs.Constraints.{Part, counted, all_hold, required_hold}
+use Rattle.rules.specs.Constraints.{counted, all_hold, required_hold}
 
 pub record Entry : Type 0 where
   pub location : ℕ

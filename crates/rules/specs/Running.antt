@@ -1,12 +1,12 @@
 -- Blocks, while, the budget and the tally (01, "What comes back"). Assumes nothing: these are definitions.
-use Rattle.std.specs.Prelude.{ℕ, zero, suc, ◌+◌, ◌-◌, Bool, true, false, List, [], ◌∷◌, ltb, ℤ, length, drop}
+use Rattle.std.specs.Prelude.{ℕ, zero, suc, ◌+◌, Bool, true, false, List, ◌∷◌, ltb, ℤ, drop}
 use Rattle.words.specs.Words.{number_at}
-use Rattle.words.specs.Answer.{Answer, got, stop, ◌>>=◌, ◌>>◌, want}
+use Rattle.words.specs.Answer.{got, stop, ◌>>=◌, ◌>>◌, want}
 use Rattle.tables.specs.Cells.{Cells}
 use Rattle.program.specs.Forms.{expression_depth, most_statements}
 use Rattle.program.specs.Forms.{Verb, skip, assign, new, always, once, always_same, once_same, branch, loop, no_verb, verb_of}
 use Rattle.program.specs.Reading.{number, read_expression, read_block, read_statement, after}
-use Rattle.rules.specs.State.{State, Fault, Res, refused, reads}
+use Rattle.rules.specs.State.{State, Res, refused}
 use Rattle.rules.specs.Evaluation.{a_bool, kind_of, bool_of, evaluate}
 use Rattle.rules.specs.Statements.{Left, position_of, place_of, do_simple}
 

@@ -1,6 +1,6 @@
 -- The sheets K1 to K12 of document 01, "Sheets to try", a while, two of `and`, one of 15, one of unlike kinds, five lists of entries, and five askings of two solvers: what is run, and the whole of what must come out.
 -- Assumes nothing: these are definitions.
-use Rattle.std.specs.Prelude.{ℕ, zero, suc, ◌+◌, ◌-◌, List, [], ◌∷◌, ◌++◌, ℤ, pos, negsuc, replicate, length, take, Bool, true, false}
+use Rattle.std.specs.Prelude.{ℕ, ◌-◌, List, [], ◌∷◌, ◌++◌, ℤ, pos, negsuc, replicate, length, take, true, false}
 use Rattle.tables.specs.Cells.{cells}
 use Rattle.rules.specs.State.{State, fresh_state}
 use Rattle.rules.specs.Start.{Ended, run}

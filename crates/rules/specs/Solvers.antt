@@ -1,5 +1,5 @@
 -- One statement with two proposals (02, W6), by the statement's own rule (Statements.do_simple). Assumes nothing: these are definitions.
-use Rattle.std.specs.Prelude.{ℕ, zero, suc, ◌+◌, ◌*◌, Bool, true, false, not, cond, ◌&&◌, ◌||◌, List, [], ◌∷◌, eqb, ltb, leb, ℤ, pos, negsuc, length, drop}
+use Rattle.std.specs.Prelude.{ℕ, ◌+◌, ◌*◌, Bool, false, not, cond, ◌&&◌, ◌||◌, List, [], ◌∷◌, eqb, ltb, leb, ℤ, pos, negsuc, length, drop}
 use Rattle.words.specs.Words.{number_of, number_at}
 use Rattle.words.specs.Answer.{Answer, got, stop, want}
 use Rattle.fit.specs.Fit.{sized}

@@ -1,15 +1,15 @@
 -- The start, outcomes 1 to 4, and the whole run (01, "What comes back"). Assumes nothing: these are definitions.
-use Rattle.std.specs.Prelude.{ℕ, zero, suc, ◌+◌, Bool, true, false, ◌&&◌, List, [], ◌∷◌, leb, ℤ, pos, negsuc, length, drop}
+use Rattle.std.specs.Prelude.{ℕ, ◌+◌, Bool, ◌&&◌, List, [], ◌∷◌, leb, ℤ, length, drop}
 use Rattle.words.specs.Words.{word_at, number_of}
-use Rattle.words.specs.Answer.{Answer, got, stop, ◌>>=◌, ◌>>◌, want}
+use Rattle.words.specs.Answer.{Answer, got, stop, ◌>>◌, want}
 use Rattle.tables.specs.declared.Sort.TheVariants.{Values, Identities}
 use Rattle.tables.specs.Cells.{Cells}
 use Rattle.fit.specs.Fit.{sized, environment_fits, heap_fits}
 use Rattle.program.specs.Forms.{block_depth}
 use Rattle.program.specs.Reading.{read_program}
 use Rattle.program.specs.Where.{constraints_stand}
-use Rattle.rules.specs.State.{State, Fault, Res, positions}
-use Rattle.rules.specs.Constraints.{Part, kept_at, required_hold}
+use Rattle.rules.specs.State.{State, positions}
+use Rattle.rules.specs.Constraints.{kept_at, required_hold}
 use Rattle.rules.specs.Identities.{same_now}
 use Rattle.rules.specs.Running.{Tally, Out, on, end, do_block}
 

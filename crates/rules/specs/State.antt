@@ -1,5 +1,5 @@
 -- The state of a run, and refusals (01, "Lent tables", "What comes back"). Assumes nothing: these are definitions.
-use Rattle.std.specs.Prelude.{ℕ, zero, suc, Bool, true, false, List, [], ◌∷◌, ℤ, length}
+use Rattle.std.specs.Prelude.{ℕ, zero, suc, List, [], ◌∷◌, ℤ, length}
 use Rattle.words.specs.Answer.{Answer, got, stop}
 use Rattle.tables.specs.declared.Value.{Value}
 use Rattle.tables.specs.declared.Slot.{Slot}

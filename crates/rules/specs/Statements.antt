@@ -1,9 +1,8 @@
 -- The statements that hold no block (01, "What a statement does"). p is the part that begins at the statement's word.
 -- Assumes nothing: these are definitions.
 use Rattle.std.specs.Prelude.{ℕ, zero, suc, ◌-◌, Bool, true, false, cond, ◌||◌, List, [], ◌∷◌, ltb, ℤ, pos, length, drop}
-use Rattle.std.proofs.Math.Option.{Option, none, some}
-use Rattle.words.specs.Answer.{Answer, got, stop, ◌>>=◌, ◌>>◌, want}
-use Rattle.tables.specs.declared.Value.{Value}
+use Rattle.std.proofs.Math.Option.{none, some}
+use Rattle.words.specs.Answer.{got, ◌>>=◌, ◌>>◌, want}
 use Rattle.tables.specs.declared.Value.TheVariants.{Ref}
 use Rattle.tables.specs.declared.Sort.{Sort}
 use Rattle.tables.specs.declared.Sort.TheVariants.{Values, Identities}
@@ -16,10 +15,10 @@ use Rattle.program.specs.Forms.{expression_depth}
 use Rattle.program.specs.Forms.{Verb, skip, assign, new, always, once, always_same, once_same, branch, loop, no_verb}
 use Rattle.program.specs.Reading.{number, read_path, after}
 use Rattle.rules.specs.State.{State, Fault, Res, refused, refuse, reads}
-use Rattle.rules.specs.Paths.{Way, way_at}
+use Rattle.rules.specs.Paths.{way_at}
 use Rattle.rules.specs.Evaluation.{evaluate}
 use Rattle.rules.specs.Identities.{same_now, identity_phase}
-use Rattle.rules.specs.Proposals.{Asked, settle}
+use Rattle.rules.specs.Proposals.{settle}
 
 -- what an accepted statement leaves: the state, the unread words of the proposals, and how many proposals it took
 pub record Left : Type 0 where

@@ -1,5 +1,5 @@
 -- What a host may rely on: the claims of the rules, said of what run leaves and hands back. Assumes nothing: these are statements.
-use Rattle.std.specs.Prelude.{◌≡◌, ℕ, ◌≤◌, ℤ, length}
+use Rattle.std.specs.Prelude.{◌≡◌, ◌≤◌, ℤ, length}
 use mathlib.Core.List.{List, [], ◌∷◌, Memᴰ as OneOf}
 use Rattle.words.specs.Words.{number_of, number_at, last_of}
 use Rattle.program.specs.declared.Spot.TheVariants.{Nowhere}

@@ -3,7 +3,7 @@ use mathlib.Core.Path.{◌≡◌, ap, ◌∙◌}
 use mathlib.Core.List.{List, [], ◌∷◌}
 use Rattle.rules.specs.State.{fresh_state}
 use Rattle.rules.specs.Start.{Ended, run}
-use Rattle.rules.specs.Sheets.{K1, sheets, given, wanted}
+use Rattle.rules.specs.Sheets.{K1, given, wanted}
 use Rattle.rules.proofs.Sheets.{sheets-hold}
 use Rattle.lister.proofs.Sheets.{input-sheet, output-sheet}
 use Rattle.lister.specs.Reading.{Given}

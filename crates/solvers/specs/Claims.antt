@@ -1,5 +1,5 @@
 -- What a host may rely on: the claims of the rules on two proposals, said of what ask leaves and hands back. Assumes nothing: these are statements.
-use Rattle.std.specs.Prelude.{◌≡◌, ℕ, ◌≤◌, ℤ, pos, length}
+use Rattle.std.specs.Prelude.{◌≡◌, ◌≤◌, ℤ, pos, length}
 use mathlib.Core.List.{List, [], ◌∷◌, Memᴰ as OneOf}
 use Rattle.words.specs.Words.{word_at, number_at}
 use Rattle.rules.specs.State.{State}

@@ -1,5 +1,5 @@
 -- What the code answers of one statement with two proposals. Assumes nothing: these are definitions.
-use Rattle.std.specs.Prelude.{◌≡◌, ℕ, ◌-◌, cond, List, [], ◌∷◌, ℤ, pos, length, take}
+use Rattle.std.specs.Prelude.{◌≡◌, ◌-◌, cond, List, [], ◌∷◌, ℤ, pos, length, take}
 use Rattle.words.specs.Answer.{Answer, got, stop, want}
 use Rattle.fit.specs.Fit.{sized}
 use Rattle.program.specs.Reading.{read_program}

@@ -7,10 +7,10 @@ use native.Mathlib.Omega.{arith}
 use native.Mathlib.Decide.{dec_lt}
 use borrow.Author.Tests.{lt-ltb, le-ltb, ltb-true}
 use lib.Dec.{ltb, eqb}
-use lib.IntN.{ℤ, pos, negsuc}
+use lib.IntN.{ℤ, pos}
 use lib.ListN.{length, get_or, set, length-set}
 use lib.Seq.{get_or-set_same, get_or-set_other, set-get_or, set-set, set_comm}
-use Rattle.words.specs.Words.{word_at, number_at, number_of}
+use Rattle.words.specs.Words.{word_at, number_at}
 use Rattle.tables.specs.Sizes.{field_location, field_word, count_word, label_word}
 use Rattle.tables.specs.Values.{cell, absent}
 use Rattle.tables.specs.Cells.{Cells, cells, Sized, pair_at, put_pair, location_word, cell_at, put_cell}

@@ -1,5 +1,5 @@
 -- Tests of every number below a bound, and the first that passes. Assumes nothing: these are definitions.
-use Rattle.std.specs.Prelude.{ℕ, zero, suc, Bool, true, false, ◌&&◌, cond}
+use Rattle.std.specs.Prelude.{ℕ, zero, suc, Bool, true, ◌&&◌, cond}
 
 -- every number below n passes
 unfoldable pub every : (ℕ → Bool) → ℕ → Bool

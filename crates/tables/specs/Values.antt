@@ -1,5 +1,5 @@
 -- Cells and values (01, "Lent tables"). Assumes nothing: these are definitions.
-use Rattle.std.specs.Prelude.{ℕ, ◌<◌, Bool, true, false, cond, eqb, ℤ, pos}
+use Rattle.std.specs.Prelude.{◌<◌, cond, eqb, ℤ, pos}
 use Rattle.words.specs.Words.{number_of, word_of, eq_z}
 use Rattle.tables.specs.Sizes.{no_number}
 use Rattle.tables.specs.declared.Cell.{Cell}

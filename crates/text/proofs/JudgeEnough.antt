@@ -18,7 +18,7 @@ use Rattle.tokens.specs.Codes.{end_code, name_code, number_code, too_long, skip_
 use Rattle.tokens.specs.Codes.{comma_code, dot_code, semicolon_code, open_bracket_code, close_bracket_code, beside_code}
 use Rattle.tokens.specs.Claims.{Makes, MakesUp}
 use Rattle.text.specs.Reading.{Fault, fault, Reader, Form, due_after, owing, passing, is_operator, known, number_in, first_reader, text_at}
-use Rattle.text.specs.Judge.{Sort, other, variable, label, Open, Awaited, nothing, token, either, beyond, owed, steps, operand, behind, part, parts, field, fields, statement, row}
+use Rattle.text.specs.Judge.{Sort, Open, Awaited, nothing, token, either, beyond, owed, steps, operand, behind, part, parts, field, fields, statement, row}
 use Rattle.text.specs.Judge.{same, stated, block, bracketed}
 use Rattle.text.specs.Judge.{May, unfit, room, after, stands, may_operand, may_operator, may_part, may_field, may_statement, again, may, there, Judged, judge, awaited_first, judge_text}
 use Rattle.text.proofs.Leads.{after-at}

@@ -15,7 +15,7 @@ use Rattle.tokens.specs.Codes.{name_code, number_code, too_long, skip_code, alwa
 use Rattle.tokens.specs.Codes.{comma_code, dot_code, semicolon_code, open_bracket_code, close_bracket_code, beside_code}
 use Rattle.tokens.specs.Claims.{Makes, MakesUp}
 use Rattle.text.specs.Reading.{Fault, fault, Reader, due_after, owing, passing, is_operator, known, number_in, text_at}
-use Rattle.text.specs.Judge.{Sort, other, variable, label, Open, Awaited, nothing, token, either, beyond, owed, steps, operand, behind, part, parts, field, fields, statement, row, bracketed}
+use Rattle.text.specs.Judge.{Sort, Open, Awaited, nothing, token, either, beyond, owed, steps, operand, behind, part, parts, field, fields, statement, row, bracketed}
 use Rattle.text.specs.Judge.{May, unfit, room, after, stands, may_operand, may_operator, may_part, may_field, may_statement, may, there, Judged}
 use Rattle.text.proofs.Leads.{after-at}
 use Rattle.text.proofs.JudgeLaws.{judged}

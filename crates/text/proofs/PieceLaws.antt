@@ -11,7 +11,6 @@ use lib.ListN.{length, length-append}
 use Rattle.words.specs.Answer.{Answer, got, ◌>>=◌}
 use Rattle.words.specs.Range.{fits}
 use Rattle.words.proofs.AnswerLaws.{got-inj, stop≢got, step}
-use Rattle.tables.specs.Sizes.{variables, labels}
 use Rattle.tables.proofs.SearchLaws.{cases, and_left, and_right}
 use Rattle.program.specs.Forms.{most_steps}
 use Rattle.program.specs.Grammar as Limits

@@ -1,5 +1,5 @@
 -- What is claimed of a text: it is accepted exactly when the grammar yields it within document 01's limits, with the words of that reading. Assumes nothing: these are statements.
-use Rattle.std.specs.Prelude.{ℕ, ◌+◌, ◌-◌, ◌≤◌, ◌≡◌, ◌↔◌, true, List, [], ◌∷◌, ◌++◌, ℤ, length}
+use Rattle.std.specs.Prelude.{ℕ, ◌≤◌, ◌≡◌, ◌↔◌, true, List, [], ◌∷◌, ◌++◌, ℤ, length}
 use Rattle.words.specs.Answer.{got}
 use Rattle.words.specs.Range.{fits}
 use Rattle.tables.specs.Sizes.{variables, labels}

@@ -1,7 +1,5 @@
 use mathlib.Core.Path.{sym, ap, ◌∙◌}
 use native.Mathlib.Omega.{arith}
-use Prim.Native.Nat.{◌-◌}
-use borrow.Author.Tests.{not-true, not-false}
 use Rattle.expressions.specs.declared.Tested.TheVariants.{Is}
 use Rattle.phases.specs.Told.{tables}
 use Rattle.block.proofs.RunLaws.{past-test, past-block, block-deep, block-long, row-starts, row-halts, row-quits, row-goes-on, row_ends, if-refused, if-first, if-second}

@@ -1,5 +1,5 @@
 use mathlib.Core.Path.{◌≡◌, sym, ◌∙◌}
-use Prim.Native.Nat.{◌-◌, ◌*◌}
+use Prim.Native.Nat.{◌*◌}
 use Rattle.words.specs.Words.{word_at}
 use Rattle.words.proofs.Signed.{back32}
 use Rattle.tables.specs.Cells.{pair_at}

@@ -1,10 +1,9 @@
 use mathlib.Core.Path.{sym, ◌∙◌}
 use native.Mathlib.Omega.{arith}
-use Prim.Native.Nat.{◌-◌}
 use borrow.Author.Tests.{le-leb, lt-leb}
 use Rattle.tables.proofs.SearchLaws.{checking-starts, checking-goes-on, checking-ends, every-stops}
 use Rattle.tables.proofs.LoopLaws.{refused, passed}
-use Rattle.fit.specs.Fit.{record_fits, number_fits, heap_fits}
+use Rattle.fit.specs.Fit.{number_fits, heap_fits}
 use Rattle.fit.proofs.RestLaws.{number-refused, heap-rest}
 use Rattle.fit.proofs.heap_fits.Goals as goal
 

@@ -1,6 +1,4 @@
-use Prim.Native.Nat.{◌-◌}
 use borrow.Author.Tests.{lt-ltb, le-ltb}
-use Rattle.tables.specs.Records.{label_at}
 use Rattle.tables.proofs.SearchLaws.{checking-starts, checking-fails, checking-goes-on, checking-ends}
 use Rattle.tables.proofs.LoopLaws.{met, apart}
 use Rattle.fit.specs.Fit.{label_fits}

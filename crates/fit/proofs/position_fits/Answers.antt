@@ -1,6 +1,4 @@
-use Prim.Native.Nat.{◌-◌}
 use borrow.Author.Tests.{lt-ltb, le-ltb}
-use Rattle.tables.specs.Kept.{position_at}
 use Rattle.fit.specs.Fit.{position_fits}
 use Rattle.tables.proofs.SearchLaws.{checking-starts, checking-fails, checking-goes-on, checking-ends}
 use Rattle.tables.proofs.LoopLaws.{met, apart}

@@ -1,9 +1,8 @@
 use mathlib.Core.Path.{sym}
-use Prim.Native.Nat.{◌-◌}
 use borrow.Author.Tests.{le-leb, lt-leb}
 use Rattle.tables.proofs.SearchLaws.{checking-starts, checking-fails, checking-goes-on, checking-ends}
 use Rattle.tables.proofs.LoopLaws.{refused, passed}
-use Rattle.fit.specs.Fit.{place_fits, record_fits}
+use Rattle.fit.specs.Fit.{record_fits}
 use Rattle.fit.proofs.record_fits.Goals as goal
 
 -- src/lib.rt:102:9

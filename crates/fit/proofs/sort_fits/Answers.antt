@@ -1,11 +1,10 @@
 use mathlib.Core.Path.{sym, ◌∙◌}
 use native.Mathlib.Omega.{arith}
-use Prim.Native.Nat.{◌-◌}
 use borrow.Author.Tests.{le-leb, lt-leb}
 use Rattle.tables.specs.Kept.{most_kept}
 use Rattle.tables.proofs.SearchLaws.{checking-starts, checking-goes-on, checking-ends, every-stops}
 use Rattle.tables.proofs.LoopLaws.{refused, passed}
-use Rattle.fit.specs.Fit.{position_fits, room_fits, sort_fits}
+use Rattle.fit.specs.Fit.{room_fits, sort_fits}
 use Rattle.fit.proofs.RestLaws.{room-refused, sort-rest}
 use Rattle.fit.proofs.sort_fits.Goals as goal
 

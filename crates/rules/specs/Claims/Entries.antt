@@ -1,5 +1,5 @@
 -- What is claimed of a list of entries (02, W3), as of runs. Assumes nothing: these are statements.
-use Rattle.std.specs.Prelude.{◌≡◌, ◌↔◌, ℕ, suc, ◌+◌, ◌≤◌, true, ℤ, pos, length}
+use Rattle.std.specs.Prelude.{◌≡◌, ◌↔◌, ℕ, suc, ◌≤◌, true, ℤ, pos, length}
 use mathlib.Core.List.{List, [], ◌∷◌, ◌++◌, Memᴰ as OneOf}
 use Rattle.std.proofs.Math.Option.{none, some}
 use Rattle.words.specs.Words.{number_of, last_of}

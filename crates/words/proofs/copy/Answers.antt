@@ -1,6 +1,5 @@
 use Rattle.words.proofs.Signed.{back32}
 use mathlib.Core.Path.{◌∙◌}
-use Prim.Native.Nat.{◌-◌}
 use native.Mathlib.Omega.{arith}
 use Rattle.words.proofs.Laws.{copying-starts, copying-stops, copying-goes-on, copying-ends}
 use Rattle.words.proofs.copy.Goals as goal

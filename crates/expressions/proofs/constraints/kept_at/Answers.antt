@@ -1,5 +1,3 @@
-use Prim.Native.Nat.{◌-◌}
-use Rattle.tables.specs.Kept.{position_at}
 use Rattle.expressions.proofs.ConstraintLaws.{kept-start, kept-stop, kept-go-on, kept-end}
 use Rattle.expressions.proofs.constraints.kept_at.Goals as goal
 

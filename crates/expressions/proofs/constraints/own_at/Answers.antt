@@ -1,5 +1,4 @@
 use mathlib.Core.Path.{◌∙◌}
-use borrow.Author.Tests.{not-true, not-false}
 use Rattle.tables.specs.Cells.{cells}
 use Rattle.expressions.proofs.ConstraintLaws.{own-absent, own-there}
 use Rattle.expressions.proofs.constraints.own_at.Goals as goal

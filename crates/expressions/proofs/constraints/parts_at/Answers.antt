@@ -1,4 +1,3 @@
-use Prim.Native.Nat.{◌-◌}
 use Rattle.expressions.proofs.ConstraintLaws.{parts-start, parts-stop, parts-go-on, parts-end}
 use Rattle.expressions.proofs.constraints.parts_at.Goals as goal
 

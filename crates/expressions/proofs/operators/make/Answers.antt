@@ -2,7 +2,7 @@ use mathlib.Core.Path.{◌≡◌, ap, ◌∙◌}
 use Rattle.words.proofs.Signed.{back32}
 use lib.IntN.{◌+ℤ◌, ◌-ℤ◌, ◌*ℤ◌}
 use Rattle.words.specs.Range.{ranged}
-use Rattle.rules.specs.Evaluation.{int_of, bool_of}
+use Rattle.rules.specs.Evaluation.{int_of}
 use Rattle.rules.proofs.OperatorClauses.{made-1, made-2, made-3, made-4, made-5, made-6, made-7, made-8, made-9, made-10, made-11}
 use Rattle.expressions.specs.Told.{ranged_of}
 use Rattle.expressions.proofs.OperatorLaws.{range-is, made_other}

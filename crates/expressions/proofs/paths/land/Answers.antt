@@ -1,4 +1,3 @@
-use Prim.Native.Nat.{◌-◌}
 use Rattle.expressions.proofs.PathLaws.{landing-starts, landing-lost, landing-goes-on, landing-ends}
 use Rattle.expressions.proofs.paths.land.Goals as goal
 

@@ -1,5 +1,5 @@
 use mathlib.Core.Bool.{cond}
-use Prim.Native.Nat.{◌+◌, ◌-◌}
+use Prim.Native.Nat.{◌+◌}
 use lib.Dec.{eqb}
 use Rattle.words.specs.Words.{number_at}
 use Rattle.tables.specs.Cells.{cells}

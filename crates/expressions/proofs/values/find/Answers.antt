@@ -1,6 +1,5 @@
 use borrow.Author.Rules.{rules}
 use mathlib.Core.Path.{sym, ap, ◌∙◌}
-use Prim.Native.Nat.{◌-◌}
 use Rattle.words.specs.Words.{number_of}
 use Rattle.words.proofs.Signed.{back32}
 use Rattle.expressions.proofs.PathLaws.{finding-starts, finding-none, finding-lost, finding-goes-on, finding-ends}

@@ -1,5 +1,5 @@
 use mathlib.Core.Path.{◌∙◌}
-use Prim.Native.Nat.{◌≤◌, ◌<◌, ◌-◌}
+use Prim.Native.Nat.{◌≤◌, ◌<◌}
 use lib.ListN.{drop}
 use Rattle.words.specs.Words.{number_at}
 use Rattle.tables.specs.Cells.{cells}

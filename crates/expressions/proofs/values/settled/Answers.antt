@@ -1,6 +1,5 @@
 use mathlib.Core.Path.{◌≡◌, sym, ◌∙◌}
 use mathlib.Core.Bool.{true, false}
-use borrow.Author.Tests.{not-true, not-false}
 use Rattle.rules.specs.Evaluation.{kind_of, takes, op_of}
 use Rattle.expressions.proofs.OperatorLaws.{kind-back}
 use Rattle.expressions.proofs.OperandLaws.{settled-gives, settled-stands, settled-refuses}

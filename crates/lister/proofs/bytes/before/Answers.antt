@@ -1,4 +1,3 @@
-use Prim.Native.Nat.{◌-◌}
 use Rattle.lister.proofs.ByteLaws.{finding-starts, finding-found, finding-goes-on, finding-ends}
 use Rattle.lister.proofs.bytes.before.Goals as goal
 

@@ -1,4 +1,3 @@
-use Prim.Native.Nat.{◌-◌}
 use Rattle.lister.proofs.ByteLaws.{beginning-starts, beginning-short, beginning-differs, beginning-goes-on, beginning-ends}
 use Rattle.lister.proofs.bytes.begins_with.Goals as goal
 

@@ -1,4 +1,3 @@
-use Prim.Native.Nat.{◌-◌}
 use Rattle.lister.proofs.BufferLaws.{writing-starts, writing-goes-on, writing-ends}
 use Rattle.lister.proofs.bytes.put_all.Goals as goal
 

@@ -1,5 +1,4 @@
 use native.Mathlib.Omega.{arith}
-use Prim.Native.Nat.{◌-◌}
 use Rattle.lister.specs.Listing.{fields_text}
 use Rattle.lister.proofs.ListingLaws.{each-starts, each-goes-on, each-ends}
 use Rattle.lister.proofs.listing.put_fields.Goals as goal

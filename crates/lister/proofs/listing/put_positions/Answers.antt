@@ -1,8 +1,6 @@
 use native.Mathlib.Omega.{arith}
 use mathlib.Core.Path.{ap}
 use Rattle.lister.proofs.BufferLaws.{puts-as}
-use Prim.Native.Nat.{◌-◌}
-use Rattle.tables.specs.Kept.{position_at}
 use Rattle.lister.specs.Listing.{counted_line, positions_text}
 use Rattle.lister.proofs.ListingLaws.{each-starts, each-goes-on, each-ends}
 use Rattle.lister.proofs.listing.put_positions.Goals as goal

@@ -1,4 +1,3 @@
-use Prim.Native.Nat.{◌-◌}
 use Rattle.lister.specs.Listing.{variables_text}
 use Rattle.lister.proofs.ListingLaws.{each-starts, each-goes-on, each-ends}
 use Rattle.lister.proofs.listing.put_variables.Goals as goal

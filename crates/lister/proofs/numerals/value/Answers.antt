@@ -1,4 +1,3 @@
-use Prim.Native.Nat.{◌-◌}
 use native.Mathlib.Omega.{arith}
 use lib.ListN.{get_or}
 use Rattle.lister.proofs.NumeralLaws.{digit-small, valuing-starts, valuing-stops, valuing-passes, valuing-goes-on, valuing-ends}

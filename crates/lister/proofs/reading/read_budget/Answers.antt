@@ -1,5 +1,4 @@
 use mathlib.Core.Path.{sym, ◌∙◌}
-use borrow.Author.Tests.{not-true, not-false}
 use Rattle.lister.proofs.ReadingLaws.{budget-more, budget-unnamed, budget-number}
 use Rattle.lister.proofs.reading.read_budget.Goals as goal
 

@@ -1,5 +1,4 @@
 use mathlib.Core.Path.{sym, ◌∙◌}
-use borrow.Author.Tests.{not-true, not-false}
 use Rattle.lister.proofs.ReadingLaws.{line-unnamed, line-empty, line_row}
 use Rattle.lister.proofs.reading.read_line.Goals as goal
 

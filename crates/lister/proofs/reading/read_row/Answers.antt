@@ -1,4 +1,3 @@
-use Prim.Native.Nat.{◌-◌}
 use mathlib.Core.Path.{◌∙◌, ap}
 use lib.ListN.{set}
 use Rattle.words.proofs.Signed.{back32}

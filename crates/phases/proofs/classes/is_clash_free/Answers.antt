@@ -1,5 +1,3 @@
-use Prim.Native.Nat.{◌-◌}
-use borrow.Author.Tests.{not-true, not-false}
 use Rattle.words.specs.Bits.{marked}
 use Rattle.tables.specs.Cells.{cells}
 use Rattle.phases.specs.Tying.{identity_at}

@@ -1,5 +1,4 @@
 use mathlib.Core.Path.{sym, ◌∙◌}
-use borrow.Author.Tests.{not-true, not-false}
 use Rattle.phases.proofs.classes.is_tie_free.Goals as goal
 
 -- src/classes.rt:231:9

@@ -1,8 +1,6 @@
-use Prim.Native.Nat.{◌-◌}
 use Rattle.words.specs.Bits.{marked}
 use Rattle.tables.specs.Cells.{cells}
 use mathlib.Core.Path.{◌∙◌}
-use borrow.Author.Tests.{not-true, not-false}
 use Rattle.phases.proofs.FreeLaws.{freeing-starts, freeing-fails, freeing-last, freeing-lost, freeing-goes-on, freeing-ends}
 use Rattle.phases.proofs.classes.is_way_free.Goals as goal
 

@@ -1,5 +1,4 @@
 use mathlib.Core.Path.{sym, ◌∙◌}
-use borrow.Author.Tests.{not-true, not-false}
 use Rattle.phases.proofs.classes.may_take.Goals as goal
 
 -- src/classes.rt:190:9

@@ -1,5 +1,4 @@
 use mathlib.Core.Path.{ap, ◌∙◌}
-use Prim.Native.Nat.{◌-◌}
 use Rattle.tables.specs.Cells.{cells}
 use Rattle.rules.specs.Identities.{tie_at}
 use Rattle.phases.specs.Tying.{identity_at, tied_of, turn_of}

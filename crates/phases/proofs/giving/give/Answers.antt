@@ -1,6 +1,5 @@
 use Rattle.tables.specs.Cells.{cells}
 use Rattle.phases.proofs.PhaseLaws.{does-same, target-low, give-lost, give-clash, give-way-clash, give-moves}
-use borrow.Author.Tests.{not-true, not-false}
 use Rattle.phases.proofs.ClassLaws.{unmarked-none}
 use Rattle.phases.proofs.giving.give.Goals as goal
 

@@ -1,6 +1,6 @@
 use mathlib.Core.Path.{◌∙◌}
 use native.Mathlib.Omega.{arith}
-use Prim.Native.Nat.{◌-◌, ◌*◌, ◌/◌}
+use Prim.Native.Nat.{◌*◌, ◌/◌}
 use Rattle.words.proofs.BitLaws.{rest_lt, next_past, next-in, next-on, word_lt, word_in, word_on}
 use Rattle.phases.proofs.giving.next_marked.Goals as goal
 

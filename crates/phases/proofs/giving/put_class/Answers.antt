@@ -1,5 +1,5 @@
 use native.Mathlib.Omega.{arith}
-use Prim.Native.Nat.{◌-◌, ◌+◌}
+use Prim.Native.Nat.{◌+◌}
 use Rattle.words.proofs.BitLaws.{next-least}
 use Rattle.phases.proofs.PutLaws.{giving-starts, giving-goes-on, giving-ends}
 use Rattle.phases.proofs.giving.put_class.Goals as goal

@@ -1,5 +1,5 @@
 use native.Mathlib.Omega.{arith}
-use Prim.Native.Nat.{◌-◌, ◌+◌}
+use Prim.Native.Nat.{◌+◌}
 use Rattle.words.proofs.BitLaws.{next-least}
 use Rattle.phases.proofs.PutLaws.{taking-starts, taking-goes-on, taking-ends}
 use Rattle.phases.proofs.giving.take_back.Goals as goal

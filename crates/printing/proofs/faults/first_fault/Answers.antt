@@ -1,4 +1,3 @@
-use Prim.Native.Nat.{◌-◌}
 use mathlib.Core.Path.{◌∙◌, sym}
 use Rattle.printing.proofs.FaultLaws.{faulting-starts, faulting-found, faulting-goes-on, faulting-ends}
 use Rattle.printing.proofs.faults.first_fault.Goals as goal

@@ -1,5 +1,4 @@
 use mathlib.Core.Path.{◌∙◌, sym}
-use borrow.Author.Tests.{not-true, not-false}
 use Rattle.printing.proofs.FaultLaws.{twin-unhad, twin-variable, twin-label}
 use Rattle.printing.proofs.faults.has_twin.Goals as goal
 

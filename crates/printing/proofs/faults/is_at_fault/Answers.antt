@@ -1,5 +1,4 @@
 use mathlib.Core.Path.{◌∙◌, sym}
-use borrow.Author.Tests.{not-true, not-false}
 use Rattle.printing.proofs.FaultLaws.{fault-unfit, fault-early, fault-twin}
 use Rattle.printing.proofs.faults.is_at_fault.Goals as goal
 

@@ -1,5 +1,4 @@
 use mathlib.Core.Path.{◌∙◌, sym}
-use borrow.Author.Tests.{not-true, not-false}
 use Rattle.printing.proofs.FaultLaws.{fit-ungiven, fit-no-part, fit-part}
 use Rattle.printing.proofs.faults.is_fit.Goals as goal
 

@@ -1,4 +1,3 @@
-use Prim.Native.Nat.{◌-◌}
 use mathlib.Core.Path.{◌∙◌, sym}
 use Rattle.printing.proofs.FaultLaws.{twins-start, twins-found, twins-unhad, twins-unlike, twins-end}
 use Rattle.printing.proofs.faults.twin_from.Goals as goal
@@ -18,8 +17,8 @@ returns-then-are_twins c =
 pub loop-k-preserved : goal.loop-k-preserved
 loop-k-preserved c =
     elim c.if-is_had.branch [
-      then-is_had+else-are_twins w ↦ twins-unlike c.loop-k.invariant c.loop-k-test.true (sym w.are_twins.ensures ∙ w.if-are_twins.false) |
-      else-is_had w ↦ twins-unhad c.loop-k.invariant c.loop-k-test.true (sym c.is_had.ensures ∙ w.if-is_had.false)
+      | then-is_had+else-are_twins w ↦ twins-unlike c.loop-k.invariant c.loop-k-test.true (sym w.are_twins.ensures ∙ w.if-are_twins.false)
+      | else-is_had w ↦ twins-unhad c.loop-k.invariant c.loop-k-test.true (sym c.is_had.ensures ∙ w.if-is_had.false)
     ]
 
 -- src/faults.rt:89:1

@@ -1,4 +1,3 @@
-use Prim.Native.Nat.{◌-◌}
 use Rattle.printing.proofs.PageLaws.{adding-starts, adding-goes-on, adding-ends}
 use Rattle.printing.proofs.page.add.Goals as goal
 

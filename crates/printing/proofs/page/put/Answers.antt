@@ -9,8 +9,8 @@ use Rattle.printing.proofs.page.put.Goals.{Joined-i-out, then-i-out, else-i-out}
 stored : (c : Joined-i-out) → c.if-i-out.out ≡ set c.args.out.now (get_or c.args.at.now 0 0) c.args.b
 stored c =
     elim c.if-i-out.branch [
-      then-i-out w ↦ w.out-is |
-      else-i-out w ↦ w.out-is ∙ sym (set_out c.args.out.now (get_or c.args.at.now 0 0) c.args.b w.if-i-out.false)
+      | then-i-out w ↦ w.out-is
+      | else-i-out w ↦ w.out-is ∙ sym (set_out c.args.out.now (get_or c.args.at.now 0 0) c.args.b w.if-i-out.false)
     ]
 
 -- src/page.rt:9:1

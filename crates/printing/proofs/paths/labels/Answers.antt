@@ -1,7 +1,6 @@
 use mathlib.Core.Path.{refl}
 use mathlib.Core.List.{[], ◌∷◌}
 use Rattle.printing.specs.Signs.{dot_sign}
-use Prim.Native.Nat.{◌-◌}
 use Rattle.printing.proofs.PageLaws.{wrote-length, wrote_then, wrote-plain, wrote-label}
 use Rattle.printing.proofs.RowLaws.{labels-start, labels-go-on, labels-end}
 use Rattle.printing.proofs.paths.labels.Goals as goal

@@ -1,4 +1,3 @@
-use Prim.Native.Nat.{◌-◌}
 use mathlib.Core.Path.{refl}
 use Rattle.printing.specs.Printing.{fields_text}
 use Rattle.printing.proofs.PageLaws.{wrote-length}

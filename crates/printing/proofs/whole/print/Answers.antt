@@ -1,5 +1,4 @@
 use mathlib.Core.Path.{sym, ◌∙◌}
-use borrow.Author.Tests.{not-true, not-false}
 use Rattle.printing.proofs.WholeLaws.{seen-length, count-is, anew, fault-answers, long-answers, whole-answers}
 use Rattle.printing.proofs.whole.print.Goals as goal
 

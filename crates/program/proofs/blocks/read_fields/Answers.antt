@@ -1,5 +1,4 @@
 use mathlib.Core.Path.{◌∙◌}
-use Prim.Native.Nat.{◌-◌}
 use borrow.Author.Tests.{not-true, not-false}
 use Rattle.program.proofs.LengthLaws.{after-part, uses-keeps, expression-uses}
 use Rattle.program.proofs.BlockLaws.{fields-start, label-high, label-twice, field-stops, field-goes-on, fields-end}

@@ -1,4 +1,3 @@
-use Prim.Native.Nat.{◌-◌}
 use Rattle.tables.proofs.SearchLaws.{checking-starts, checking-fails, checking-goes-on, checking-ends}
 use Rattle.tables.proofs.LoopLaws.{refused, passed}
 use Rattle.program.specs.Where.{positions_stand}

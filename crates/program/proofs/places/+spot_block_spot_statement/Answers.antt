@@ -1,10 +1,8 @@
 use mathlib.Core.Path.{◌≡◌, sym, ◌∙◌}
 use mathlib.Core.Bool.{false}
-use Prim.Native.Nat.{◌-◌}
 use native.Mathlib.Omega.{arith}
 use lib.ListN.{drop}
 use Rattle.program.specs.Reading.{read_expression, read_block, after}
-use Rattle.program.specs.Where.{spot_block}
 use Rattle.program.proofs.LengthLaws.{after-part, uses-keeps, expression-uses, block-uses}
 use Rattle.program.proofs.WhereLaws.{after_is, spot-here, spot-loop, spot-branch, spot-none, spot-deep, spot-long, looking-starts, looking-finds, looking-goes-on, looking-ends}
 use Rattle.program.proofs.places.+spot_block_spot_statement.Goals as goal

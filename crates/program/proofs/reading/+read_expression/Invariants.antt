@@ -1,4 +1,3 @@
-use Prim.Native.Nat.{◌-◌}
 use Rattle.program.proofs.reading.+read_expression.Given as goal
 
 abbrev pub decreases-read_expression : goal.decreases-read_expression

@@ -1,5 +1,4 @@
 use mathlib.Core.Path.{◌∙◌}
-use Prim.Native.Nat.{◌-◌}
 use Rattle.program.proofs.ReadLaws.{labelling-starts, labelling-stops, labelling-goes-on, labelling-ends}
 use Rattle.program.proofs.reading.read_labels.Goals as goal
 

@@ -1,5 +1,4 @@
 use mathlib.Core.Path.{◌∙◌, ap}
-use Prim.Native.Nat.{◌-◌}
 use lib.ListN.{set}
 use Rattle.words.proofs.Signed.{back32}
 use Rattle.proposals.proofs.ProposalLaws.{applying-starts, applying-goes-on, applying-ends}

@@ -1,4 +1,3 @@
-use Prim.Native.Nat.{◌-◌}
 use Rattle.proposals.proofs.FormLaws.{pairs_start, pairs-cut, pairs-low, pairs-high, pairs-go-on, pairs_end}
 use Rattle.proposals.proofs.settling.are_pairs.Goals as goal
 

@@ -1,6 +1,4 @@
 use mathlib.Core.Path.{sym, ◌∙◌}
-use Prim.Native.Nat.{◌-◌}
-use borrow.Author.Tests.{not-true, not-false}
 use Rattle.words.proofs.Signed.{back32}
 use Rattle.proposals.proofs.ProposalLaws.{entries-start, entries-aimed, entries-unfit, entries-go-on, entries-end}
 use Rattle.proposals.proofs.settling.entries_fit.Goals as goal

@@ -1,4 +1,3 @@
-use borrow.Author.Tests.{not-true, not-false}
 use Rattle.proposals.proofs.FormLaws.{form-none, form-many, form-broken, form-pairs}
 use Rattle.proposals.proofs.settling.form_of.Goals as goal
 

@@ -1,5 +1,4 @@
 use mathlib.Core.Path.{sym}
-use borrow.Author.Tests.{not-true, not-false}
 use Rattle.tables.specs.Cells.{cells}
 use Rattle.proposals.specs.Told.{asks_of}
 use Rattle.proposals.proofs.ProposalLaws.{judge-unmet, judge-takes, judge-unfit, judge-needless, judge-tries}

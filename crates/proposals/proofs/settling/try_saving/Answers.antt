@@ -1,4 +1,3 @@
-use borrow.Author.Tests.{not-true, not-false}
 use lib.ListN.{drop}
 use Rattle.tables.specs.Cells.{cells}
 use Rattle.expressions.specs.Judging.{own_of}

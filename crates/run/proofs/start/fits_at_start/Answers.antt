@@ -1,7 +1,6 @@
 use mathlib.Core.Path.{sym, ◌∙◌}
-use borrow.Author.Tests.{not-true, not-false}
 use Rattle.words.specs.Answer.{◌>>◌, want}
-use Rattle.fit.specs.Fit.{environment_fits, heap_fits}
+use Rattle.fit.specs.Fit.{heap_fits}
 use Rattle.program.specs.Where.{constraints_stand}
 use Rattle.rules.specs.Start.{early, kept_at_start}
 use Rattle.phases.specs.Told.{tables}

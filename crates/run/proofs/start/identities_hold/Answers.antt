@@ -1,4 +1,3 @@
-use Prim.Native.Nat.{◌-◌}
 use Rattle.tables.specs.Cells.{cells}
 use Rattle.tables.specs.Kept.{position_at}
 use Rattle.tables.specs.declared.Sort.TheVariants.{Identities}

@@ -1,7 +1,6 @@
 use Rattle.fit.specs.Fit.{sized}
 use Rattle.rules.specs.Start.{early, budget_fits, tables_at_start}
 use mathlib.Core.Path.{sym, ◌∙◌}
-use borrow.Author.Tests.{not-true, not-false}
 use Rattle.words.specs.Answer.{◌>>◌}
 use Rattle.words.proofs.Signed.{back32}
 use Rattle.program.specs.Reading.{read_program}

@@ -1,6 +1,4 @@
 use mathlib.Core.Path.{ap, ◌∙◌}
-use Prim.Native.Nat.{◌-◌}
-use borrow.Author.Tests.{not-true, not-false}
 use lib.ListN.{drop}
 use Rattle.tables.specs.Cells.{cells}
 use Rattle.tables.specs.Kept.{position_at}

@@ -1,5 +1,4 @@
 use mathlib.Core.Path.{sym, ◌∙◌}
-use borrow.Author.Tests.{not-true, not-false}
 use Rattle.words.proofs.Signed.{back32}
 use Rattle.phases.specs.Told.{tables}
 use Rattle.solvers.proofs.OpenLaws.{opens-wrong, opens-unread, opens-unnamed, opens-begins, opens-early}

@@ -1,5 +1,4 @@
 use mathlib.Core.Path.{sym, ◌∙◌}
-use borrow.Author.Tests.{not-true, not-false}
 use Rattle.tables.specs.Cells.{cells}
 use Rattle.rules.specs.Paths.{value_at}
 use Rattle.rules.proofs.EvaluateClauses.{value-part}

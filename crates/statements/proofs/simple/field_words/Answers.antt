@@ -1,6 +1,5 @@
 use borrow.Author.Rules.{rules}
 use mathlib.Core.Path.{◌∙◌}
-use Prim.Native.Nat.{◌-◌}
 use native.Mathlib.Omega.{arith}
 use Rattle.words.proofs.Signed.{back32}
 use Rattle.statements.proofs.FieldLaws.{fields-start, fields-label, fields-stop, fields-go-on, fields-end}

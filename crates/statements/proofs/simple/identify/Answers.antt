@@ -1,5 +1,4 @@
 use mathlib.Core.Path.{sym, ◌∙◌}
-use borrow.Author.Tests.{not-true, not-false}
 use Rattle.tables.specs.Cells.{cells}
 use Rattle.statements.proofs.SimpleLaws.{identify-fails, identify-full, identify-once, identify-keeps}
 use Rattle.statements.proofs.simple.identify.Goals as goal

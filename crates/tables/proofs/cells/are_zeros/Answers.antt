@@ -1,5 +1,5 @@
 use mathlib.Core.Path.{◌≡◌}
-use Prim.Native.Nat.{◌-◌, ◌+◌}
+use Prim.Native.Nat.{◌+◌}
 use lib.IntN.{pos}
 use Rattle.words.specs.Words.{word_at, eq_z}
 use Rattle.words.proofs.Signed.{back32}

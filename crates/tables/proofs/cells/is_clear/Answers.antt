@@ -1,4 +1,3 @@
-use Prim.Native.Nat.{◌-◌}
 use Rattle.tables.proofs.ClearLaws.{clearing-starts, clearing-goes-on, clearing-ends}
 use Rattle.tables.proofs.cells.is_clear.Goals as goal
 

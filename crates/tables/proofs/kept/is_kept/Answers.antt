@@ -1,7 +1,5 @@
 use mathlib.Core.Path.{sym, ◌∙◌}
-use Prim.Native.Nat.{◌-◌}
 use borrow.Author.Tests.{ne_eqb}
-use Rattle.tables.specs.Kept.{position_at}
 use Rattle.tables.proofs.SearchLaws.{seeking-starts, seeking-goes-on}
 use Rattle.tables.proofs.FindLaws.{kept-hits, kept-ends}
 use Rattle.tables.proofs.kept.is_kept.Goals as goal

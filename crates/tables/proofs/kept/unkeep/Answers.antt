@@ -1,7 +1,6 @@
 use Prim.Native.Nat.{◌-◌, ◌<◌, ◌≤◌}
 use native.Mathlib.Omega.{arith}
 use borrow.Author.Tests.{lt-ltb, le-ltb}
-use Rattle.words.specs.Words.{word_of}
 use Rattle.words.proofs.Signed.{back32}
 use Rattle.words.proofs.Laws.{word-is}
 use Rattle.tables.specs.Kept.{without_position, kept_count}

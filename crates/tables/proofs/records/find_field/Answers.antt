@@ -1,9 +1,7 @@
 use mathlib.Core.Path.{sym, ◌∙◌}
-use Prim.Native.Nat.{◌-◌}
 use native.Mathlib.Omega.{arith}
 use borrow.Author.Tests.{ne_eqb}
 use Rattle.tables.specs.Sizes.{field_location}
-use Rattle.tables.specs.Records.{label_at}
 use Rattle.tables.proofs.SearchLaws.{seeking-starts, seeking-goes-on}
 use Rattle.tables.proofs.FindLaws.{field_in, find-hits, find-ends}
 use Rattle.tables.proofs.records.find_field.Goals as goal

@@ -1,7 +1,6 @@
 use mathlib.Core.List.{[], ◌∷◌}
 use native.Mathlib.Omega.{arith}
 use mathlib.Core.Path.{refl, ◌∙◌}
-use Prim.Native.Nat.{◌-◌}
 use Rattle.words.proofs.Signed.{back32}
 use Rattle.text.specs.Told.{carried}
 use Rattle.text.proofs.FieldCode.{turn-ahead, fields-start, fields-halt, fields-end, fields-more, fields-past}

@@ -1,7 +1,6 @@
 use Rattle.words.proofs.Signed.{back32}
 use mathlib.Core.Path.{refl, ◌∙◌}
 use native.Mathlib.Omega.{arith}
-use Prim.Native.Nat.{◌-◌}
 use lib.Dec.{eqb}
 use Rattle.text.specs.Told.{carried, next_of}
 use Rattle.text.proofs.WrittenLaws.{passes}

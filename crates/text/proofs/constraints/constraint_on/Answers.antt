@@ -1,5 +1,4 @@
 use mathlib.Core.Path.{refl, ◌∙◌}
-use Prim.Native.Nat.{◌-◌}
 use native.Mathlib.Omega.{arith}
 use lib.Dec.{eqb}
 use Rattle.words.proofs.Signed.{back32}
@@ -60,25 +59,24 @@ loop-m-smaller c =
 
 pub loop-m-preserved : goal.loop-m-preserved
 unfolding carried
-loop-m-preserved c =
+loop-m-preserved c = (
+  c.part_at.auto.names ∙ c.loop-m.invariant.0,
+  (
+    c.part_at.auto.words ∙ c.loop-m.invariant.1.0,
     (
-      c.part_at.auto.names ∙ c.loop-m.invariant.0,
-      (
-        c.part_at.auto.words ∙ c.loop-m.invariant.1.0,
-        (
-          c.part_at.auto.origins ∙ c.loop-m.invariant.1.1.0,
-          λ h.
-              let i = c.loop-m.invariant.1.1.1 h in
-              let j = ahead-passed c.args.text.now (carried c.take.new.s) (eqb c.loop-m.m 16) c.pass.ensures
-              (c.take.ensures.ahead i.0) in (
-                c.part_at.ensures.ahead j,
-                parted-on i.1 c.loop-m-test.true c.if-s-ne0.false i.0 c.if-s-ne-BESIDE.false (c.take.ensures.follows i.0)
-                    (passes (eqb c.loop-m.m 16) (carried c.take.new.s) c.pass.ensures) refl (c.part_at.ensures.piece j)
-                    c.part_at.auto.names c.part_at.auto.words c.part_at.auto.origins,
-              ),
-        ),
-      ),
-    )
+      c.part_at.auto.origins ∙ c.loop-m.invariant.1.1.0,
+      λ h.
+          let i = c.loop-m.invariant.1.1.1 h in
+          let j = ahead-passed c.args.text.now (carried c.take.new.s) (eqb c.loop-m.m 16) c.pass.ensures
+          (c.take.ensures.ahead i.0) in (
+            c.part_at.ensures.ahead j,
+            parted-on i.1 c.loop-m-test.true c.if-s-ne0.false i.0 c.if-s-ne-BESIDE.false (c.take.ensures.follows i.0)
+                (passes (eqb c.loop-m.m 16) (carried c.take.new.s) c.pass.ensures) refl (c.part_at.ensures.piece j)
+                c.part_at.auto.names c.part_at.auto.words c.part_at.auto.origins,
+          ),
+    ),
+  ),
+)
 
 pub shape_of-names : goal.shape_of-names
 shape_of-names c = c.loop-m.invariant.0

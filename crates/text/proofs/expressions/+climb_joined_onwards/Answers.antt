@@ -1,11 +1,9 @@
 use mathlib.Core.Path.{◌≡◌, refl, sym, ap, subst, ◌∙◌}
 use mathlib.Core.Bool.{cond}
-use Prim.Native.Nat.{suc, ◌-◌, ◌≤◌}
+use Prim.Native.Nat.{suc, ◌≤◌}
 use native.Mathlib.Omega.{arith}
-use mathlib.Core.Logic.{⊎_elim}
-use borrow.Author.Tests.{ltb-true, not-true, not-false}
+use borrow.Author.Tests.{ltb-true}
 use lib.Dec.{eqb, ltb}
-use lib.ListN.{length}
 use Rattle.tables.proofs.SearchLaws.{and_left, and_right}
 use Rattle.text.specs.Told.{carried, next_of, Ahead}
 use Rattle.text.proofs.AnswerSteps.{refused-stops}
@@ -192,27 +190,25 @@ onwards-loop-round-preserved t c =
     let i = c.loop-round.invariant in
     let more = c.loop-round-test.true in
     let z = c.if-s-ne0.false in
-    let text = c.args.text.now in
-    (
+    let text = c.args.text.now in (
       c.if-code-b.auto.names ∙ i.0,
       c.if-code-b.auto.words ∙ i.1,
       c.if-code-b.auto.origins ∙ i.2,
       λ h.
-      elim c.if-code-b.branch [
-        onwards-then-code-b w ↦ (
-          subst (λ x. Ahead text (carried x)) (sym w.s-is) (w.take.ensures.ahead (i.3 h).0),
-          turns_as w.names-is w.words-is w.origins-is (ap carried w.s-is) w.b-is
-              (turns-close (i.3 h).1 more z (i.3 h).0 w.if-code-b.true (w.take.ensures.follows (i.3 h).0)),
-        ) |
-        onwards-else-code-b+else-not-joins w ↦
-            let j = sym w.joins.ensures ∙ w.if-not-joins.false in
-            (
-              subst (λ x. Ahead text (carried x)) (sym w.s-is) (w.joined.ensures.ahead (i.3 h).0),
+          elim c.if-code-b.branch [
+            | onwards-then-code-b w ↦ (
+              subst (λ x. Ahead text (carried x)) (sym w.s-is) (w.take.ensures.ahead (i.3 h).0),
               turns_as w.names-is w.words-is w.origins-is (ap carried w.s-is) w.b-is
-                  (turns-join (i.3 h).1 more z (i.3 h).0 w.if-code-b.false j (w.joined.ensures.onward (i.3 h).0 (and_left _ _ j)) (w.joined.ensures.s_bound (i.3 h).0) w.joined.auto.names
-                  w.joined.auto.words w.joined.auto.origins),
+                  (turns-close (i.3 h).1 more z (i.3 h).0 w.if-code-b.true (w.take.ensures.follows (i.3 h).0)),
             )
-      ],
+            | onwards-else-code-b+else-not-joins w ↦
+                let j = sym w.joins.ensures ∙ w.if-not-joins.false in (
+                  subst (λ x. Ahead text (carried x)) (sym w.s-is) (w.joined.ensures.ahead (i.3 h).0),
+                  turns_as w.names-is w.words-is w.origins-is (ap carried w.s-is) w.b-is
+                      (turns-join (i.3 h).1 more z (i.3 h).0 w.if-code-b.false j (w.joined.ensures.onward (i.3 h).0 (and_left _ _ j)) (w.joined.ensures.s_bound (i.3 h).0) w.joined.auto.names
+                      w.joined.auto.words w.joined.auto.origins),
+                )
+          ],
     )
 
 -- src/expressions.rt:298:9

@@ -1,4 +1,3 @@
-use Prim.Native.Nat.{◌-◌}
 use Rattle.text.specs.Told.{carried}
 use Rattle.text.proofs.LiteralCode.{opening-starts, opening-stopped, opening-over, opening-ends, opening-goes-on}
 use Rattle.text.proofs.AheadLaws.{ahead-counted}
@@ -25,12 +24,11 @@ returns-then-s-ne-OPEN_BRACKET c =
 -- src/expressions.rt:159:5
 pub loop-b-preserved : goal.loop-b-preserved
 unfolding carried
-loop-b-preserved c =
-    (
-      λ h. opening-goes-on (c.loop-b.invariant.0 h) c.loop-b-test.true c.if-s-ne0.false (c.loop-b.invariant.1 h) c.if-s-ne-OPEN_BRACKET.false
-          (c.take.ensures.follows (c.loop-b.invariant.1 h)),
-      λ h. c.take.ensures.ahead (c.loop-b.invariant.1 h),
-    )
+loop-b-preserved c = (
+  λ h. opening-goes-on (c.loop-b.invariant.0 h) c.loop-b-test.true c.if-s-ne0.false (c.loop-b.invariant.1 h) c.if-s-ne-OPEN_BRACKET.false
+      (c.take.ensures.follows (c.loop-b.invariant.1 h)),
+  λ h. c.take.ensures.ahead (c.loop-b.invariant.1 h),
+)
 
 -- src/expressions.rt:154:1
 pub returns : goal.returns

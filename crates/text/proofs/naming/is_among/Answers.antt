@@ -1,4 +1,3 @@
-use Prim.Native.Nat.{◌-◌}
 use borrow.Author.Tests.{lt-ltb, le-ltb}
 use Rattle.text.proofs.NamingLaws.{among-starts, among-hits, among-goes-on, among-ends}
 use Rattle.text.proofs.naming.is_among.Goals as goal

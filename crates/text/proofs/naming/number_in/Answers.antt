@@ -1,5 +1,4 @@
 use mathlib.Core.Path.{sym, ◌∙◌}
-use Prim.Native.Nat.{◌-◌}
 use Rattle.text.proofs.NamingLaws.{naming-starts, naming-hits, naming-goes-on, naming-ends}
 use Rattle.text.proofs.naming.number_in.Goals as goal
 

@@ -1,4 +1,3 @@
-use Prim.Native.Nat.{◌-◌}
 use Rattle.text.proofs.paths.+steps.Given as goal
 
 abbrev pub decreases-steps : goal.decreases-steps

@@ -1,7 +1,6 @@
 use mathlib.Core.Path.{sym, ◌∙◌}
 use Rattle.text.specs.Told.{carried}
 use native.Mathlib.Omega.{arith}
-use borrow.Author.Tests.{not-true, not-false}
 use Rattle.text.proofs.ToldLaws.{room_small}
 use Rattle.text.proofs.StateLaws.{row_room, row-behind, took-none, took-room}
 use Rattle.text.proofs.reading.taken.Goals as goal

@@ -1,6 +1,5 @@
 use native.Mathlib.Omega.{arith}
 use mathlib.Core.Path.{sym, ◌∙◌}
-use borrow.Author.Tests.{not-true, not-false}
 use Rattle.text.specs.Told.{carried}
 use Rattle.text.proofs.WholeCode.{unsized, stops, accepts, most-of}
 use Rattle.text.proofs.whole.read.Goals as goal

@@ -1,6 +1,5 @@
 use mathlib.Core.Path.{◌∙◌}
 use Rattle.words.proofs.Signed.{back32}
-use Prim.Native.Nat.{◌-◌}
 use Rattle.text.proofs.ToldNames.{telling-starts, telling-goes-on, telling-ends}
 use Rattle.text.proofs.whole.tell.Goals as goal
 

@@ -1,5 +1,4 @@
 use mathlib.Core.Path.{ap}
-use Prim.Native.Nat.{◌-◌}
 use lib.ListN.{drop_of_length-le}
 use Rattle.words.proofs.Signed.{back32}
 use Rattle.text.specs.Reading.{everywhere}

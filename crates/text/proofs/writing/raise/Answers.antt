@@ -8,12 +8,11 @@ loop-i-init c = (raising-starts, raising-starts)
 
 -- src/writing.rt:120:5
 pub loop-i-preserved : goal.loop-i-preserved
-loop-i-preserved c =
-    (
-      raising-goes-on c.loop-i.invariant.0 c.loop-i-test.true c.word_at-w.ensures
-          (rw (back32 c.word_at-w.result (record { sfits = c.word_at-w.type_inv })) at c.put_word.ensures.words_after),
-      raising-goes-on c.loop-i.invariant.1 c.loop-i-test.true c.word-p.ensures c.put_word.ensures.origins_after,
-    )
+loop-i-preserved c = (
+  raising-goes-on c.loop-i.invariant.0 c.loop-i-test.true c.word_at-w.ensures
+      (rw (back32 c.word_at-w.result (record { sfits = c.word_at-w.type_inv })) at c.put_word.ensures.words_after),
+  raising-goes-on c.loop-i.invariant.1 c.loop-i-test.true c.word-p.ensures c.put_word.ensures.origins_after,
+)
 
 -- src/writing.rt:113:1
 pub shape_of-words : goal.shape_of-words

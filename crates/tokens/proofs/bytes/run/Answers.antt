@@ -1,7 +1,4 @@
 use mathlib.Core.Path.{sym, ◌∙◌}
-use Prim.Native.Nat.{◌-◌}
-use borrow.Author.Tests.{not-true, not-false}
-use Rattle.tokens.specs.Bytes.{is_of}
 use Rattle.tokens.proofs.ByteLaws.{running-starts, running-stops, running-goes-on, running-ends}
 use Rattle.tokens.proofs.bytes.run.Goals as goal
 

@@ -1,5 +1,4 @@
 use mathlib.Core.Path.{sym, ◌∙◌}
-use Prim.Native.Nat.{◌-◌}
 use Rattle.tokens.proofs.ByteLaws.{spelt-length, spelling-starts, spelling-differs, spelling-goes-on, spelling-ends}
 use Rattle.tokens.proofs.bytes.spells.Goals as goal
 
