@@ -11,7 +11,7 @@ SPECS = ROOT / "crates" / "rules" / "specs"
 MOST = 400
 MOST_OF_A_REQUEST = 100
 ROW = re.compile(r"^\| `([A-Za-z/]+)` \| (\d+) \|", re.M)
-USE = re.compile(r"^use Rattle·rules·specs\.specs\.([A-Za-z.]+)\.\{(.*)\}$", re.M)
+USE = re.compile(r"^use Rattle\.rules\.specs\.([A-Za-z.]+)\.\{(.*)\}$", re.M)
 faults = []
 
 

@@ -1,5 +1,5 @@
 #!/usr/bin/env python3
-"""Tests the programs target/bin/list and target/bin/print by what they print. The lister: every sheet of sheets/ gives its output; texts of 0, 65,536 and 65,537 bytes, binary rubbish and
+"""Tests the programs `list` and `print` by what they print. The lister: every sheet of sheets/ gives its output; texts of 0, 65,536 and 65,537 bytes, binary rubbish and
 texts that come one byte at a time are answered as the independent program answers them. The second program: every sheet with a `.printed` beside it gives that, and whatever does not read
 is refused as the lister refuses it."""
 import pathlib

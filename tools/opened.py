@@ -9,8 +9,13 @@ import sys
 SHEETS = [pathlib.Path("crates", crate, folder, "Sheets.antt") for crate in ("rules", "lister", "sheet", "text") for folder in ("specs", "proofs")]
 # the crates that know where words stand; the offsets' names, the heap's length, and its 25 words to a record
 KNOWING = ("words", "tables")
-OFFSETS = re.compile(r"(?<![\w·-])(countWord|labelWord|fieldWord|locationWord|keptWord|firstKept|recordWords|1601|25 \*)(?![\w·-])")
+OFFSETS = re.compile(r"(?<![\w-])(count_word|label_word|field_word|location_word|kept_word|first_kept|record_words|1601|25 \*)(?![\w-])")
 own, wrong, told, lines_seen = {}, [], [], 0
+
+
+def files(crate):
+    """What is written of a crate, without what the kit makes of it."""
+    return [path for part in ("src", "specs", "proofs") for path in sorted((crate / part).rglob("*"))]
 
 
 def lines_of(path):
@@ -19,18 +24,20 @@ def lines_of(path):
 
 for crate in sorted(pathlib.Path("crates").iterdir()):
     names = set()
-    for path in crate.rglob("*.antt"):
+    for path in files(crate):
+        if path.suffix != ".antt":
+            continue
         for _, line in lines_of(path):
             found = re.match(r"\s*(?:unfoldable |abbrev )?(?:pub )?(?:unfoldable |abbrev )?(\S+) :", line)
             if found:
                 names.add(found.group(1))
             # a name that the crate gives a definition of its own
-            if re.match(rf"use Rattle·{crate.name}·", line):
+            if re.match(rf"use Rattle\.{crate.name}\.", line):
                 names.update(re.findall(r" as (\S+?)[,}]", line))
     own[crate.name] = names
 for crate, names in own.items():
-    for path in sorted(pathlib.Path("crates", crate).rglob("*.antt")):
-        if path in SHEETS:
+    for path in files(pathlib.Path("crates", crate)):
+        if path in SHEETS or path.suffix != ".antt":
             continue
         for number, line in lines_of(path):
             found = re.match(r"\s*unfolding (.*)", line)
@@ -43,7 +50,7 @@ for crate, names in own.items():
                     wrong.append(f"{path}:{number}: {name}")
     if crate in KNOWING:
         continue
-    for path in sorted(pathlib.Path("crates", crate).rglob("*")):
+    for path in files(pathlib.Path("crates", crate)):
         if path in SHEETS or path.suffix not in (".antt", ".rt"):
             continue
         for number, line in lines_of(path):

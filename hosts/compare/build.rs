@@ -6,8 +6,8 @@
 use std::path::{Path, PathBuf};
 use std::process::{exit, Command};
 
-const COMPARED: &str = "../../target/staticlib/libcompared.a";
-const CORDBASIN: &str = "../../target/staticlib/libcordbasin.a";
+const COMPARED: &str = "../../target/native/libcompared.a";
+const CORDBASIN: &str = "../../target/native/libcordbasin.a";
 const NATIVE: [&str; 1] = ["sheet"];
 const BRIDGE: &str = "bridge/bridge.c";
 
@@ -18,14 +18,14 @@ fn main() {
     }
     let compared = root.join(COMPARED);
     if !compared.is_file() {
-        fail("target/staticlib/libcompared.a is missing: run `rt staticlib compared` first");
+        fail("target/native/libcompared.a is missing: run `tools/native compared` first");
     }
     if variable("CARGO_CFG_TARGET_ARCH") == "x86_64" {
         link(&compared, "compared");
     } else {
         let cordbasin = root.join(CORDBASIN);
         if !cordbasin.is_file() {
-            fail("target/staticlib/libcordbasin.a is missing: run `rt staticlib cordbasin` first");
+            fail("target/native/libcordbasin.a is missing: run `tools/native cordbasin` first");
         }
         bridge(&root.join(BRIDGE), &[&compared, &cordbasin]);
     }

@@ -264,8 +264,8 @@ class Options(unittest.TestCase):
                 self.assertEqual(numbers[4], 0)
 
     def test_the_lister_reads_the_proposals(self) -> None:
-        if not (ROOT / "target" / "bin" / "list").exists():
-            self.skipTest("left out: target/bin/list is not built")
+        if not (ROOT / "crates" / "list" / "out" / "list").exists():
+            self.skipTest("left out: crates/list/out/list is not built")
         for path, place, told in proposed(self.solver):
             with self.subTest(title(path)), open(place, "rb") as typed:
                 done = subprocess.run([ROOT / "tools" / "run", "list"], stdin=typed, stdout=subprocess.PIPE)
