@@ -3,7 +3,7 @@
 
 Writes a scratch repository under target/definitions: the crates up to rules, and a crate `computed` whose one claim is
 that the definitions give, for each sheet, what reference/ answers (outcome, place, steps, accepted proposals, unread
-words and the three tables). `rt dev computed` there lets the checker compute it. Sheets are taken so that every outcome
+words and the three tables). `rt check` in its folder lets the checker compute it. Sheets are taken so that every outcome
 comes up as evenly as the generator allows; long programs and runs of many steps are passed over, since the checker
 computes slowly."""
 import pathlib
@@ -17,7 +17,7 @@ SCRATCH = HERE / "target" / "definitions"
 REFERENCE = HERE / "reference" / "target" / "release" / "reference"
 SIZES = (128, 1601, 98)
 MOST_WORDS, MOST_STEPS, MOST_PROPOSALS, MOST_USED = 80, 15, 100, 60
-SHEETS_TO_A_CLAIM, LONG_ONES = 4, 2
+SHEETS_TO_A_CLAIM, LONG_ONES = 1, 2
 
 
 def numbers(text, size):
@@ -60,7 +60,7 @@ def answered(seed, count):
             so_far = sum(o == outcome for o in taken.values())
             if (line, answer) in taken or (even and so_far >= share):
                 continue
-            if long and (outcome not in (10, 14) or so_far >= LONG_ONES or len(program) > 4 * MOST_WORDS):
+            if long and (outcome not in (10, 14) or so_far >= LONG_ONES or len(program) > 2 * MOST_WORDS):
                 continue
             taken[(line, answer)] = outcome
             left = [b if a == "=" else numbers(a, 0) for a, b in zip(after, before)]
@@ -71,14 +71,14 @@ def answered(seed, count):
 
 
 HEAD = """-- What the definitions give for generated sheets, and what the independent program answers. Assumes nothing.
-use mathlib.Core.Path.{_≡_, refl}
+use mathlib.Core.Path.{◌≡◌, refl}
 use Prim.Native.Nat.{ℕ}
-use mathlib.Core.List.{List, [], _∷_}
+use mathlib.Core.List.{List, [], ◌∷◌}
 use lib.IntN.{ℤ, pos, negsuc}
 use lib.ListN.{replicate}
-use Rattle·tables.specs.Cells.{cells}
-use Rattle·rules.specs.State.{State}
-use Rattle·rules.specs.Start.{Ended}
+use Rattle.tables.specs.Cells.{cells}
+use Rattle.rules.specs.State.{State}
+use Rattle.rules.specs.Start.{Ended}
 """
 
 KINDS = """
@@ -97,16 +97,16 @@ abbrev told : ℕ → ℕ → ℕ → ℕ → List ℤ → State → Told
 told o p s a u t = record { outcome = o; place = p; steps = s; accepted = a; unread = u; state = t }
 
 abbrev given : Ended → Told
-given x = told (x .outcome) (x .place) (x .steps) (x .accepted) (x .unread) (x .state)
+given x = told x.outcome x.place x.steps x.accepted x.unread x.state
 """
 
 
 def claim(sheets):
     uses = (HERE / "crates/rules/proofs/Sheets.antt").read_text(encoding="utf-8").split("\n")
     opened = re.sub(r" given wanted\b", "", next(u for u in uses if u.startswith("unfolding ")))
-    uses = [u.replace("Rattle·rules·specs.specs.", "Rattle·rules.specs.") for u in uses if u.startswith("use Rattle") and "specs.Sheets" not in u]
+    uses = [u for u in uses if u.startswith("use Rattle.") and "specs.Sheets" not in u]
     both = [" ∷ ".join(pair[i] for pair in sheets) + " ∷ []" for i in (0, 1)]
-    return HEAD + "\n".join(uses) + KINDS + f"\ncomputed : _≡_ {{A = List Told}} ({both[0]}) ({both[1]})\n{opened}\ncomputed = refl\n"
+    return HEAD + "\n".join(uses) + KINDS + f"\ncomputed : ◌≡◌ {{A = List Told}} ({both[0]}) ({both[1]})\n{opened}\ncomputed = refl\n"
 
 
 def main():
@@ -121,7 +121,7 @@ def main():
     crate = SCRATCH / "crates" / "computed"
     for folder in ("src", "specs", "proofs"):
         (crate / folder).mkdir(parents=True)
-    (crate / "src/lib.rt").write_text("// Sheets computed from the definitions.\n")
+    (crate / "src/lib.rt").write_text("// Sheets computed from the definitions.\n#![tactic(auto)]\n")
     (crate / "specs/Lib.antt").write_text("-- none\n")
     sheets = answered(seed, count)
     parts = [sheets[i : i + SHEETS_TO_A_CLAIM] for i in range(0, len(sheets), SHEETS_TO_A_CLAIM)]
@@ -129,7 +129,7 @@ def main():
     for i, part in enumerate(parts):
         (crate / f"proofs/Part{i}.antt").write_text(claim(part), encoding="utf-8")
     print(f"{len(sheets)} sheets in {len(parts)} claims; now the checker computes them")
-    done = subprocess.run(["rt", "dev", "computed"], cwd=SCRATCH)
+    done = subprocess.run(["rt", "check"], cwd=crate)
     print("the definitions and the independent program agree" if done.returncode == 0 else "they differ, or the checker gave up: see above")
     sys.exit(done.returncode)
 
