@@ -124,6 +124,13 @@ module _ (s : List ℕ) (some : length s ≡ 0 → ⊥) (more : length s ≡ 1 �
       go (b ∷ []) a c h = absurd (c refl)
       go (b ∷ c ∷ s) a d h = rw (ne_eqb (digit_of b) 0 h)
 
+-- the two as the code tests the first digit
+pub natural_zero : (s : List ℕ) (d : ℕ) → (length s ≡ 0 → ⊥) → (length s ≡ 1 → ⊥) → d ≡ digit_of (get_or s 0 0) → d ≡ 0 → 2147483649 ≡ natural_in s
+natural_zero s d some more i e = natural-zero s some more (sym i ∙ e)
+
+pub natural_more : (s : List ℕ) (v d : ℕ) → (length s ≡ 0 → ⊥) → (length s ≡ 1 → ⊥) → d ≡ digit_of (get_or s 0 0) → (d ≡ 0 → ⊥) → v ≡ value_from 0 s → v ≡ natural_in s
+natural_more s v d some more i n e = e ∙ natural-more s some more (λ z. n (i ∙ z))
+
 -- ---- with its sign
 
 pub positive-fits : (n : ℕ) → n < 2147483648 → {w : ℤ} → w ≡ word_of n → Number w ≡ positive_of n

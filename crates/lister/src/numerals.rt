@@ -49,6 +49,7 @@ fn value(s: &[u8]) -> usize
 }
 
 // The number of a text of digits without leading zeros.
+#[tactic(auto, using(crate::proofs::NumeralLaws::natural_zero, crate::proofs::NumeralLaws::natural_more))]
 fn natural(s: &[u8]) -> usize
     ensures { result ≡ natural_in s.now }
 {

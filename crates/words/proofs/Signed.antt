@@ -129,3 +129,17 @@ module _ (z : ℤ) (f : SFits w32 z) where
 -- an element that was read and is passed on is `to_z w32 (of_z w32 z)`
 pub number_read : (p : List ℤ) (k : ℕ) → k < length p → mag (get_or p k (pos 0)) < 2147483648 → number_of (to_z w32 (of_z w32 (get_or p k (pos 0)))) ≡ number_at p k
 number_read p k h m = rw (back32 (get_or p k (pos 0)) (record { sfits = m })) (number_in p k (pos 0) h)
+
+-- the same of a wide number as the code tests it, read from its bits
+pub narrow_below : (z : ℤ) → SFits w64 z → lt_z (to_z w64 (of_z w64 z)) (negsuc 2147483647) ≡ true → Outside ≡ ranged z
+narrow_below z f h = below-range z (rw (back64 z f) at h)
+
+pub narrow_above : (z : ℤ) → SFits w64 z → lt_z (pos 2147483647) (to_z w64 (of_z w64 z)) ≡ true → Outside ≡ ranged z
+narrow_above z f h = above-range z (rw (back64 z f) at h)
+
+pub narrow_within : (z : ℤ) → SFits w64 z → lt_z (to_z w64 (of_z w64 z)) (negsuc 2147483647) ≡ false → lt_z (pos 2147483647) (to_z w64 (of_z w64 z)) ≡ false
+    → Within (to_z w32 (of_z w32 (to_z w64 (of_z w64 z)))) ≡ ranged z
+narrow_within z f h k =
+    let b = back64 z f in
+    let m : mag z < 2 ^ 31 = in-range z (rw b at h) (rw b at k) in
+    rw (b, back32 z (record { sfits = m })) (within-range z m)

@@ -133,6 +133,7 @@ pub enum Ranged {
 }
 
 // A wide number, if it is a word.
+#[tactic(auto, using(crate::proofs::Signed::narrow_below, crate::proofs::Signed::narrow_above, crate::proofs::Signed::narrow_within))]
 fn narrow(x: i64) -> Ranged
     ensures { result ≡ ranged x }
 {
