@@ -12,7 +12,9 @@ ghost use Rattle.expressions.specs.Told.{named_of, evaluated_of};
 ghost use Rattle.expressions.specs.Judging.{tested_of, weighed_of};
 ghost use Rattle.compared.specs.Answers.{four, stored, refusal, bit_of, named_words, evaluated_words, tested_words, weighed_words};
 
-use expressions::{Evaluated, Named, Tested, Weighed};
+use expressions::Weighed;
+use program::Refusal;
+use tables::View;
 
 // Stores the four words of an answer.
 fn tell(answer: &mut [i32], a: i32, b: i32, c: i32, d: i32)
@@ -25,10 +27,16 @@ fn tell(answer: &mut [i32], a: i32, b: i32, c: i32, d: i32)
 }
 
 // Stores a refusal: its number, and its word.
-fn refuse(answer: &mut [i32], number: usize, word: usize)
-    ensures { answer.new ≡ stored answer.old (refusal number word) }
+fn refuse(answer: &mut [i32], fault: Refusal)
+    ensures { answer.new ≡ stored answer.old (refusal fault) }
 {
-    tell(answer, words::word_of(number), words::word_of(word), 0, 0);
+    tell(
+        answer,
+        words::word_of(fault.number),
+        words::word_of(fault.word),
+        0,
+        0,
+    );
 }
 
 fn bit(b: bool) -> i32
@@ -38,12 +46,12 @@ fn bit(b: bool) -> i32
 }
 
 // Stores how constraints come out.
-fn tell_weighed(answer: &mut [i32], w: Weighed)
+fn tell_weighed(answer: &mut [i32], w: Result<Weighed, Refusal>)
     ensures { answer.new ≡ stored answer.old (weighed_words w) }
 {
     match w {
-        Weighed::Reads(all, required) => tell(answer, 0, bit(all), bit(required), 0),
-        Weighed::Fails(number, word) => refuse(answer, number, word),
+        Ok(x) => tell(answer, 0, bit(x.all), bit(x.required), 0),
+        Err(fault) => refuse(answer, fault),
     }
 }
 
@@ -52,9 +60,14 @@ fn tell_weighed(answer: &mut [i32], w: Weighed)
 pub extern "C" fn compared_path(environment: &[i32], heap: &[i32], p: &[i32], answer: &mut [i32])
     ensures { answer.new ≡ stored answer.old (named_words (named_of (way_at (cells environment.now heap.now) p.now))) }
 {
-    match expressions::paths::cell_at(environment, heap, p) {
-        Named::Cell(l, left) => tell(answer, 0, words::word_of(l), words::word_of(left), 0),
-        Named::Lost(number, word) => refuse(answer, number, word),
+    let t = View {
+        environment,
+        heap,
+        constraints: &[],
+    };
+    match expressions::paths::cell_at(&t, p) {
+        Ok(x) => tell(answer, 0, words::word_of(x.cell), words::word_of(x.left), 0),
+        Err(fault) => refuse(answer, fault),
     }
 }
 
@@ -68,12 +81,17 @@ pub extern "C" fn compared_expression(
 )
     ensures { answer.new ≡ stored answer.old (evaluated_words (evaluated_of (evaluate expression_depth (cells environment.now heap.now) p.now))) }
 {
-    match expressions::values::find_value(environment, heap, p) {
-        Evaluated::Got(v, left) => {
-            let cell = tables::cells::cell_of(v);
-            tell(answer, 0, cell.kind, cell.payload, words::word_of(left))
+    let t = View {
+        environment,
+        heap,
+        constraints: &[],
+    };
+    match expressions::values::find_value(&t, p) {
+        Ok(x) => {
+            let cell = tables::cells::cell_of(x.value);
+            tell(answer, 0, cell.kind, cell.payload, words::word_of(x.left))
         }
-        Evaluated::Fails(number, word) => refuse(answer, number, word),
+        Err(fault) => refuse(answer, fault),
     }
 }
 
@@ -82,9 +100,14 @@ pub extern "C" fn compared_expression(
 pub extern "C" fn compared_test(environment: &[i32], heap: &[i32], p: &[i32], answer: &mut [i32])
     ensures { answer.new ≡ stored answer.old (tested_words (tested_of (test (cells environment.now heap.now) p.now))) }
 {
-    match expressions::testing::test_at(environment, heap, p) {
-        Tested::Is(b) => tell(answer, 0, bit(b), 0, 0),
-        Tested::Fails(number, word) => refuse(answer, number, word),
+    let t = View {
+        environment,
+        heap,
+        constraints: &[],
+    };
+    match expressions::testing::test_at(&t, p) {
+        Ok(b) => tell(answer, 0, bit(b), 0, 0),
+        Err(fault) => refuse(answer, fault),
     }
 }
 
@@ -93,10 +116,12 @@ pub extern "C" fn compared_test(environment: &[i32], heap: &[i32], p: &[i32], an
 pub extern "C" fn compared_parts(environment: &[i32], heap: &[i32], p: &[i32], answer: &mut [i32])
     ensures { answer.new ≡ stored answer.old (weighed_words (weighed_of (constraint_at (cells environment.now heap.now) p.now))) }
 {
-    tell_weighed(
-        answer,
-        expressions::constraints::constraint_at(environment, heap, p),
-    );
+    let t = View {
+        environment,
+        heap,
+        constraints: &[],
+    };
+    tell_weighed(answer, expressions::constraints::constraint_at(&t, p));
 }
 
 // The same for all kept value constraints of a program.
@@ -110,8 +135,10 @@ pub extern "C" fn compared_kept(
 )
     ensures { answer.new ≡ stored answer.old (weighed_words (weighed_of (kept_parts program.now (cells environment.now heap.now) (positions constraints.now Values)))) }
 {
-    tell_weighed(
-        answer,
-        expressions::constraints::kept_at(program, environment, heap, constraints),
-    );
+    let t = View {
+        environment,
+        heap,
+        constraints,
+    };
+    tell_weighed(answer, expressions::constraints::kept_at(program, &t));
 }

@@ -9,8 +9,6 @@ ghost use Rattle.program.specs.Reading.{read_program};
 ghost use Rattle.program.specs.Where.{statement_at, constraints_stand};
 ghost use Rattle.compared.specs.Compared.{capped, verdict_number, spot_number};
 
-use program::{Spot, Verdict};
-
 // n, or `most` where n is greater.
 fn cap(n: usize, most: usize) -> usize
     ensures { result ≡ capped n most }
@@ -24,8 +22,8 @@ pub extern "C" fn compared_program(program: &[i32]) -> usize
     ensures { result ≡ verdict_number (verdict_of (read_program program.now)) }
 {
     match program::blocks::read_program(program) {
-        Verdict::Reads => 0,
-        Verdict::Unfit(place) => 1 + cap(place, program::MOST_WORDS),
+        Ok(()) => 0,
+        Err(place) => 1 + cap(place, program::MOST_WORDS),
     }
 }
 
@@ -35,8 +33,8 @@ pub extern "C" fn compared_statement(program: &[i32], at: usize) -> usize
     ensures { result ≡ spot_number (statement_at program.now at) }
 {
     match program::places::statement_at(program, at) {
-        Spot::At(verb, nest) => 1 + 16 * cap(verb, 15) + cap(nest, 15),
-        Spot::Nowhere => 0,
+        Some(spot) => 1 + 16 * cap(spot.verb, 15) + cap(spot.nest, 15),
+        None => 0,
     }
 }
 

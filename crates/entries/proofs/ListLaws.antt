@@ -1,6 +1,5 @@
 -- The loop over the entries: so many are done, and the rest gives the whole's answer. Assumes nothing.
 use mathlib.Core.Path.{◌≡◌, refl, sym, ap, ◌∙◌}
-use mathlib.Core.Bool.{false}
 use mathlib.Core.List.{List, ◌∷◌}
 use Prim.Native.Nat.{ℕ, suc, ◌+◌, ◌-◌, ◌≤◌, ◌<◌}
 use native.Mathlib.Omega.{arith}
@@ -8,10 +7,13 @@ use native.Mathlib.Decide.{dec_lt}
 use lib.IntN.{ℤ, pos}
 use lib.ListN.{length, take, length-append}
 use lib.Seq.{drop-drop, drop-length}
+use Rattle.std.specs.Prelude.{Err}
 use Rattle.words.specs.Words.{number_at, last_of}
 use Rattle.words.proofs.AnswerLaws.{either}
-use Rattle.program.specs.declared.Piece.{Piece}
-use Rattle.program.specs.Forms.{assign, verb_of}
+use Rattle.tables.specs.declared.Tables.{Tables}
+use Rattle.tables.specs.Lending.{StillLent}
+use Rattle.program.specs.Forms.{verb_of}
+use Rattle.program.specs.declared.Verb.TheVariants.{Assign as assign}
 use Rattle.program.specs.Told.{told}
 use Rattle.program.specs.Reading.{read_block, after}
 use Rattle.program.proofs.RowLaws.{last-length, last-all}
@@ -26,11 +28,12 @@ use Rattle.rules.proofs.RunningClauses.{is-assign, paid-on, paid-ends, taken-got
 use Rattle.rules.proofs.StatementClauses.{simple-assign}
 use Rattle.rules.proofs.EntryClauses.{entry-unpaid, entry-goes, entry-stops, onwards-on, onwards-end, next-unfit, next-got, entries_none, entries-open}
 use Rattle.rules.proofs.EntryWords.{entry-reads, entry-short, takes-shorter, takes-last, assigning-is, entry-verb}
+use Rattle.phases.specs.Told.{state_in}
+use Rattle.block.proofs.RunLaws.{lent-then}
 use Rattle.lent.specs.declared.Tally.{Tally}
 use Rattle.lent.specs.Tallied.{carries, out_of, untold_out, Begins, Goes, ended_at}
 use Rattle.lent.specs.Lending.{holds_blocks, one_statement}
 use Rattle.lent.proofs.TallyLaws.{ends_by, went_on}
-use Rattle.block.proofs.RunLaws.{SameLengths, lengths-then}
 use Rattle.entries.specs.Told.{given_of}
 use Rattle.entries.proofs.ReadLaws.{Reads}
 use Rattle.entries.proofs.ReadLaws.{entry-stops as not-read}
@@ -84,76 +87,76 @@ last-last a b l h k =
     rw n (drop-drop (b - a) (length l - b) l ∙ rw m)
 
 -- `left` words of the entries are left, the first of which has the index i; the fuel of the definition is enough for them
-pub record Entering (program entries ws : List ℤ) (budget : ℕ) (S Z : State) (t : Tally) (left i : ℕ) : Type 0 where
+pub record Entering (program entries ws : List ℤ) (budget : ℕ) (T₀ T : Tables) (t : Tally) (left i : ℕ) : Type 0 where
   pub fuel : ℕ
   pub enough : left ≤ fuel
   pub inside : i + left ≤ length entries
-  pub long : SameLengths S.cells.environment S.cells.heap S.kept Z.cells.environment Z.cells.heap Z.kept
+  pub lent : StillLent T₀ T
   pub begins : Begins ws t
-  pub rest : do_entries fuel program budget i (last_of left entries) (carries ws Z t) ≡ do_entries (length entries) program budget 0 entries (tally_from S ws)
+  pub rest : do_entries fuel program budget i (last_of left entries) (carries ws (state_in T) t) ≡ do_entries (length entries) program budget 0 entries (tally_from (state_in T₀) ws)
 
-pub starts : (program entries ws : List ℤ) (budget : ℕ) (S : State)
-    → Entering program entries ws budget S S (record { steps = 0; accepted = 0; unread = length ws; outcome = 0; place = 0 }) (length entries) 0
-starts program entries ws budget S = record {
+pub starts : (program entries ws : List ℤ) (budget : ℕ) (T : Tables)
+    → Entering program entries ws budget T T (record { steps = 0; accepted = 0; unread = length ws; outcome = 0; place = 0 }) (length entries) 0
+starts program entries ws budget T = record {
   fuel = length entries;
   enough = omega arith;
   inside = omega arith;
-  long = record { environment = refl; heap = refl; constraints = refl };
+  lent = record { environment = refl; heap = refl; constraints = refl };
   begins = record { few = omega arith; inside = omega arith; going = refl; nowhere = refl };
   rest = rw (last-all entries, last-all ws);
 }
 
-module _ {program entries ws : List ℤ} {budget : ℕ} {S Z : State} {t : Tally} {left i : ℕ} (inv : Entering program entries ws budget S Z t left i) where
+module _ {program entries ws : List ℤ} {budget : ℕ} {T₀ T : Tables} {t : Tally} {left i : ℕ} (inv : Entering program entries ws budget T₀ T t left i) where
   abbrev wanted : Ended
-  wanted = do_entries (length entries) program budget 0 entries (tally_from S ws)
+  wanted = do_entries (length entries) program budget 0 entries (tally_from (state_in T₀) ws)
 
   abbrev next : List ℤ → Carries → Ended
   next q u = do_entries (inv.fuel - 1) program budget (suc i) q u
 
-  pub ends-all : {r : Tally} → left ≤ 0 → r ≡ ended_at 0 i t → given_of ws Z r ≡ wanted
+  pub ends-all : {r : Tally} → left ≤ 0 → r ≡ ended_at 0 i t → given_of ws (state_in T) r ≡ wanted
   ends-all l e =
       let z : left ≡ 0 = omega arith in
       let k : length entries - 0 ≡ length entries = omega arith in
-      rw e (sym (entries_none program budget inv.fuel i (carries ws Z t)) ∙ (rw (z, k, drop-length entries) at inv.rest))
+      rw e (sym (entries_none program budget inv.fuel i (carries ws (state_in T) t)) ∙ (rw (z, k, drop-length entries) at inv.rest))
 
   module _ {p : List ℤ} (here : p ≡ last_of left entries) (some : 0 < left) where
     long : length p ≡ left
     long = rw here (last-length left entries (omega (arith, inv.inside)))
 
-    opened : next_entry next program budget i p (carries ws Z t) ≡ wanted
-    opened = sym (entries-open program budget inv.fuel i p (carries ws Z t) (omega (arith, inv.enough))) ∙ (rw (← here) at inv.rest)
+    opened : next_entry next program budget i p (carries ws (state_in T) t) ≡ wanted
+    opened = sym (entries-open program budget inv.fuel i p (carries ws (state_in T) t) (omega (arith, inv.enough))) ∙ (rw (← here) at inv.rest)
 
-    pub ends-unfit : {piece : Piece} {r : Tally} → piece ≡ told (read_entry p) → piece.fits ≡ false → r ≡ ended_at 23 i t → given_of ws Z r ≡ wanted
-    ends-unfit e h k =
-        let x = not-read p e h in
-        rw k (sym (next-unfit next program budget i (carries ws Z t) p (omega (arith, long)) x.1) ∙ opened)
+    pub ends-unfit : {k : ℕ} {r : Tally} → Err k ≡ told (read_entry p) → r ≡ ended_at 23 i t → given_of ws (state_in T) r ≡ wanted
+    ends-unfit e k =
+        let x = not-read p e in
+        rw k (sym (next-unfit next program budget i (carries ws (state_in T) t) p (omega (arith, long)) x.1) ∙ opened)
 
-    module _ {piece : Piece} (x : Reads p piece) where
+    module _ {rest : ℕ} (x : Reads p rest) where
       -- the words that the entry has
-      pub fewer : piece.left < left
+      pub fewer : rest < left
       fewer = omega (arith, takes-shorter x.takes, x.left, long)
 
       words_are : length p ≡ length x.takes.words + length x.q
       words_are = ap length x.takes.split ∙ length-append x.takes.words x.q
 
-      pub inside-it : left - piece.left ≤ length p
+      pub inside-it : left - rest ≤ length p
       inside-it = omega (arith, long)
 
-      pub short-it : left - piece.left < 12
+      pub short-it : left - rest < 12
       short-it = omega (arith, long, words_are, x.left, entry-short x.takes.piece)
 
-      statement : pos 1 ∷ take (left - piece.left) p ≡ pos 1 ∷ x.takes.words
+      statement : pos 1 ∷ take (left - rest) p ≡ pos 1 ∷ x.takes.words
       statement = rw (x.left, ← long) (assigning-is x.takes)
 
-      module _ {Y : State} {u : Tally} (g : Goes ws t Y u (one_statement program budget (pos 1 ∷ take (left - piece.left) p) (carries ws Z t))) where
+      module _ {Y : State} {u : Tally} (g : Goes ws t Y u (one_statement program budget (pos 1 ∷ take (left - rest) p) (carries ws (state_in T) t))) where
         came : onwards (λ v. next x.q v) i (out_of ws Y u) ≡ wanted
         came =
             let s = x.takes in
-            let a : out_of ws Y u ≡ untold_out (one_statement program budget (pos 1 ∷ s.words) (carries ws Z t)) = g.runs.is ∙ ap (λ y. untold_out (one_statement program budget y (carries ws Z t))) statement in
+            let a : out_of ws Y u ≡ untold_out (one_statement program budget (pos 1 ∷ s.words) (carries ws (state_in T) t)) = g.runs.is ∙ ap (λ y. untold_out (one_statement program budget y (carries ws (state_in T) t))) statement in
             rw a
-            (as-entry program budget i s.piece ws Z t (λ v. next x.q v)
-            ∙ ap (λ y. onwards (λ v. next x.q v) i (do_entry program budget i y (carries ws Z t))) (sym (assigning-is s))
-            ∙ sym (next-got next program budget i (carries ws Z t) p x.q (omega (arith, long)) (entry-reads s))
+            (as-entry program budget i s.piece ws (state_in T) t (λ v. next x.q v)
+            ∙ ap (λ y. onwards (λ v. next x.q v) i (do_entry program budget i y (carries ws (state_in T) t))) (sym (assigning-is s))
+            ∙ sym (next-got next program budget i (carries ws (state_in T) t) p x.q (omega (arith, long)) (entry-reads s))
             ∙ opened)
 
         pub ends-refused : {r : Tally} → (u.outcome ≡ 0 → ⊥) → r ≡ ended_at u.outcome i u → given_of ws Y r ≡ wanted
@@ -163,17 +166,17 @@ module _ {program entries ws : List ℤ} {budget : ℕ} {S Z : State} {t : Tally
             ∙ ap (λ o. onwards (λ v. next x.q v) i o) (sym (ends_by u.outcome u.place (carries ws Y u) h))
             ∙ came)
 
-        pub goes_on : u.outcome ≡ 0 → SameLengths Z.cells.environment Z.cells.heap Z.kept Y.cells.environment Y.cells.heap Y.kept
-            → Entering program entries ws budget S Y u piece.left (i + 1)
-        goes_on h n =
-            let a : x.q ≡ last_of piece.left entries = sym (takes-last x.takes) ∙ rw (← x.left, here) (last-last piece.left left entries (omega (arith, fewer)) (omega (arith, inv.inside))) in
-            let b : suc i ≡ i + 1 = omega arith in
-            let c : onwards (λ v. next x.q v) i (on (carries ws Y u)) ≡ wanted = rw h at came in
-            record {
-              fuel = inv.fuel - 1;
-              enough = omega (arith, fewer, inv.enough);
-              inside = omega (arith, fewer, inv.inside);
-              long = lengths-then inv.long n;
-              begins = went_on g h;
-              rest = rw (← a, ← b) (sym (onwards-on (λ v. next x.q v) i (carries ws Y u)) ∙ c);
-            }
+      pub goes_on : {T' : Tables} {u : Tally} → Goes ws t (state_in T') u (one_statement program budget (pos 1 ∷ take (left - rest) p) (carries ws (state_in T) t)) → u.outcome ≡ 0 → StillLent T T'
+          → Entering program entries ws budget T₀ T' u rest (i + 1)
+      goes_on {T' = T'} {u = u} g h n =
+          let a : x.q ≡ last_of rest entries = sym (takes-last x.takes) ∙ rw (← x.left, here) (last-last rest left entries (omega (arith, fewer)) (omega (arith, inv.inside))) in
+          let b : suc i ≡ i + 1 = omega arith in
+          let c : onwards (λ v. next x.q v) i (on (carries ws (state_in T') u)) ≡ wanted = rw h at (came g) in
+          record {
+            fuel = inv.fuel - 1;
+            enough = omega (arith, fewer, inv.enough);
+            inside = omega (arith, fewer, inv.inside);
+            lent = lent-then inv.lent n;
+            begins = went_on g h;
+            rest = rw (← a, ← b) (sym (onwards-on (λ v. next x.q v) i (carries ws (state_in T') u)) ∙ c);
+          }

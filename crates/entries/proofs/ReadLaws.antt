@@ -1,15 +1,15 @@
 -- What the reading of an entry comes to. Assumes nothing.
 use mathlib.Core.Path.{◌≡◌, sym, ap, ◌∙◌}
-use mathlib.Core.Bool.{true, false, true≢false}
+use mathlib.Core.Bool.{false, true≢false}
 use mathlib.Core.List.{List}
 use Prim.Native.Nat.{◌≤◌, ◌<◌}
 use lib.IntN.{ℤ}
 use lib.ListN.{length}
+use Rattle.std.specs.Prelude.{ℕ, Ok, Err, is_ok}
 use Rattle.words.specs.Words.{number_at}
 use Rattle.words.specs.Answer.{got, stop}
 use Rattle.words.proofs.AnswerLaws.{either}
-use Rattle.program.specs.declared.Piece.{Piece}
-use Rattle.program.specs.Told.{told}
+use Rattle.program.specs.Told.{told, words_left}
 use Rattle.program.specs.Grammar.{Takes}
 use Rattle.program.specs.Reading.{read_path, read_expression}
 use Rattle.rules.specs.Entries.{read_entry}
@@ -18,10 +18,10 @@ use Rattle.rules.proofs.EntryClauses.{entry-path, entry-low, entry-high, entry-l
 use Rattle.rules.proofs.EntryWords.{entry-sound}
 
 module _ (p : List ℤ) where
-  pub path-halts : {r : Piece} → r ≡ told (read_path p) → r.fits ≡ false → r ≡ told (read_entry p)
-  path-halts {r} e h =
-      either {X = r ≡ told (read_entry p)} (read_path p)
-      (λ q x. absurd (true≢false (ap (λ (y : Piece). y.fits) (sym (e ∙ ap told x)) ∙ h)))
+  pub path-halts : {k : ℕ} → Err k ≡ told (read_path p) → Err k ≡ told (read_entry p)
+  path-halts {k} e =
+      either {X = Err k ≡ told (read_entry p)} (read_path p)
+      (λ q x. absurd (true≢false (ap is_ok (sym (e ∙ ap told x)))))
       (λ q x. e ∙ rw (x, entry-path p x))
 
   module _ {q : List ℤ} (e : read_path p ≡ got q) where
@@ -37,20 +37,20 @@ module _ (p : List ℤ) where
 -- ---- what is told of an entry
 
 -- it reads, and these words are left after it
-pub record Reads (p : List ℤ) (piece : Piece) : Type 0 where
+pub record Reads (p : List ℤ) (rest : ℕ) : Type 0 where
   pub q : List ℤ
   pub takes : Takes Entry p q
-  pub left : piece.left ≡ length q
+  pub left : rest ≡ length q
 
-pub entry-reads : (p : List ℤ) {piece : Piece} → piece ≡ told (read_entry p) → piece.fits ≡ true → Reads p piece
-entry-reads p {piece} e h =
-    either {X = Reads p piece} (read_entry p)
-    (λ q x. record { q = q; takes = entry-sound p q x; left = ap (λ (y : Piece). y.left) (e ∙ ap told x) })
-    (λ q x. absurd (true≢false (sym h ∙ ap (λ (y : Piece). y.fits) (e ∙ ap told x))))
+pub entry-reads : (p : List ℤ) {rest : ℕ} → Ok rest ≡ told (read_entry p) → Reads p rest
+entry-reads p {rest} e =
+    either {X = Reads p rest} (read_entry p)
+    (λ q x. record { q = q; takes = entry-sound p q x; left = ap words_left (e ∙ ap told x) })
+    (λ q x. absurd (true≢false (ap is_ok (e ∙ ap told x))))
 
 -- it does not
-pub entry-stops : (p : List ℤ) {piece : Piece} → piece ≡ told (read_entry p) → piece.fits ≡ false → (r : List ℤ) × (read_entry p ≡ stop r)
-entry-stops p e h =
+pub entry-stops : (p : List ℤ) {k : ℕ} → Err k ≡ told (read_entry p) → (r : List ℤ) × (read_entry p ≡ stop r)
+entry-stops p e =
     either {X = (r : List ℤ) × (read_entry p ≡ stop r)} (read_entry p)
-    (λ q x. absurd (true≢false (ap (λ (y : Piece). y.fits) (sym (e ∙ ap told x)) ∙ h)))
+    (λ q x. absurd (true≢false (ap is_ok (sym (e ∙ ap told x)))))
     (λ q x. (q, x))

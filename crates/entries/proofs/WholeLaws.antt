@@ -6,6 +6,7 @@ use native.Mathlib.Omega.{arith}
 use native.Mathlib.Decide.{dec_lt}
 use lib.IntN.{ℤ}
 use lib.ListN.{length}
+use Rattle.std.specs.Prelude.{Result, Err}
 use Rattle.words.specs.Words.{number_of, word_of, last_of}
 use Rattle.words.specs.Answer.{got}
 use Rattle.rules.specs.State.{State}
@@ -19,8 +20,7 @@ use Rattle.rules.proofs.EntryRules.{entries-rules}
 use Rattle.rules.proofs.EntryFacts.{entries-answers}
 use Rattle.rules.proofs.EntrySteps.{numbers}
 use Rattle.lent.specs.declared.Tally.{Tally}
-use Rattle.run.specs.declared.Started.{Started}
-use Rattle.run.specs.declared.Started.TheVariants.{Early as Refused}
+use Rattle.run.specs.declared.Early.{Early as Stopped}
 use Rattle.run.specs.Told.{started_of, Meets}
 use Rattle.run.proofs.ExactLaws.{Exact, early-small}
 use Rattle.run.proofs.WholeLaws.{meets, refuses}
@@ -65,9 +65,9 @@ module _ (program entries ws : List ℤ) (budget : ℤ) (S : State) where
 
   -- ---- a list that did not begin, and one that did
 
-  pub meets-early : {h : Started} {outcome place : ℕ} {answer : List ℤ} → h ≡ started_of (starts program budget S) → h ≡ Refused outcome place
-      → answer ≡ word_of outcome ∷ word_of place ∷ word_of 0 ∷ word_of 0 ∷ [] → Meets S answer ws (assigns program entries ws budget S)
-  meets-early {outcome = n} {place = k} e h a = meets exact (given_by n k (tally_from S ws)) (assigns-early program entries ws budget S (refuses program budget S e h)) a refl refl
+  pub meets-early : {h : Result (Unit {0}) Stopped} {f : Stopped} {answer : List ℤ} → h ≡ started_of (starts program budget S) → h ≡ Err f
+      → answer ≡ word_of f.number ∷ word_of f.place ∷ word_of 0 ∷ word_of 0 ∷ [] → Meets S answer ws (assigns program entries ws budget S)
+  meets-early {f = f} e h a = meets exact (given_by f.number f.place (tally_from S ws)) (assigns-early program entries ws budget S (refuses program budget S e h)) a refl refl
 
   pub meets-listed : {Z : State} (r : Tally) {answer : List ℤ} → starts program budget S ≡ got tt
       → given_of ws Z r ≡ do_entries (length entries) program (number_of budget) 0 entries (tally_from S ws)

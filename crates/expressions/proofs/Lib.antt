@@ -1,6 +1,5 @@
 pub mod PathLaws
 pub mod TraceLaws
-pub mod OperatorLaws
 pub mod LeafLaws
 pub mod OperandLaws
 pub mod EvaluateLaws

@@ -1,4 +1,5 @@
 -- The cells that a path leads through: one label at a time, and where the path leads to a cell they are its prefix cells. Assumes nothing.
+use Rattle.std.specs.Prelude.{None, Some}
 use mathlib.Core.Path.{◌≡◌, refl, ap, ◌∙◌}
 use mathlib.Core.List.{List, [], ◌∷◌}
 use Prim.Native.Nat.{ℕ, zero, suc}
@@ -8,9 +9,7 @@ use lib.Seq.{drop-drop}
 use Rattle.words.specs.Words.{number_at}
 use Rattle.words.specs.Answer.{got}
 use Rattle.words.proofs.Laws.{number-drop}
-use Rattle.tables.specs.declared.Slot.TheVariants.{Has}
 use Rattle.tables.specs.declared.Value.TheVariants.{Ref}
-use Rattle.tables.specs.declared.Found.TheVariants.{At, Nothing}
 use Rattle.tables.specs.Cells.{Cells}
 use Rattle.tables.specs.Records.{field_with}
 use Rattle.program.proofs.NumberLaws.{number_read}
@@ -25,17 +24,17 @@ pub passed_none : (S : Cells) (l : ℕ) (p : List ℤ) → passed S 0 l p ≡ []
 unfolding passed
 passed_none S l p = refl
 
-pub passed-lost : (S : Cells) (n l : ℕ) (p : List ℤ) → step_to S l (number_at p 0) ≡ Nothing → passed S (suc n) l p ≡ l ∷ []
+pub passed-lost : (S : Cells) (n l : ℕ) (p : List ℤ) → step_to S l (number_at p 0) ≡ None → passed S (suc n) l p ≡ l ∷ []
 unfolding passed
 passed-lost S n l p e = rw e
 
-pub passed-more : (S : Cells) (n l next : ℕ) (p : List ℤ) → step_to S l (number_at p 0) ≡ At next → passed S (suc n) l p ≡ l ∷ passed S n next (drop 1 p)
+pub passed-more : (S : Cells) (n l next : ℕ) (p : List ℤ) → step_to S l (number_at p 0) ≡ Some next → passed S (suc n) l p ≡ l ∷ passed S n next (drop 1 p)
 unfolding passed
 passed-more S n l next p e = rw e
 
 -- ---- labels that lead to a cell
 
-goes : (S : Cells) (l r next label : ℕ) → slot_at S l ≡ Has (Ref r) → field_with S.heap r label ≡ At next → step_to S l label ≡ At next
+goes : (S : Cells) (l r next label : ℕ) → slot_at S l ≡ Some (Ref r) → field_with S.heap r label ≡ Some next → step_to S l label ≡ Some next
 unfolding step_to
 goes S l r next label e h = rw e h
 

@@ -1,4 +1,4 @@
 pub mod Told
+pub mod Judging
 pub mod Following
 pub mod Valuing
-pub mod Judging

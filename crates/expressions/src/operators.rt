@@ -1,22 +1,71 @@
-// The operators: the kinds that they take, and what they make of two values. A kind is told by its number: 1 nil, 2 boolean, 3 integer, 4 reference.
+// The operators: the kinds that they take, and what they make of two values.
 ghost use Rattle.std.specs.Prelude.{◌≡◌};
-ghost use Rattle.rules.specs.Evaluation.{kind_of, int_of, bool_of, same, comparable, takes, made, op_of};
-ghost use Rattle.expressions.specs.Told.{kind_number, kind_from, does, ranged_of, applied_of};
+ghost use Rattle.rules.specs.Evaluation.{kind_of, int_of, bool_of, an_int, a_bool, the_nil, two, same, comparable, takes, made, op_of};
+ghost use Rattle.expressions.specs.Told.{ranged_of, applied_of, kind_number, kind_from};
+ghost use Rattle.expressions.specs.Judging.{truth_of};
 
-use crate::Applied;
-use tables::Value;
-use words::Ranged;
+use program::{Operator, Refusal};
+use tables::{Kind, Value};
 
-// The number of a value's kind.
-pub fn kind(v: Value) -> usize
-    ensures { result ≡ kind_number (kind_of v) }
+// The operator of a number, by document 01.
+#[tactic(auto, unfolding(rules::specs::Evaluation::op_of))]
+pub fn operator(n: usize) -> Operator
+    ensures { result ≡ op_of n }
+{
+    match n {
+        1 => Operator::Plus,
+        2 => Operator::Minus,
+        3 => Operator::Times,
+        4 => Operator::Below,
+        5 => Operator::AtMost,
+        6 => Operator::Equal,
+        7 => Operator::Unequal,
+        8 => Operator::AtLeast,
+        9 => Operator::Above,
+        10 => Operator::And,
+        11 => Operator::Or,
+        _ => Operator::Unknown,
+    }
+}
+
+// The kind of a value.
+pub fn kind(v: Value) -> Kind
+    ensures { result ≡ kind_of v }
 {
     match v {
-        Value::Nil => 1,
-        Value::Bool(_) => 2,
-        Value::Int(_) => 3,
-        Value::Ref(_) => 4,
+        Value::Nil => Kind::Nil,
+        Value::Bool(_) => Kind::Bool,
+        Value::Int(_) => Kind::Int,
+        Value::Ref(_) => Kind::Ref,
     }
+}
+
+// A kind's number, by document 01.
+pub fn kind_number(k: Kind) -> usize
+    ensures { result ≡ kind_number k }
+{
+    match k {
+        Kind::Nil => 1,
+        Kind::Bool => 2,
+        Kind::Int => 3,
+        Kind::Ref => 4,
+    }
+}
+
+// The kind of a number; a number that is no kind is taken as a reference, which no operator takes.
+pub fn kind_from(n: usize) -> Kind
+    ensures { result ≡ kind_from n }
+{
+    if n == 1 {
+        return Kind::Nil;
+    }
+    if n == 2 {
+        return Kind::Bool;
+    }
+    if n == 3 {
+        return Kind::Int;
+    }
+    Kind::Ref
 }
 
 // The number of an integer, 0 for any other value.
@@ -24,10 +73,8 @@ pub fn int_of(v: Value) -> i32
     ensures { result ≡ int_of v }
 {
     match v {
-        Value::Nil => 0,
-        Value::Bool(_) => 0,
         Value::Int(n) => n,
-        Value::Ref(_) => 0,
+        _ => 0,
     }
 }
 
@@ -36,94 +83,99 @@ pub fn bool_of(v: Value) -> bool
     ensures { result ≡ bool_of v }
 {
     match v {
-        Value::Nil => false,
         Value::Bool(b) => b,
-        Value::Int(_) => false,
-        Value::Ref(_) => false,
+        _ => false,
     }
 }
 
-// The same kind and the same payload.
+// A boolean; 8 at the word where the value is none.
+pub(crate) fn truth(v: Value, word: usize) -> Result<bool, Refusal>
+    ensures { result ≡ truth_of v word }
+{
+    match v {
+        Value::Bool(b) => Ok(b),
+        _ => Err(Refusal { number: 8, word }),
+    }
+}
+
+// The same kind and the same payload. The words of the cells are compared: two references that no word is are one word.
+#[tactic(auto, unfolding(rules::specs::Evaluation::same))]
 pub fn are_same(a: Value, b: Value) -> bool
     ensures { result ≡ same a b }
 {
     let x = tables::cells::cell_of(a);
     let y = tables::cells::cell_of(b);
-    words::same(x.kind, y.kind) & words::same(x.payload, y.payload)
+    (x.kind == y.kind) & (x.payload == y.payload)
+}
+
+fn are_ints(a: Kind, b: Kind) -> bool
+    ensures { result ≡ two an_int a b }
+{
+    matches!(a, Kind::Int) & matches!(b, Kind::Int)
+}
+
+fn are_bools(a: Kind, b: Kind) -> bool
+    ensures { result ≡ two a_bool a b }
+{
+    matches!(a, Kind::Bool) & matches!(b, Kind::Bool)
+}
+
+fn are_nils(a: Kind, b: Kind) -> bool
+    ensures { result ≡ two the_nil a b }
+{
+    matches!(a, Kind::Nil) & matches!(b, Kind::Nil)
 }
 
 // Two of one kind, and no references: two nils, two booleans or two integers.
-fn are_comparable(a: usize, b: usize) -> bool
-    ensures { result ≡ comparable (kind_from a) (kind_from b) }
+#[tactic(auto, unfolding(rules::specs::Evaluation::comparable))]
+fn are_comparable(a: Kind, b: Kind) -> bool
+    ensures { result ≡ comparable a b }
 {
-    (0 < a) & (a < 4) & (b == a)
+    are_ints(a, b) | are_bools(a, b) | are_nils(a, b)
 }
 
-// Whether operator o takes operands of these kinds.
-pub fn takes_kinds(o: usize, a: usize, b: usize) -> bool
-    ensures { result ≡ takes (op_of o) (kind_from a) (kind_from b) }
+// Whether an operator takes operands of these kinds.
+#[tactic(auto, unfolding(rules::specs::Evaluation::takes))]
+pub fn takes_kinds(o: Operator, a: Kind, b: Kind) -> bool
+    ensures { result ≡ takes o a b }
 {
-    if o == 0 {
-        return false;
-    }
-    if o <= 5 {
-        return (a == 3) & (b == 3);
-    }
     match o {
-        6 => are_comparable(a, b),
-        7 => are_comparable(a, b),
-        8 => (a == 3) & (b == 3),
-        9 => (a == 3) & (b == 3),
-        10 => (a == 2) & (b == 2),
-        11 => (a == 2) & (b == 2),
-        _ => false,
+        Operator::Equal => are_comparable(a, b),
+        Operator::Unequal => are_comparable(a, b),
+        Operator::And => are_bools(a, b),
+        Operator::Or => are_bools(a, b),
+        Operator::Unknown => false,
+        _ => are_ints(a, b),
     }
 }
 
 // A result that must be a word: 9 where it is none.
-fn in_range(r: Ranged) -> Applied
+fn in_range(r: Option<i32>) -> Result<Value, usize>
     ensures { result ≡ ranged_of r }
 {
     match r {
-        Ranged::Within(n) => Applied {
-            number: 0,
-            value: Value::Int(n),
-        },
-        Ranged::Outside => Applied {
-            number: 9,
-            value: Value::Nil,
-        },
+        Some(n) => Ok(Value::Int(n)),
+        None => Err(9),
     }
 }
 
-fn truth(b: bool) -> Applied
-    ensures { result ≡ does (Value.Bool b) }
-{
-    Applied {
-        number: 0,
-        value: Value::Bool(b),
-    }
-}
-
-// What operator o makes of two values whose kinds it takes.
-pub fn make(o: usize, a: Value, b: Value) -> Applied
-    ensures { result ≡ applied_of (made (op_of o) a b) }
+// What an operator makes of two values whose kinds it takes; or the refusal's number.
+#[tactic(auto, unfolding(rules::specs::Evaluation::made, rules::specs::Evaluation::ranged, words::specs::Range::ranged))]
+pub fn make(o: Operator, a: Value, b: Value) -> Result<Value, usize>
+    ensures { result ≡ applied_of (made o a b) }
 {
     match o {
-        1 => in_range(words::plus(int_of(a), int_of(b))),
-        2 => in_range(words::minus(int_of(a), int_of(b))),
-        3 => in_range(words::times(int_of(a), int_of(b))),
-        4 => truth(words::below(int_of(a), int_of(b))),
-        5 => truth(words::at_most(int_of(a), int_of(b))),
-        6 => truth(are_same(a, b)),
-        7 => truth(!are_same(a, b)),
-        8 => truth(words::at_most(int_of(b), int_of(a))),
-        9 => truth(words::below(int_of(b), int_of(a))),
-        10 => truth(bool_of(a) & bool_of(b)),
-        11 => truth(bool_of(a) | bool_of(b)),
-        _ => Applied {
-            number: 8,
-            value: Value::Nil,
-        },
+        Operator::Plus => in_range(words::plus(int_of(a), int_of(b))),
+        Operator::Minus => in_range(words::minus(int_of(a), int_of(b))),
+        Operator::Times => in_range(words::times(int_of(a), int_of(b))),
+        Operator::Below => Ok(Value::Bool(int_of(a) < int_of(b))),
+        Operator::AtMost => Ok(Value::Bool(int_of(a) <= int_of(b))),
+        Operator::Equal => Ok(Value::Bool(are_same(a, b))),
+        Operator::Unequal => Ok(Value::Bool(!are_same(a, b))),
+        Operator::AtLeast => Ok(Value::Bool(int_of(b) <= int_of(a))),
+        Operator::Above => Ok(Value::Bool(int_of(b) < int_of(a))),
+        Operator::And => Ok(Value::Bool(bool_of(a) & bool_of(b))),
+        Operator::Or => Ok(Value::Bool(bool_of(a) | bool_of(b))),
+        Operator::Unknown => Err(8),
     }
 }

@@ -1,12 +1,12 @@
 -- The cells that fit, and the values that they hold. Assumes nothing.
+use Rattle.std.specs.Prelude.{None, Some}
 use mathlib.Core.Path.{◌≡◌, refl, sym, ◌∙◌}
-use mathlib.Core.Bool.{Bool, true, false, cond, ◌&&◌, ◌||◌}
+use mathlib.Core.Bool.{Bool, true, false, cond, ◌||◌}
 use Prim.Native.Nat.{ℕ, ◌<◌, ◌≤◌}
 use native.Mathlib.Omega.{arith}
-use borrow.Author.Tests.{le-leb, lt-ltb, ltb-true, ltb-false, eqb-true}
+use borrow.Author.Tests.{lt-ltb, ltb-true, ltb-false, eqb-true}
 use lib.Dec.{ltb, eqb}
 use lib.IntN.{ℤ, pos, negsuc}
-use lib.Signed.{lt_z, le_z}
 use Rattle.words.specs.Words.{number_of, eq_z}
 use Rattle.words.proofs.Laws.{word-is, word-greatest, eq_z-true}
 use Rattle.tables.specs.Sizes.{no_number}
@@ -14,18 +14,10 @@ use Rattle.tables.specs.Values.{cell, absent, cell_of, slot_of}
 use Rattle.tables.specs.declared.Cell.{Cell}
 use Rattle.tables.specs.declared.Value.{Value}
 use Rattle.tables.specs.declared.Value.TheVariants.{Nil, Bool as Truth, Int, Ref}
-use Rattle.tables.specs.declared.Slot.TheVariants.{Absent, Has}
 use Rattle.tables.proofs.SearchLaws.{cases}
 use Rattle.tables.proofs.WordLaws.{word_number}
 use Rattle.tables.proofs.ValueLaws.{slot-absent, slot-nil, slot-boolean, slot-integer, slot-reference, cell-nil, cell-truth, cell-integer, cell-reference}
 use Rattle.fit.specs.Fit.{admits, cell_fits}
-
--- a reference from 0 on and below the count
-pub admits-is : (count p : ℤ) → le_z (pos 0) p && lt_z p count ≡ admits count p
-admits-is (pos n) (pos r) = rw (le-leb 0 r (omega arith))
-admits-is (pos n) (negsuc r) = refl
-admits-is (negsuc n) (pos r) = rw (le-leb 0 r (omega arith))
-admits-is (negsuc n) (negsuc r) = refl
 
 -- ---- the cells that fit
 
@@ -75,35 +67,35 @@ module _ (count : ℤ) where
   shape-fits (a-reference r n e h) = rw e (lt-ltb r n h)
 
 -- what a cell of each shape holds
-slot-truth : (b : Bool) → slot_of (cell (pos 2) (cond b (pos 1) (pos 0))) ≡ Has (Truth b)
+slot-truth : (b : Bool) → slot_of (cell (pos 2) (cond b (pos 1) (pos 0))) ≡ Some (Truth b)
 slot-truth true = slot-boolean (pos 1)
 slot-truth false = slot-boolean (pos 0)
 
-slot-ref : (r : ℕ) → slot_of (cell (pos 4) (pos r)) ≡ Has (Ref r)
+slot-ref : (r : ℕ) → slot_of (cell (pos 4) (pos r)) ≡ Some (Ref r)
 slot-ref r = slot-reference (cell (pos 4) (pos r)) refl
 
 -- what a cell that fits holds determines it; the count is one that a word can be
-pub cell-of-slot : (count : ℤ) (c : Cell) (v : Value) → number_of count ≤ no_number → cell_fits count c ≡ true → slot_of c ≡ Has v → cell_of v ≡ c
+pub cell-of-slot : (count : ℤ) (c : Cell) (v : Value) → number_of count ≤ no_number → cell_fits count c ≡ true → slot_of c ≡ Some v → cell_of v ≡ c
 cell-of-slot count c v m h e = go (fits-shape count c h) e
   where
-    go : {c : Cell} → Shape count c → slot_of c ≡ Has v → cell_of v ≡ c
-    go an-absent e = let k : Absent ≡ Has v = sym slot-absent ∙ e in absurd (let z : ◌≡◌ {A = ℕ} 0 1 = cc in omega arith)
-    go a_nil_lem e = let k : Has Nil ≡ Has v = sym slot-nil ∙ e in let q : v ≡ Nil = cc in rw q cell-nil
-    go (a-truth b) e = let k : Has (Truth b) ≡ Has v = sym (slot-truth b) ∙ e in let q : v ≡ Truth b = cc in rw q (cell-truth b)
-    go (an-integer n) e = let k : Has (Int n) ≡ Has v = sym (slot-integer n) ∙ e in let q : v ≡ Int n = cc in rw q (cell-integer n)
+    go : {c : Cell} → Shape count c → slot_of c ≡ Some v → cell_of v ≡ c
+    go an-absent e = let k : None ≡ Some v = sym slot-absent ∙ e in absurd (let z : ◌≡◌ {A = ℕ} 0 1 = cc in omega arith)
+    go a_nil_lem e = let k : Some Nil ≡ Some v = sym slot-nil ∙ e in let q : v ≡ Nil = cc in rw q cell-nil
+    go (a-truth b) e = let k : Some (Truth b) ≡ Some v = sym (slot-truth b) ∙ e in let q : v ≡ Truth b = cc in rw q (cell-truth b)
+    go (an-integer n) e = let k : Some (Int n) ≡ Some v = sym (slot-integer n) ∙ e in let q : v ≡ Int n = cc in rw q (cell-integer n)
     go (a-reference r n i l) e =
-        let k : Has (Ref r) ≡ Has v = sym (slot-ref r) ∙ e in
+        let k : Some (Ref r) ≡ Some v = sym (slot-ref r) ∙ e in
         let q : v ≡ Ref r = cc in
         let b : n ≤ no_number = rw i at m in
         rw (q, cell-reference r, word-is r (omega arith))
 
-pub absent-slot : (count : ℤ) (c : Cell) → cell_fits count c ≡ true → slot_of c ≡ Absent → c ≡ absent
+pub absent-slot : (count : ℤ) (c : Cell) → cell_fits count c ≡ true → slot_of c ≡ None → c ≡ absent
 absent-slot count c h e = go (fits-shape count c h) e
   where
-    never : {X : Type 0} {v : Value} → Has v ≡ Absent → X
+    never : {X : Type 0} {v : Value} → Some v ≡ None → X
     never k = absurd (let z : ◌≡◌ {A = ℕ} 0 1 = cc in omega arith)
 
-    go : {c : Cell} → Shape count c → slot_of c ≡ Absent → c ≡ absent
+    go : {c : Cell} → Shape count c → slot_of c ≡ None → c ≡ absent
     go an-absent e = refl
     go a_nil_lem e = never (sym slot-nil ∙ e)
     go (a-truth b) e = never (sym (slot-truth b) ∙ e)
@@ -111,19 +103,19 @@ absent-slot count c h e = go (fits-shape count c h) e
     go (a-reference r n k l) e = never (sym (slot-ref r) ∙ e)
 
 -- a reference that fits is below the count
-pub ref-below : (n : ℕ) (c : Cell) (r : ℕ) → cell_fits (pos n) c ≡ true → slot_of c ≡ Has (Ref r) → r < n
+pub ref-below : (n : ℕ) (c : Cell) (r : ℕ) → cell_fits (pos n) c ≡ true → slot_of c ≡ Some (Ref r) → r < n
 ref-below n c r h e = go (fits-shape (pos n) c h) e
   where
     never : ◌≡◌ {A = ℕ} 0 1 → r < n
     never z = omega arith
 
-    go : {c : Cell} → Shape (pos n) c → slot_of c ≡ Has (Ref r) → r < n
-    go an-absent e = let k : Absent ≡ Has (Ref r) = sym slot-absent ∙ e in never (cc)
-    go a_nil_lem e = let k : Has Nil ≡ Has (Ref r) = sym slot-nil ∙ e in never (cc)
-    go (a-truth b) e = let k : Has (Truth b) ≡ Has (Ref r) = sym (slot-truth b) ∙ e in never (cc)
-    go (an-integer z) e = let k : Has (Int z) ≡ Has (Ref r) = sym (slot-integer z) ∙ e in never (cc)
+    go : {c : Cell} → Shape (pos n) c → slot_of c ≡ Some (Ref r) → r < n
+    go an-absent e = let k : None ≡ Some (Ref r) = sym slot-absent ∙ e in never (cc)
+    go a_nil_lem e = let k : Some Nil ≡ Some (Ref r) = sym slot-nil ∙ e in never (cc)
+    go (a-truth b) e = let k : Some (Truth b) ≡ Some (Ref r) = sym (slot-truth b) ∙ e in never (cc)
+    go (an-integer z) e = let k : Some (Int z) ≡ Some (Ref r) = sym (slot-integer z) ∙ e in never (cc)
     go (a-reference q m i l) e =
-        let k : Has (Ref q) ≡ Has (Ref r) = sym (slot-ref q) ∙ e in
+        let k : Some (Ref q) ≡ Some (Ref r) = sym (slot-ref q) ∙ e in
         let x : q ≡ r = cc in
         let y : n ≡ m = cc in
         omega arith

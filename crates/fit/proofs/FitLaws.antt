@@ -1,4 +1,5 @@
 -- What a fit environment and heap say by what is read from them, both ways. Assumes nothing.
+use Rattle.std.specs.Prelude.{Some}
 use mathlib.Core.Path.{◌≡◌, sym, ap, ◌∙◌}
 use mathlib.Core.Bool.{true, not, ◌&&◌}
 use mathlib.Core.List.{List}
@@ -16,7 +17,6 @@ use Rattle.tables.specs.Cells.{Cells, Sized, pair_at, cell_at}
 use Rattle.tables.specs.Records.{record_count, count_at, field_count, label_at, field_at, blank_place, blank_record, with_record, without_record}
 use Rattle.tables.specs.declared.Value.{Value}
 use Rattle.tables.specs.declared.Value.TheVariants.{Ref}
-use Rattle.tables.specs.declared.Slot.TheVariants.{Has}
 use Rattle.tables.proofs.SearchLaws.{and_left, and_right, and-true, every-at, every-all}
 use Rattle.tables.proofs.FindLaws.{field_in, fields-are, no_fields, fields-small}
 use Rattle.tables.proofs.CellLaws.{Located, a-variable, a-field, nowhere, located, variable-cell, field-at, no_cell}
@@ -171,11 +171,11 @@ module _ (S : Cells) (fit : Fit S) where
   }
 
   -- a reference is to one of the records
-  pub fit-ref : (l r : ℕ) → slot_of (cell_at S l) ≡ Has (Ref r) → r < record_count S.heap
+  pub fit-ref : (l r : ℕ) → slot_of (cell_at S l) ≡ Some (Ref r) → r < record_count S.heap
   fit-ref l r e = ref-below (record_count S.heap) (cell_at S l) r (rw fit-count-word at (fit-cell l)) e
 
   -- what a location holds determines its cell
-  pub fit-slot : (l : ℕ) (v : Value) → slot_of (cell_at S l) ≡ Has v → cell_of v ≡ cell_at S l
+  pub fit-slot : (l : ℕ) (v : Value) → slot_of (cell_at S l) ≡ Some v → cell_of v ≡ cell_at S l
   fit-slot l v e = cell-of-slot (word_at S.heap 0) (cell_at S l) v (rw fit-count-word (omega (arith, fit_count))) (fit-cell l) e
 
   -- a used field is in one of the records, and is not absent

@@ -1,6 +1,6 @@
 -- Records and positions that fit, where the rest of their table is blank or is not. Assumes nothing.
-use mathlib.Core.Path.{◌≡◌}
-use mathlib.Core.Bool.{true, false}
+use mathlib.Core.Path.{◌≡◌, sym, ◌∙◌}
+use mathlib.Core.Bool.{true, false, true≢false}
 use mathlib.Core.List.{List}
 use Prim.Native.Nat.{ℕ, ◌+◌, ◌*◌, ◌≤◌, ◌<◌}
 use native.Mathlib.Omega.{arith}
@@ -14,7 +14,7 @@ use Rattle.tables.specs.Cells.{pair_at, zeros}
 use Rattle.tables.specs.Records.{blank_record, blank_from}
 use Rattle.tables.specs.Kept.{most_kept, blank_position, blank_positions}
 use Rattle.tables.specs.declared.Sort.{Sort}
-use Rattle.tables.proofs.SearchLaws.{every-at, every-all}
+use Rattle.tables.proofs.SearchLaws.{cases, every-at, every-all}
 use Rattle.tables.proofs.RecordLaws.{zeros-at}
 use Rattle.tables.proofs.ClearLaws.{agree, from_at, from_all, positions-at, positions-all}
 use Rattle.fit.specs.Fit.{cell_fits, environment_fits, record_fits, number_fits, position_fits, room_fits}
@@ -33,9 +33,14 @@ clear-cells count e z = every-all (λ x. cell_fits count (pair_at e (2 * x))) 64
 
 -- a heap of n records that fit, whose other records are blank or not
 module _ (h : List ℤ) (n : ℕ) where
-  pub number-refused : (r : ℕ) → r < n → record_fits h r ≡ false → number_fits h n r ≡ false
+  number-passed : every (number_fits h n) 64 ≡ true → (r : ℕ) → r < n → n ≤ 64 → record_fits h r ≡ true
   unfolding number_fits
-  number-refused r l e = rw (lt-ltb r n l) e
+  number-passed e r l m = rw (lt-ltb r n l) at (every-at (number_fits h n) 64 e r (omega arith))
+
+  pub heap-refused : n ≤ 64 → every (record_fits h) n ≡ false → every (number_fits h n) 64 ≡ false
+  heap-refused m e = cases (every (number_fits h n) 64)
+      (λ a. absurd (true≢false (sym (every-all (record_fits h) n (λ r l. number-passed a r l m)) ∙ e)))
+      (λ a. a)
 
   module _ (small : n ≤ 64) (fits : every (record_fits h) n ≡ true) where
     number-passes : blank_from h n ≡ true → (r : ℕ) → r < 64 → Dec (r < n) → number_fits h n r ≡ true
@@ -55,9 +60,14 @@ module _ (h : List ℤ) (n : ℕ) where
 
 -- a sort of n positions that fit, whose other positions are blank or not
 module _ (c : List ℤ) (s : Sort) (n : ℕ) where
-  pub room-refused : (i : ℕ) → i < n → position_fits c s i ≡ false → room_fits c s n i ≡ false
+  room-passed : every (room_fits c s n) (most_kept s) ≡ true → (i : ℕ) → i < n → n ≤ most_kept s → position_fits c s i ≡ true
   unfolding room_fits
-  room-refused i l e = rw (lt-ltb i n l) e
+  room-passed e i l m = rw (lt-ltb i n l) at (every-at (room_fits c s n) (most_kept s) e i (omega arith))
+
+  pub sort-refused : n ≤ most_kept s → every (position_fits c s) n ≡ false → every (room_fits c s n) (most_kept s) ≡ false
+  sort-refused m e = cases (every (room_fits c s n) (most_kept s))
+      (λ a. absurd (true≢false (sym (every-all (position_fits c s) n (λ i l. room-passed a i l m)) ∙ e)))
+      (λ a. a)
 
   module _ (small : n ≤ most_kept s) (fits : every (position_fits c s) n ≡ true) where
     room-passes : blank_positions c s n ≡ true → (i : ℕ) → i < most_kept s → Dec (i < n) → room_fits c s n i ≡ true

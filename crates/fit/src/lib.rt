@@ -9,30 +9,25 @@ ghost use Rattle.fit.specs.Fit.{sized, cell_fits, environment_fits, label_fits, 
 use tables::{Cell, Sort};
 
 // The lengths of the three tables.
+#[tactic(auto, unfolding(crate::specs::Fit::sized))]
 pub fn are_sized(environment: &[i32], heap: &[i32], constraints: &[i32]) -> bool
     ensures { result ≡ sized environment.now heap.now constraints.now }
 {
-    if environment.len() != tables::ENVIRONMENT_WORDS {
-        return false;
-    }
-    if heap.len() != tables::HEAP_WORDS {
-        return false;
-    }
-    constraints.len() == tables::CONSTRAINTS_WORDS
+    environment.len() == tables::ENVIRONMENT_WORDS
+        && heap.len() == tables::HEAP_WORDS
+        && constraints.len() == tables::CONSTRAINTS_WORDS
 }
 
 // A kind, and a payload that it allows, where the heap has this count word.
+#[tactic(auto, unfolding(crate::specs::Fit::cell_fits))]
 pub fn cell_fits(count: i32, c: Cell) -> bool
     ensures { result ≡ cell_fits count c }
 {
-    let kind = words::number(c.kind);
-    let payload = c.payload;
-    match kind {
-        0 => words::same(payload, 0),
-        1 => words::same(payload, 0),
-        2 => words::same(payload, 0) | words::same(payload, 1),
+    match words::number(c.kind) {
+        0 | 1 => c.payload == 0,
+        2 => (c.payload == 0) | (c.payload == 1),
         3 => true,
-        4 => words::at_most(0, payload) & words::below(payload, count),
+        4 => (0 <= c.payload) & (c.payload < count),
         _ => false,
     }
 }
@@ -44,37 +39,20 @@ pub fn environment_fits(environment: &[i32], heap: &[i32]) -> bool
     if tables::cells::is_clear(environment) {
         return true;
     }
-    let mut x: usize = 0;
-    while x < tables::VARIABLES {
-        if !cell_fits(
-            words::word_at(heap, 0),
-            tables::cells::pair_at(environment, 2 * x),
-        ) {
-            return false;
-        }
-        x += 1;
-    }
-    true
+    let count = words::word_at(heap, 0);
+    (0..tables::VARIABLES).all(|x| cell_fits(count, tables::cells::pair_at(environment, 2 * x)))
 }
 
 // The label of field place f of record r is in its range and none before it is the same.
+#[tactic(auto, unfolding(crate::specs::Fit::label_fits))]
 fn label_fits(heap: &[i32], r: usize, f: usize) -> bool
     ensures { result ≡ label_fits heap.now r f }
 {
     let label = tables::records::label_at(heap, r, f);
-    if tables::LABELS <= label {
-        return false;
-    }
-    let mut g: usize = 0;
-    while g < f {
-        if tables::records::label_at(heap, r, g) == label {
-            return false;
-        }
-        g += 1;
-    }
-    true
+    label < tables::LABELS && (0..f).all(|g| tables::records::label_at(heap, r, g) != label)
 }
 
+#[tactic(auto, unfolding(crate::specs::Fit::field_fits))]
 fn field_fits(heap: &[i32], r: usize, f: usize) -> bool
     ensures { result ≡ field_fits heap.now r f }
 {
@@ -82,40 +60,31 @@ fn field_fits(heap: &[i32], r: usize, f: usize) -> bool
         return false;
     }
     let c = tables::records::field_at(heap, r, f);
-    if words::number(c.kind) == 0 {
-        return false;
-    }
-    cell_fits(words::word_at(heap, 0), c)
+    words::number(c.kind) != 0 && cell_fits(words::word_at(heap, 0), c)
 }
 
 // Field place f of record r, where the record has n fields.
+#[tactic(auto, unfolding(crate::specs::Fit::place_fits))]
 fn place_fits(heap: &[i32], r: usize, f: usize, n: usize) -> bool
     ensures { result ≡ place_fits heap.now r n f }
 {
     if f < n {
-        return field_fits(heap, r, f);
+        field_fits(heap, r, f)
+    } else {
+        tables::records::is_blank(heap, r, f)
     }
-    tables::records::is_blank(heap, r, f)
 }
 
+#[tactic(auto, unfolding(crate::specs::Fit::record_fits))]
 fn record_fits(heap: &[i32], r: usize) -> bool
     ensures { result ≡ record_fits heap.now r }
 {
     let n = tables::records::count_at(heap, r);
-    if tables::FIELDS < n {
-        return false;
-    }
-    let mut f: usize = 0;
-    while f < tables::FIELDS {
-        if !place_fits(heap, r, f, n) {
-            return false;
-        }
-        f += 1;
-    }
-    true
+    n <= tables::FIELDS && (0..tables::FIELDS).all(|f| place_fits(heap, r, f, n))
 }
 
 // The records that the heap counts, then zeros.
+#[tactic(auto, unfolding(crate::specs::Fit::heap_fits))]
 pub fn heap_fits(heap: &[i32]) -> bool
     ensures { result ≡ heap_fits heap.now }
 {
@@ -123,35 +92,21 @@ pub fn heap_fits(heap: &[i32]) -> bool
     if tables::RECORDS < n {
         return false;
     }
-    let mut r: usize = 0;
-    while r < n {
-        if !record_fits(heap, r) {
-            return false;
-        }
-        r += 1;
-    }
-    tables::records::are_blank_from(heap, n)
+    (0..n).all(|r| record_fits(heap, r)) && tables::records::are_blank_from(heap, n)
 }
 
 // The kept position number i of a sort is a number, and none before it is the same.
+#[tactic(auto, unfolding(crate::specs::Fit::position_fits))]
 fn position_fits(constraints: &[i32], s: Sort, i: usize) -> bool
     ensures { result ≡ position_fits constraints.now s i }
 {
     let position = tables::kept::position_at(constraints, s, i);
-    if 2147483648 <= position {
-        return false;
-    }
-    let mut j: usize = 0;
-    while j < i {
-        if tables::kept::position_at(constraints, s, j) == position {
-            return false;
-        }
-        j += 1;
-    }
-    true
+    position < 2147483648
+        && (0..i).all(|j| tables::kept::position_at(constraints, s, j) != position)
 }
 
 // The positions that the sort counts, then zeros.
+#[tactic(auto, unfolding(crate::specs::Fit::sort_fits))]
 fn sort_fits(constraints: &[i32], s: Sort) -> bool
     ensures { result ≡ sort_fits constraints.now s }
 {
@@ -159,22 +114,14 @@ fn sort_fits(constraints: &[i32], s: Sort) -> bool
     if tables::kept::most_kept(s) < n {
         return false;
     }
-    let mut i: usize = 0;
-    while i < n {
-        if !position_fits(constraints, s, i) {
-            return false;
-        }
-        i += 1;
-    }
-    tables::kept::are_blank_from(constraints, s, n)
+    (0..n).all(|i| position_fits(constraints, s, i))
+        && tables::kept::are_blank_from(constraints, s, n)
 }
 
 // The constraints' counts, their unused words, and that no position occurs twice.
+#[tactic(auto, unfolding(crate::specs::Fit::constraints_fit))]
 pub fn constraints_fit(constraints: &[i32]) -> bool
     ensures { result ≡ constraints_fit constraints.now }
 {
-    if !sort_fits(constraints, Sort::Values) {
-        return false;
-    }
-    sort_fits(constraints, Sort::Identities)
+    sort_fits(constraints, Sort::Values) && sort_fits(constraints, Sort::Identities)
 }

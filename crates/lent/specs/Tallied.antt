@@ -1,11 +1,11 @@
 -- The tally of a run in numbers, and what a piece of a program makes of it; how the tests came out is not told. Assumes nothing: these are definitions.
-use Rattle.std.specs.Prelude.{ℕ, zero, suc, ◌+◌, ◌-◌, ◌≤◌, ◌≡◌, Bool, true, false, List, [], ltb, ℤ, length}
+use Rattle.std.specs.Prelude.{ℕ, zero, suc, ◌+◌, ◌-◌, ◌≤◌, ◌≡◌, Bool, true, false, List, [], ltb, ℤ, length, Result, Ok, Err}
 use Rattle.words.specs.Words.{last_of}
 use Rattle.rules.specs.State.{State}
 use Rattle.rules.specs.Running.{Out, on, end}
 use Rattle.rules.specs.Running.{Tally as Carries}
+use Rattle.program.specs.declared.Refusal.{Refusal}
 use Rattle.phases.specs.declared.Done.{Done}
-use Rattle.phases.specs.declared.Done.TheVariants.{Accepted, Refused}
 use Rattle.lent.specs.declared.Tally.{Tally}
 
 -- the rules' tally, for the code's: these tables, and the last words of the proposals
@@ -64,11 +64,11 @@ paid_where false place t = ended_at 5 place t
 abbrev pub paid_by : ℕ → ℕ → Tally → Tally
 paid_by budget place t = paid_where (ltb t.steps budget) place t
 
-abbrev pub accepted_in : Done → ℕ
-accepted_in (Accepted left accepted) = accepted
-accepted_in (Refused n word) = 0
+abbrev pub accepted_in : Result Done Refusal → ℕ
+accepted_in (Ok d) = d.accepted
+accepted_in (Err f) = 0
 
 -- what a statement without blocks leaves of the tally, in a program of so many words; where it is refused, the place is that of the word at fault
-abbrev pub done_by : ℕ → Tally → Done → Tally
-done_by long t (Accepted left accepted) = record { steps = t.steps; accepted = t.accepted + accepted; unread = left; outcome = 0; place = 0 }
-done_by long t (Refused n word) = ended_at n (long - word) t
+abbrev pub done_by : ℕ → Tally → Result Done Refusal → Tally
+done_by long t (Ok d) = record { steps = t.steps; accepted = t.accepted + d.accepted; unread = d.unread; outcome = 0; place = 0 }
+done_by long t (Err f) = ended_at f.number (long - f.word) t

@@ -4,6 +4,7 @@ ghost use Rattle.lent.specs.Tallied.{ended_at, paid_by, accepted_in, done_by};
 
 use crate::Tally;
 use phases::Done;
+use program::Refusal;
 
 // The tally of a run that a statement ends; its counts stay.
 pub fn ended(last: Tally, outcome: usize, place: usize) -> Tally
@@ -35,18 +36,18 @@ pub fn pay(t: Tally, budget: usize, place: usize) -> Tally
 }
 
 // The tally after a statement whose step is paid; `long` is how many words the program has. A turned-down proposal is unread.
-pub(crate) fn tallied(t: Tally, long: usize, done: Done) -> Tally
+pub(crate) fn tallied(t: Tally, long: usize, done: Result<Done, Refusal>) -> Tally
     requires { t.accepted + accepted_in done ≤ t.steps }
     ensures { result ≡ done_by long t done }
 {
     match done {
-        Done::Accepted(left, accepted) => Tally {
+        Ok(done) => Tally {
             steps: t.steps,
-            accepted: t.accepted + accepted,
-            unread: left,
+            accepted: t.accepted + done.accepted,
+            unread: done.unread,
             outcome: 0,
             place: 0,
         },
-        Done::Refused(number, word) => ended(t, number, words::less(long, word)),
+        Err(fault) => ended(t, fault.number, words::less(long, fault.word)),
     }
 }

@@ -4,9 +4,12 @@
 pub mod counting; // counting.rt: a step is paid, a run is ended, a statement is counted
 pub mod stepping; // stepping.rt: the statement with the tally by value
 
+ghost use Rattle.tables.specs.Lending.{StillLent};
+ghost use Rattle.phases.specs.Told.{state_in};
 ghost use Rattle.lent.specs.Tallied.{carries};
 ghost use Rattle.lent.specs.Lending.{one_statement, Steps};
-ghost use Rattle.phases.specs.Told.{tables};
+
+use tables::Tables;
 
 // Steps, accepted proposals, and how many words of the proposals are unread; the outcome and place where a statement ended the run, 0 while it goes on.
 #[derive(Clone, Copy)]
@@ -20,52 +23,32 @@ pub struct Tally {
 
 // The statement at p, as a run does it, with the tally lent.
 pub fn step(
-    t: &mut Tally,
+    tally: &mut Tally,
     program: &[i32],
-    environment: &mut [i32],
-    heap: &mut [i32],
-    constraints: &mut [i32],
+    t: &mut Tables<'_>,
     proposals: &[i32],
     budget: usize,
     p: &[i32],
 )
-    ensures { Steps proposals.now (tables environment.old heap.old constraints.old) (tables environment.new heap.new constraints.new) t.old t.new (one_statement program.now budget p.now (carries proposals.now (tables environment.old heap.old constraints.old) t.old)) }
+    ensures steps { Steps proposals.now (state_in t.old) (state_in t.new) tally.old tally.new (one_statement program.now budget p.now (carries proposals.now (state_in t.old) tally.old)) }
+    ensures lent { StillLent t.old t.new }
 {
-    *t = stepping::stepped(
-        program,
-        environment,
-        heap,
-        constraints,
-        proposals,
-        budget,
-        p,
-        *t,
-    );
+    *tally = stepping::stepped(program, t, proposals, budget, p, *tally);
 }
 
 // The same for a caller that carries the tally by value: it is laid in a local, which is lent.
 pub fn stepped_on(
     program: &[i32],
-    environment: &mut [i32],
-    heap: &mut [i32],
-    constraints: &mut [i32],
+    t: &mut Tables<'_>,
     proposals: &[i32],
     budget: usize,
     p: &[i32],
-    t: Tally,
+    tally: Tally,
 ) -> Tally
-    ensures { Steps proposals.now (tables environment.old heap.old constraints.old) (tables environment.new heap.new constraints.new) t result (one_statement program.now budget p.now (carries proposals.now (tables environment.old heap.old constraints.old) t)) }
+    ensures steps { Steps proposals.now (state_in t.old) (state_in t.new) tally result (one_statement program.now budget p.now (carries proposals.now (state_in t.old) tally)) }
+    ensures lent { StillLent t.old t.new }
 {
-    let mut u = t;
-    step(
-        &mut u,
-        program,
-        environment,
-        heap,
-        constraints,
-        proposals,
-        budget,
-        p,
-    );
+    let mut u = tally;
+    step(&mut u, program, t, proposals, budget, p);
     u
 }

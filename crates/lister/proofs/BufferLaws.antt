@@ -130,3 +130,8 @@ module _ {out₀ t out : List ℕ} {at to i : ℕ} (inv : Writing out₀ at t ou
 
   pub writing-ends : length t ≤ i → Puts out₀ at t out to
   writing-ends h = record { is = sym (written_none (buffer out to)) ∙ rw (drop_of_length-le t {i = i} h) at inv.rest }
+
+-- the lemmas for `put`, and for the loop of `put_all`
+pub ruleset one_byte = (put-room, put_full)
+
+pub ruleset writing = (writing-starts, writing-goes-on, writing-ends)

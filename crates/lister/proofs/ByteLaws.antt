@@ -4,10 +4,13 @@ use mathlib.Core.Bool.{true, false, ◌&&◌}
 use mathlib.Core.List.{List, [], ◌∷◌, ◌++◌}
 use Prim.Native.Nat.{ℕ, suc, ◌+◌, ◌≤◌, ◌<◌}
 use native.Mathlib.Omega.{arith}
-use borrow.Author.Tests.{eqb-true, eqb-false, eq-eqb, ne_eqb}
-use lib.Dec.{eqb}
-use lib.ListN.{length, get_or, take, drop, drop_of_length-le}
-use Rattle.words.proofs.Laws.{drop-next}
+use borrow.Author.Tests.{eqb-true, eqb-false, eq-eqb, ne_eqb, ltb-true, ltb-false}
+use lib.Dec.{ltb, eqb}
+use lib.Pointwise.{pointwise}
+use Rattle.std.specs.Option.{unwrap_or}
+use Rattle.std.specs.List.{position, position_or_len, slice_split}
+use Rattle.std.proofs.lemmas.List.Recursion.{is_position_or_len}
+use lib.ListN.{length, take, drop, drop_of_length-le}
 use Rattle.tables.proofs.SearchLaws.{cases}
 use Rattle.lister.specs.Bytes.{up_to, past, on_first, pieces, begins}
 
@@ -103,39 +106,33 @@ pieces-last b (x ∷ s) h =
     byte b x s (λ e. let k : suc (length s) ≤ 0 = rw (up-to-here b x s e) at h in absurd (omega arith))
     (λ n. let k : suc (length s) ≤ suc (length (up_to b s)) = rw (up-to-on b x s n) at h in rw (up-to-on b x s n, pieces-on b x s n, pieces-last b s (omega arith)))
 
--- what the two parts are as the code takes them
-module _ (b : ℕ) (s : List ℕ) {k : ℕ} (e : k ≡ length (up_to b s)) where
-  pub up-to-taken : take k s ≡ up_to b s
-  up-to-taken = rw e (up-to-part b s)
+-- the place of the first b, as the library finds it
+pub first_place : (b : ℕ) (s : List ℕ) → unwrap_or (position (λ x. eqb x b) s) (length s) ≡ length (up_to b s)
+first_place b s =
+    let n : length (up_to b s) ≡ position_or_len (λ x. eqb x b) s =
+    is_position_or_len (λ t. length (up_to b t)) (λ x. eqb x b) (ap length (up-to-none b))
+    (λ x t. byte b x t (λ e. rw (up-to-here b x t e, eq-eqb x b e)) (λ k. rw (up-to-on b x t k, ne_eqb x b k) (omega arith))) s in
+    let l : position_or_len (λ x. eqb x b) s ≤ length s = rw n at (up-to-length b s) in
+    rw n (cases (ltb (position_or_len (λ x. eqb x b) s) (length s)) (λ e. rw e) (λ e. rw e (omega (arith, ltb-false (position_or_len (λ x. eqb x b) s) (length s) e))))
 
-  pub past-dropped : k < length s → drop (k + 1) s ≡ past b s
-  past-dropped h = rw e (past-part b s (omega arith))
+-- what is behind it
+pub past-is : (b : ℕ) (s : List ℕ) → drop (length (up_to b s) + 1) s ≡ past b s
+past-is b s =
+    cases (ltb (length (up_to b s)) (length s))
+    (λ e. past-part b s (ltb-true (length (up_to b s)) (length s) e))
+    (λ e. let h : length s ≤ length (up_to b s) = ltb-false (length (up_to b s)) (length s) e in
+    drop_of_length-le s {i = length (up_to b s) + 1} (omega arith) ∙ sym (past_end b s h))
 
-  pub past-dropped-none : length s ≤ k → drop k s ≡ past b s
-  past-dropped-none h = drop_of_length-le s {i = k} h ∙ sym (past_end b s (omega arith))
+-- the lemmas for `up_to` and `after`
+pub ruleset up_to_part = (up-to-part)
 
--- ---- the loop that finds b: none of the first i bytes is one
+pub ruleset after_first = (up-to-length, past-is)
 
-pub record Finding (b : ℕ) (s : List ℕ) (i : ℕ) : Type 0 where
-  pub inside : i ≤ length s
-  pub rest : i + length (up_to b (drop i s)) ≡ length (up_to b s)
-
-pub finding-starts : {b : ℕ} {s : List ℕ} → Finding b s 0
-finding-starts = record { inside = omega arith; rest = omega arith }
-
-module _ {b : ℕ} {s : List ℕ} {i : ℕ} (inv : Finding b s i) where
-  pub finding-found : i < length s → get_or s i 0 ≡ b → i ≡ length (up_to b s)
-  finding-found h e =
-      let k : i + 0 ≡ length (up_to b s) = rw (drop-next s i h, up-to-here b (get_or s i 0) (drop (i + 1) s) e) at inv.rest in omega arith
-
-  pub finding-goes-on : i < length s → (get_or s i 0 ≡ b → ⊥) → Finding b s (i + 1)
-  finding-goes-on h n =
-      let k : i + suc (length (up_to b (drop (i + 1) s))) ≡ length (up_to b s) = rw (drop-next s i h, up-to-on b (get_or s i 0) (drop (i + 1) s) n) at inv.rest in
-      record { inside = omega arith; rest = omega arith }
-
-  pub finding-ends : length s ≤ i → i ≡ length (up_to b s)
-  finding-ends h =
-      let k : i + 0 ≡ length (up_to b s) = rw (drop_of_length-le s {i = i} h, up-to-none b) at inv.rest in omega arith
+-- the pieces, as the library cuts them
+pub pieces-split : (b : ℕ) (s : List ℕ) → slice_split (λ x. eqb x b) s ≡ pieces b s
+unfolding pieces
+pieces-split b [] = refl
+pieces-split b (x ∷ s) = rw (pieces-split b s)
 
 -- ---- a name at the start of a text
 
@@ -151,26 +148,15 @@ pub begins-more : (x y : ℕ) (name s : List ℕ) → begins (x ∷ name) (y ∷
 unfolding begins
 begins-more x y name s = refl
 
-pub record Beginning (name s : List ℕ) (i : ℕ) : Type 0 where
-  pub inside : i ≤ length name
-  pub rest : begins (drop i name) (drop i s) ≡ begins name s
+-- as the library compares them, and as it takes the name off
+pub begins_strip : (name s : List ℕ) → pointwise eqb (take (length name) s) name ≡ begins name s
+begins_strip [] s = sym (begins-none s)
+begins_strip (x ∷ name) [] = sym (begins-short x name)
+begins_strip (x ∷ name) (y ∷ s) = rw (begins-more x y name s, ← begins_strip name s)
 
-pub beginning-starts : {name s : List ℕ} → Beginning name s 0
-beginning-starts = record { inside = omega arith; rest = refl }
-
-module _ {name s : List ℕ} {i : ℕ} (inv : Beginning name s i) where
-  pub beginning-short : i < length name → length s ≤ i → false ≡ begins name s
-  beginning-short h l = rw (drop-next name i h, drop_of_length-le s {i = i} l, begins-short) at inv.rest
-
-  module _ (h : i < length name) (l : i < length s) where
-    turn : (eqb (get_or s i 0) (get_or name i 0) && begins (drop (i + 1) name) (drop (i + 1) s)) ≡ begins name s
-    turn = rw (drop-next name i h, drop-next s i l, begins-more) at inv.rest
-
-    pub beginning-differs : (get_or s i 0 ≡ get_or name i 0 → ⊥) → false ≡ begins name s
-    beginning-differs n = rw (ne_eqb (get_or s i 0) (get_or name i 0) n) at turn
-
-    pub beginning-goes-on : get_or s i 0 ≡ get_or name i 0 → Beginning name s (i + 1)
-    beginning-goes-on e = record { inside = omega arith; rest = rw (eq-eqb (get_or s i 0) (get_or name i 0) e) at turn }
-
-  pub beginning-ends : length name ≤ i → true ≡ begins name s
-  beginning-ends h = rw (drop_of_length-le name {i = i} h, begins-none) at inv.rest
+pub begins_pointwise : (name s : List ℕ) → pointwise eqb name (take (length name) s) ≡ begins name s
+begins_pointwise [] s = sym (begins-none s)
+begins_pointwise (x ∷ name) [] = sym (begins-short x name)
+begins_pointwise (x ∷ name) (y ∷ s) =
+    rw (begins-more x y name s, ← begins_pointwise name s)
+    (cases (eqb y x) (λ e. rw (e, eq-eqb x y (sym (eqb-true y x e)))) (λ e. rw (e, ne_eqb x y (λ k. eqb-false y x e (sym k)))))

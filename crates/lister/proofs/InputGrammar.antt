@@ -1,4 +1,5 @@
 -- The definition takes exactly the inputs of the grammar, each as its numbers, and of every other it names the first unfit line. Assumes nothing.
+use Rattle.std.specs.Prelude.{None, Option, Some, ℤ, Result, Ok, Err}
 use mathlib.Core.Path.{◌≡◌, refl, sym, ap, ◌∙◌}
 use mathlib.Core.List.{List, [], ◌∷◌, ◌++◌}
 use Prim.Native.Nat.{ℕ, ◌≤◌, ◌<◌}
@@ -10,12 +11,9 @@ use lib.ListN.{length}
 use Rattle.words.specs.Answer.{got, stop}
 use Rattle.words.proofs.AnswerLaws.{stop≢got}
 use Rattle.tables.proofs.SearchLaws.{cases}
-use Rattle.lister.specs.declared.Numeral.{Numeral as Reading}
-use Rattle.lister.specs.declared.Numeral.TheVariants.{Number, Unfit as NoNumber}
 use Rattle.lister.specs.declared.Input.{Input}
-use Rattle.lister.specs.declared.Input.TheVariants.{Reads, Unfit}
 use Rattle.lister.specs.Bytes.{newline, up_to, past}
-use Rattle.lister.specs.Reading.{program_name, proposals_name, budget_name, Line, line_in, only_by, budget_line, budget_in, Given, given, with_program, input_in}
+use Rattle.lister.specs.Reading.{program_name, proposals_name, budget_name, Line, line_in, only_by, budget_line, budget_in, Given, given, input_of, with_program, input_in}
 use Rattle.lister.specs.Grammar.{Opens, First, Second, Third, FirstUnfit}
 use Rattle.lister.proofs.ByteLaws.{split, whole, past_end}
 use Rattle.lister.proofs.ReadingLaws.{input-lines}
@@ -39,15 +37,15 @@ opens_one {s = s} o (Opens.ended {t = t}) = (over-up-to 11 10 (omega arith) s t 
 opens_one {s = s} o Opens.missing = (over-whole 11 10 (omega arith) s o, over_none 11 10 (omega arith) s o)
 
 -- the third line, and nothing after it
-budget-alone : (t : List ℕ) (w : ℤ) → budget_in t ≡ Number w → (budget_line (up_to newline t) ≡ Number w) × (past newline t ≡ [])
+budget-alone : (t : List ℕ) (w : ℤ) → budget_in t ≡ Some w → (budget_line (up_to newline t) ≡ Some w) × (past newline t ≡ [])
 unfolding budget_in
 budget-alone t w e = go (past newline t) e
   where
-    go : (r : List ℕ) → only_by (budget_line (up_to newline t)) r ≡ Number w → (budget_line (up_to newline t) ≡ Number w) × (r ≡ [])
+    go : (r : List ℕ) → only_by (budget_line (up_to newline t)) r ≡ Some w → (budget_line (up_to newline t) ≡ Some w) × (r ≡ [])
     go [] e = (e, refl)
     go (b ∷ r) e = absurd (let z : ◌≡◌ {A = ℕ} 0 1 = cc in omega arith)
 
-budget-only : (t : List ℕ) {g : Reading} → budget_line (up_to newline t) ≡ g → past newline t ≡ [] → budget_in t ≡ g
+budget-only : (t : List ℕ) {g : Option ℤ} → budget_line (up_to newline t) ≡ g → past newline t ≡ [] → budget_in t ≡ g
 unfolding budget_in
 budget-only t e h = rw (h, e)
 
@@ -93,7 +91,7 @@ module _ (t : List ℕ) where
       }
 
   pub third-fit : (ps qs : List ℤ) (w : ℤ) → length t ≤ 65536 → line_in program_name (up_to newline t) ≡ got ps
-      → line_in proposals_name (up_to newline (past newline t)) ≡ got qs → budget_in (past newline (past newline t)) ≡ Number w → Third t ps qs w
+      → line_in proposals_name (up_to newline (past newline t)) ≡ got qs → budget_in (past newline (past newline t)) ≡ Some w → Third t ps qs w
   third-fit ps qs w h e k l =
       let b = budget-alone (past newline (past newline t)) w l in
       record {
@@ -104,7 +102,7 @@ module _ (t : List ℕ) where
         opens = rw b.1 at (opens (past newline (past newline t)));
       }
 
-  pub third-read : {ps qs : List ℤ} {w : ℤ} → Third t ps qs w → budget_in (past newline (past newline t)) ≡ Number w
+  pub third-read : {ps qs : List ℤ} {w : ℤ} → Third t ps qs w → budget_in (past newline (past newline t)) ≡ Some w
   third-read {ps = ps} {qs = qs} {w = w} f =
       let b : SecondRead ps qs f.rest = second-read f.before in
       let o : (up_to newline f.rest ≡ f.text) × (past newline f.rest ≡ []) = opens_one (budget-over (over_by 11 budget_name refl) f.line) f.opens in
@@ -112,10 +110,7 @@ module _ (t : List ℕ) where
 
 -- ---- the whole input
 
-reads-unfit {ℓ} : {X : Type ℓ} {n m k : ℕ} {w : ℤ} → Reads n m w ≡ Unfit k → X
-reads-unfit e = absurd (let z : ◌≡◌ {A = ℕ} 0 1 = cc in omega arith)
-
-no_number_lem : {X : Type 0} {w : ℤ} → NoNumber ≡ Number w → X
+no_number_lem : {X : Type 0} {w : ℤ} → None ≡ Some w → X
 no_number_lem e = absurd (let z : ◌≡◌ {A = ℕ} 0 1 = cc in omega arith)
 
 -- what is read: three fit lines, whose numbers are stored, and the answer counts them
@@ -125,17 +120,17 @@ pub record Takes (t : List ℕ) (g : Given) (n m : ℕ) (w : ℤ) : Type 0 where
   pub proposals : length g.proposals ≡ m
 
 -- what an answer says of the input
-abbrev pub Says : List ℕ → Given → Input → Type 0
-Says t g (Reads n m w) = Takes t g n m w
-Says t g (Unfit k) = FirstUnfit t k
+abbrev pub Says : List ℕ → Given → Result Input ℕ → Type 0
+Says t g (Ok i) = Takes t g i.program i.proposals i.budget
+Says t g (Err k) = FirstUnfit t k
 
 module _ (t : List ℕ) (small : length t ≤ 65536) where
-  said : (a l : Line) (b : Reading) → line_in program_name (up_to newline t) ≡ a → line_in proposals_name (up_to newline (past newline t)) ≡ l
+  said : (a l : Line) (b : Option ℤ) → line_in program_name (up_to newline t) ≡ a → line_in proposals_name (up_to newline (past newline t)) ≡ l
       → budget_in (past newline (past newline t)) ≡ b → Says t (with_program a l b) (with_program a l b).answer
   said (stop ps) l b e k h = FirstUnfit.one (λ qs r f. stop≢got (sym e ∙ (first_read t f).reads))
   said (got ps) (stop qs) b e k h = FirstUnfit.two (first-fit t ps small e) (λ us vs r f. stop≢got (sym k ∙ (second-read t f).reads))
-  said (got ps) (got qs) NoNumber e k h = FirstUnfit.three (second-fit t ps qs small e k) (λ us vs w f. no_number_lem (sym h ∙ third-read t f))
-  said (got ps) (got qs) (Number w) e k h = record { fit = third-fit t ps qs w small e k h; program = refl; proposals = refl }
+  said (got ps) (got qs) None e k h = FirstUnfit.three (second-fit t ps qs small e k) (λ us vs w f. no_number_lem (sym h ∙ third-read t f))
+  said (got ps) (got qs) (Some w) e k h = record { fit = third-fit t ps qs w small e k h; program = refl; proposals = refl }
 
 too_long_lem : (t : List ℕ) → 65536 < length t → Says t (input_in t) (input_in t).answer
 unfolding input_in
@@ -150,7 +145,7 @@ input-says t =
     rw (input-lines t l) at (said t l (line_in program_name (up_to newline t)) (line_in proposals_name (up_to newline (past newline t))) (budget_in (past newline (past newline t))) refl refl refl))
 
 -- complete: an input of the grammar is read
-pub input-complete : (t : List ℕ) {ps qs : List ℤ} {w : ℤ} → Third t ps qs w → input_in t ≡ given (Reads (length ps) (length qs) w) ps qs
+pub input-complete : (t : List ℕ) {ps qs : List ℤ} {w : ℤ} → Third t ps qs w → input_in t ≡ given (Ok (input_of (length ps) (length qs) w)) ps qs
 input-complete t {ps = ps} {qs = qs} {w = w} f =
     let b : SecondRead t ps qs f.rest = second-read t f.before in
     sym (input-lines t b.before.small) ∙ (rw (b.before.reads, b.reads, third-read t f))
@@ -173,9 +168,9 @@ unfit-fit (FirstUnfit.two a f) h = f _ _ _ h.before
 unfit-fit (FirstUnfit.three a f) h = f _ _ _ h
 
 -- complete: the first unfit line is named
-pub unfit-complete : (t : List ℕ) {k : ℕ} → FirstUnfit t k → (input_in t).answer ≡ Unfit k
+pub unfit-complete : (t : List ℕ) {k : ℕ} → FirstUnfit t k → (input_in t).answer ≡ Err k
 unfit-complete t {k = k} f = go (input_in t).answer (input-says t)
   where
-    go : (a : Input) → Says t (input_in t) a → a ≡ Unfit k
-    go (Reads n m w) s = absurd (unfit-fit f s.fit)
-    go (Unfit j) s = ap Unfit (unfit-once s f)
+    go : (a : Result Input ℕ) → Says t (input_in t) a → a ≡ Err k
+    go (Ok i) s = absurd (unfit-fit f s.fit)
+    go (Err j) s = ap Err (unfit-once s f)

@@ -1,4 +1,5 @@
 -- The definition reads exactly the lines of the grammar, each as its numbers. Assumes nothing.
+use Rattle.std.specs.Prelude.{None, Option, Some, ℤ}
 use mathlib.Core.Path.{◌≡◌, refl, sym, ap, ◌∙◌}
 use mathlib.Core.Bool.{Bool, true, false, ◌&&◌}
 use mathlib.Core.List.{List, [], ◌∷◌, ◌++◌}
@@ -12,8 +13,6 @@ use lib.Seq.{drop-append_seam}
 use Rattle.words.specs.Answer.{got, stop}
 use Rattle.words.proofs.AnswerLaws.{got-inj, stop≢got}
 use Rattle.tables.proofs.SearchLaws.{cases}
-use Rattle.lister.specs.declared.Numeral.{Numeral as Reading}
-use Rattle.lister.specs.declared.Numeral.TheVariants.{Number, Unfit as NoNumber}
 use Rattle.lister.specs.Bytes.{space, up_to, past, on_first, pieces, begins}
 use Rattle.lister.specs.Numerals.{numeral_in}
 use Rattle.lister.specs.Reading.{budget_name, Line, ahead, ahead_of, numbers_in, row_in, list_in, line_in, budget_line}
@@ -82,10 +81,10 @@ module _ (k b : ℕ) (low : b < k) where
 -- ---- a row
 
 -- a number before others that answered
-by-ahead : {X : Type 0} (g : Reading) (a : Line) (ws : List ℤ) → ahead_of g a ≡ got ws → ((w : ℤ) (vs : List ℤ) → g ≡ Number w → a ≡ got vs → ws ≡ w ∷ vs → X) → X
-by-ahead (Number w) (got vs) ws e k = k w vs refl refl (sym (got-inj e))
-by-ahead (Number w) (stop vs) ws e k = stop≢got e
-by-ahead NoNumber a ws e k = stop≢got e
+by-ahead : {X : Type 0} (g : Option ℤ) (a : Line) (ws : List ℤ) → ahead_of g a ≡ got ws → ((w : ℤ) (vs : List ℤ) → g ≡ Some w → a ≡ got vs → ws ≡ w ∷ vs → X) → X
+by-ahead (Some w) (got vs) ws e k = k w vs refl refl (sym (got-inj e))
+by-ahead (Some w) (stop vs) ws e k = stop≢got e
+by-ahead None a ws e k = stop≢got e
 
 pub row-sound : (n : ℕ) (s : List ℕ) (ws : List ℤ) → numbers_in n (pieces space s) ≡ got ws → Row s ws × (length ws ≤ n)
 unfolding numbers_in
@@ -166,15 +165,15 @@ line-complete name (ListLine.line {s = s} n h) = rw (begins-complete name s, dro
 
 -- ---- the third line
 
-pub budget-sound : (s : List ℕ) (w : ℤ) → budget_line s ≡ Number w → BudgetLine s w
+pub budget-sound : (s : List ℕ) (w : ℤ) → budget_line s ≡ Some w → BudgetLine s w
 unfolding budget_line
 budget-sound s w e =
     cases (begins budget_name s)
     (λ t. let k : BudgetLine (budget_name ++ drop 7 s) w = BudgetLine.line (numeral-sound (drop 7 s) w (rw t at e)) in
     rw (← begins-sound budget_name s t) at k)
-    (λ t. absurd (let k : NoNumber ≡ Number w = rw t at e in let z : ◌≡◌ {A = ℕ} 0 1 = cc in omega arith))
+    (λ t. absurd (let k : None ≡ Some w = rw t at e in let z : ◌≡◌ {A = ℕ} 0 1 = cc in omega arith))
 
-pub budget-complete : {s : List ℕ} {w : ℤ} → BudgetLine s w → budget_line s ≡ Number w
+pub budget-complete : {s : List ℕ} {w : ℤ} → BudgetLine s w → budget_line s ≡ Some w
 unfolding budget_line
 budget-complete (BudgetLine.line {s = s} n) = rw (begins-complete budget_name s, drop-append_seam budget_name s) (numeral-complete n)
 

@@ -1,4 +1,5 @@
 -- The definition reads exactly the numerals of the grammar, each as its number. Assumes nothing.
+use Rattle.std.specs.Prelude.{None, Some}
 use mathlib.Core.Path.{◌≡◌, refl, sym, ap, ◌∙◌}
 use mathlib.Core.List.{List, [], ◌∷◌, ◌++◌, append_assoc, append-nil}
 use Prim.Native.Nat.{ℕ, zero, suc, ◌+◌, ◌-◌, ◌*◌, ◌/◌, ◌%◌, ◌≤◌, ◌<◌}
@@ -8,7 +9,6 @@ use lib.Dec.{ltb, eqb}
 use lib.IntN.{ℤ, pos, negsuc}
 use lib.Signed.{mag}
 use Rattle.tables.proofs.SearchLaws.{cases}
-use Rattle.lister.specs.declared.Numeral.TheVariants.{Number, Unfit}
 use Rattle.lister.specs.Numerals.{no_number, digit_of, value_from, natural_in, positive_of, negative_of, numeral_in, digits_by, digits, numeral}
 use Rattle.lister.specs.Grammar.{Digits, Numeral}
 use Rattle.lister.proofs.NumeralLaws.{digit_low, digit-high, digit-is, value_none, value-no-digit, value-too-great, value-more}
@@ -121,20 +121,20 @@ by-natural (b ∷ c ∷ s) m e h f g =
 
 -- ---- with its sign
 
-unfit-number {ℓ} : {X : Type ℓ} {w : ℤ} → Unfit ≡ Number w → X
+unfit-number {ℓ} : {X : Type ℓ} {w : ℤ} → None ≡ Some w → X
 unfit-number e = absurd (let z : ◌≡◌ {A = ℕ} 0 1 = cc in omega arith)
 
-positive-inverts : {X : Type 0} (n : ℕ) (w : ℤ) → positive_of n ≡ Number w → (n < 2147483648 → pos n ≡ w → X) → X
+positive-inverts : {X : Type 0} (n : ℕ) (w : ℤ) → positive_of n ≡ Some w → (n < 2147483648 → pos n ≡ w → X) → X
 unfolding positive_of
-positive-inverts n w e k = cases (ltb n 2147483648) (λ y. k (ltb-true n 2147483648 y) (let q : Number (pos n) ≡ Number w = rw y at e in cc)) (λ y. unfit-number (rw y at e))
+positive-inverts n w e k = cases (ltb n 2147483648) (λ y. k (ltb-true n 2147483648 y) (let q : Some (pos n) ≡ Some w = rw y at e in cc)) (λ y. unfit-number (rw y at e))
 
-negative-inverts : {X : Type 0} (n : ℕ) (w : ℤ) → negative_of n ≡ Number w → ((m : ℕ) → n ≡ suc m → m < 2147483648 → negsuc m ≡ w → X) → X
+negative-inverts : {X : Type 0} (n : ℕ) (w : ℤ) → negative_of n ≡ Some w → ((m : ℕ) → n ≡ suc m → m < 2147483648 → negsuc m ≡ w → X) → X
 unfolding negative_of
 negative-inverts zero w e k = unfit-number e
 negative-inverts (suc n) w e k =
-    cases (ltb n 2147483648) (λ y. k n refl (ltb-true n 2147483648 y) (let q : Number (negsuc n) ≡ Number w = rw y at e in cc)) (λ y. unfit-number (rw y at e))
+    cases (ltb n 2147483648) (λ y. k n refl (ltb-true n 2147483648 y) (let q : Some (negsuc n) ≡ Some w = rw y at e in cc)) (λ y. unfit-number (rw y at e))
 
-pub numeral-sound : (s : List ℕ) (w : ℤ) → numeral_in s ≡ Number w → Numeral s w
+pub numeral-sound : (s : List ℕ) (w : ℤ) → numeral_in s ≡ Some w → Numeral s w
 unfolding numeral_in
 numeral-sound [] w e = unfit-number e
 numeral-sound (b ∷ s) w e =
@@ -144,14 +144,14 @@ numeral-sound (b ∷ s) w e =
     (λ y. positive-inverts (natural_in (b ∷ s)) w (rw y at e) λ l v.
     rw (← v) (by-natural (b ∷ s) (natural_in (b ∷ s)) refl (omega arith) (λ x z. rw (z, x) Numeral.nought) (λ d. Numeral.positive d l)))
 
-pub numeral-complete : {s : List ℕ} {w : ℤ} → Numeral s w → numeral_in s ≡ Number w
+pub numeral-complete : {s : List ℕ} {w : ℤ} → Numeral s w → numeral_in s ≡ Some w
 unfolding numeral_in natural_in value_from digit_of positive_of negative_of
 numeral-complete Numeral.nought = refl
 numeral-complete (Numeral.positive {s = s} {n = n} d h) =
     let l : Leads s = digits-lead d in
     go l.byte l.others l.least (sym (ap natural_in l.is) ∙ digits-natural d (omega arith)) l.is
   where
-    go : (b : ℕ) (r : List ℕ) → 49 ≤ b → natural_in (b ∷ r) ≡ n → s ≡ b ∷ r → numeral_in s ≡ Number (pos n)
+    go : (b : ℕ) (r : List ℕ) → 49 ≤ b → natural_in (b ∷ r) ≡ n → s ≡ b ∷ r → numeral_in s ≡ Some (pos n)
     go b r k e i = rw (i, ne_eqb b 45 (λ z. omega arith), e, lt-ltb n 2147483648 h)
 numeral-complete (Numeral.negative {s = s} {n = n} d h) = rw (digits-natural d (omega arith), lt-ltb n 2147483648 h)
 
@@ -177,5 +177,5 @@ numeral-written (pos zero) h = Numeral.nought
 numeral-written (pos (suc n)) h = Numeral.positive (digits-written 20 (suc n) (omega arith) (omega arith)) h
 numeral-written (negsuc n) h = Numeral.negative (digits-written 20 (suc n) (omega arith) (omega arith)) h
 
-pub numeral-read-back : (w : ℤ) → mag w < 2147483648 → numeral_in (numeral w) ≡ Number w
+pub numeral-read-back : (w : ℤ) → mag w < 2147483648 → numeral_in (numeral w) ≡ Some w
 numeral-read-back w h = numeral-complete (numeral-written w h)

@@ -1,4 +1,5 @@
 -- No listing is longer than 30,930 bytes, and one that fits is written whole. Assumes nothing.
+use Rattle.std.specs.Prelude.{None, Option, Some}
 use mathlib.Core.Path.{◌≡◌, ◌∙◌}
 use mathlib.Core.Bool.{true}
 use mathlib.Core.List.{List, [], ◌∷◌, ◌++◌}
@@ -11,8 +12,6 @@ use lib.IntN.{ℤ, pos, negsuc}
 use lib.ListN.{length, drop, length-append}
 use Rattle.tables.specs.declared.Value.{Value}
 use Rattle.tables.specs.declared.Value.TheVariants.{Nil, Bool as Truth, Int, Ref}
-use Rattle.tables.specs.declared.Slot.{Slot}
-use Rattle.tables.specs.declared.Slot.TheVariants.{Absent, Has}
 use Rattle.tables.specs.declared.Sort.{Sort}
 use Rattle.tables.specs.declared.Sort.TheVariants.{Values, Identities}
 use Rattle.tables.specs.Values.{slot_of}
@@ -87,9 +86,9 @@ counted-length : (letter i n : ℕ) {k l : ℕ} → length (digits i) ≤ k → 
 unfolding counted_line
 counted-length letter i n h d = both ((letter ∷ []) ++ digits i) (named_line (61 ∷ []) n) (both (letter ∷ []) (digits i) {n = 1} (omega arith) h) (named-length (61 ∷ []) n {k = 1} (omega arith) d)
 
-cell-length : (name : List ℕ) (s : Slot) {k : ℕ} → length name ≤ k → length (cell_line name s) ≤ k + 27
-cell-length name Absent h = omega arith
-cell-length name (Has v) h = both name (given_text v) h (given-length v)
+cell-length : (name : List ℕ) (s : Option Value) {k : ℕ} → length name ≤ k → length (cell_line name s) ≤ k + 27
+cell-length name None h = omega arith
+cell-length name (Some v) h = both name (given_text v) h (given-length v)
 
 -- ---- lines in a row
 

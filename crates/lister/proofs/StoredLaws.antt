@@ -6,10 +6,10 @@ use native.Mathlib.Omega.{arith}
 use lib.IntN.{ℤ}
 use lib.ListN.{length, take, drop}
 use lib.Seq.{take-append_seam}
-use Rattle.lister.specs.declared.Input.TheVariants.{Reads}
+use Rattle.std.specs.Prelude.{Ok}
 use Rattle.lister.specs.Bytes.{laid}
 use Rattle.lister.specs.Grammar.{ListLine}
-use Rattle.lister.specs.Reading.{InputRead, input_in}
+use Rattle.lister.specs.Reading.{InputRead, input_of, input_in}
 use Rattle.lister.proofs.BufferLaws.{laid-fits}
 use Rattle.lister.proofs.InputGrammar.{Takes, Says, input-says}
 
@@ -19,7 +19,7 @@ line-short (ListLine.line f h) = h
 stored_is : (ws s : List ℤ) (n : ℕ) → length ws ≡ n → length ws ≤ 4096 → length s ≡ 4096 → take n (laid ws s) ≡ ws
 stored_is ws s n e h l = rw (laid-fits ws s (omega arith), ← e) (take-append_seam ws (drop (length ws) s))
 
-module _ (t : List ℕ) {p p' q q' : List ℤ} {n m : ℕ} {b : ℤ} (r : InputRead (input_in t) p p' q q' (Reads n m b)) where
+module _ (t : List ℕ) {p p' q q' : List ℤ} {n m : ℕ} {b : ℤ} (r : InputRead (input_in t) p p' q q' (Ok (input_of n m b))) where
   said : Takes t (input_in t) n m b
   said = subst (Says t (input_in t)) (sym r.told) (input-says t)
 

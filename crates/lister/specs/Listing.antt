@@ -1,9 +1,7 @@
 -- The text of the output (01, "The run lister"), whole, for every answer and all tables. Assumes nothing: these are definitions.
-use Rattle.std.specs.Prelude.{ℕ, zero, suc, ◌≡◌, cond, List, [], ◌∷◌, ◌++◌, leb, ℤ, length}
+use Rattle.std.specs.Prelude.{ℕ, zero, suc, ◌≡◌, cond, List, [], ◌∷◌, ◌++◌, leb, ℤ, length, None, Option, Some}
 use Rattle.tables.specs.declared.Value.{Value}
 use Rattle.tables.specs.declared.Value.TheVariants.{Nil, Bool as Truth, Int, Ref}
-use Rattle.tables.specs.declared.Slot.{Slot}
-use Rattle.tables.specs.declared.Slot.TheVariants.{Absent, Has}
 use Rattle.tables.specs.declared.Sort.{Sort}
 use Rattle.tables.specs.declared.Sort.TheVariants.{Values, Identities}
 use Rattle.tables.specs.Sizes.{variables, most_records}
@@ -44,9 +42,9 @@ each_below f zero = []
 each_below f (suc n) = each_below f n ++ f n
 
 -- a cell by its name; an absent cell prints nothing
-abbrev pub cell_line : List ℕ → Slot → List ℕ
-cell_line name Absent = []
-cell_line name (Has v) = name ++ given_text v
+abbrev pub cell_line : List ℕ → Option Value → List ℕ
+cell_line name None = []
+cell_line name (Some v) = name ++ given_text v
 
 -- "v_n is a present variable"
 unfoldable pub variable_text : Cells → ℕ → List ℕ

@@ -1,8 +1,6 @@
 -- "Numbers are 32-bit words in decimal, without plus sign, leading zeros or -0": how such a text is read, and how a number is written.
 -- Assumes nothing: these are definitions.
-use Rattle.std.specs.Prelude.{ℕ, zero, suc, ◌+◌, ◌-◌, ◌*◌, ◌/◌, ◌%◌, cond, List, [], ◌∷◌, ◌++◌, ltb, eqb, ℤ, pos, negsuc}
-use Rattle.lister.specs.declared.Numeral.{Numeral}
-use Rattle.lister.specs.declared.Numeral.TheVariants.{Number, Unfit}
+use Rattle.std.specs.Prelude.{ℕ, zero, suc, ◌+◌, ◌-◌, ◌*◌, ◌/◌, ◌%◌, cond, List, [], ◌∷◌, ◌++◌, ltb, eqb, ℤ, pos, negsuc, None, Option, Some, MatchOption, ◌≡◌, ◌≤◌}
 
 -- ---- reading
 
@@ -30,16 +28,20 @@ natural_in [] = no_number
 natural_in (b ∷ []) = value_from 0 (b ∷ [])
 natural_in (b ∷ c ∷ s) = cond (eqb (digit_of b) 0) no_number (value_from 0 (b ∷ c ∷ s))
 
+-- r is the number n that digits are read as, none where they are no number
+abbrev pub IsRead : ℕ → Option ℕ → Type 0
+IsRead n r = MatchOption r (n ≡ no_number) (λ m. (n ≡ m) × (m ≤ 2147483648))
+
 -- a number from 0 to 2147483647, and one from 1 to 2147483648 behind a minus sign
-unfoldable pub positive_of : ℕ → Numeral
-positive_of n = cond (ltb n 2147483648) (Number (pos n)) Unfit
+unfoldable pub positive_of : ℕ → Option ℤ
+positive_of n = cond (ltb n 2147483648) (Some (pos n)) None
 
-unfoldable pub negative_of : ℕ → Numeral
-negative_of zero = Unfit
-negative_of (suc n) = cond (ltb n 2147483648) (Number (negsuc n)) Unfit
+unfoldable pub negative_of : ℕ → Option ℤ
+negative_of zero = None
+negative_of (suc n) = cond (ltb n 2147483648) (Some (negsuc n)) None
 
-unfoldable pub numeral_in : List ℕ → Numeral
-numeral_in [] = Unfit
+unfoldable pub numeral_in : List ℕ → Option ℤ
+numeral_in [] = None
 numeral_in (b ∷ s) = cond (eqb b minus) (negative_of (natural_in s)) (positive_of (natural_in (b ∷ s)))
 
 -- ---- writing

@@ -1,9 +1,8 @@
 -- Document 01's input and output, texts that are unfit, and the values that print. Assumes nothing: these are definitions.
-use Rattle.std.specs.Prelude.{ℕ, ◌-◌, List, [], ◌∷◌, ◌++◌, ℤ, pos, negsuc, length, replicate}
+use Rattle.std.specs.Prelude.{ℕ, ◌-◌, List, [], ◌∷◌, ◌++◌, ℤ, pos, negsuc, length, replicate, Result, Ok, Err}
 use Rattle.tables.specs.Cells.{Cells, cells}
 use Rattle.lister.specs.declared.Input.{Input}
-use Rattle.lister.specs.declared.Input.TheVariants.{Reads, Unfit}
-use Rattle.lister.specs.Reading.{Given, given, input_in}
+use Rattle.lister.specs.Reading.{Given, given, input_of, input_in}
 
 -- a table of n words that begins with these
 abbrev table : ℕ → List ℤ → List ℤ
@@ -14,14 +13,14 @@ abbrev pub input_text : List ℕ
 input_text = 112 ∷ 114 ∷ 111 ∷ 103 ∷ 114 ∷ 97 ∷ 109 ∷ 61 ∷ 51 ∷ 32 ∷ 50 ∷ 32 ∷ 48 ∷ 32 ∷ 50 ∷ 32 ∷ 48 ∷ 32 ∷ 50 ∷ 51 ∷ 32 ∷ 54 ∷ 52 ∷ 32 ∷ 49 ∷ 32 ∷ 50 ∷ 51 ∷ 32 ∷ 49 ∷ 54 ∷ 32 ∷ 51 ∷ 32 ∷ 49 ∷ 32 ∷ 51 ∷ 32 ∷ 50 ∷ 53 ∷ 32 ∷ 54 ∷ 32 ∷ 50 ∷ 52 ∷ 32 ∷ 48 ∷ 32 ∷ 49 ∷ 32 ∷ 48 ∷ 32 ∷ 50 ∷ 53 ∷ 32 ∷ 51 ∷ 32 ∷ 50 ∷ 51 ∷ 32 ∷ 52 ∷ 32 ∷ 50 ∷ 52 ∷ 32 ∷ 48 ∷ 32 ∷ 49 ∷ 32 ∷ 49 ∷ 32 ∷ 49 ∷ 32 ∷ 48 ∷ 32 ∷ 49 ∷ 32 ∷ 49 ∷ 32 ∷ 50 ∷ 51 ∷ 32 ∷ 51 ∷ 50 ∷ 10 ∷ 112 ∷ 114 ∷ 111 ∷ 112 ∷ 111 ∷ 115 ∷ 97 ∷ 108 ∷ 115 ∷ 61 ∷ 48 ∷ 32 ∷ 48 ∷ 32 ∷ 49 ∷ 32 ∷ 54 ∷ 52 ∷ 32 ∷ 49 ∷ 50 ∷ 56 ∷ 10 ∷ 98 ∷ 117 ∷ 100 ∷ 103 ∷ 101 ∷ 116 ∷ 61 ∷ 49 ∷ 48 ∷ 48 ∷ 10 ∷ []
 
 abbrev pub input_given : Given
-input_given = given (Reads 33 5 (pos 100)) (pos 3 ∷ pos 2 ∷ pos 0 ∷ pos 2 ∷ pos 0 ∷ pos 23 ∷ pos 64 ∷ pos 1 ∷ pos 23 ∷ pos 16 ∷ pos 3 ∷ pos 1 ∷ pos 3 ∷ pos 25 ∷ pos 6 ∷ pos 24 ∷ pos 0 ∷ pos 1 ∷ pos 0 ∷ pos 25 ∷ pos 3 ∷ pos 23 ∷ pos 4 ∷ pos 24 ∷ pos 0 ∷ pos 1 ∷ pos 1 ∷ pos 1 ∷ pos 0 ∷ pos 1 ∷ pos 1 ∷ pos 23 ∷ pos 32 ∷ []) (pos 0 ∷ pos 0 ∷ pos 1 ∷ pos 64 ∷ pos 128 ∷ [])
+input_given = given (Ok (input_of 33 5 (pos 100))) (pos 3 ∷ pos 2 ∷ pos 0 ∷ pos 2 ∷ pos 0 ∷ pos 23 ∷ pos 64 ∷ pos 1 ∷ pos 23 ∷ pos 16 ∷ pos 3 ∷ pos 1 ∷ pos 3 ∷ pos 25 ∷ pos 6 ∷ pos 24 ∷ pos 0 ∷ pos 1 ∷ pos 0 ∷ pos 25 ∷ pos 3 ∷ pos 23 ∷ pos 4 ∷ pos 24 ∷ pos 0 ∷ pos 1 ∷ pos 1 ∷ pos 1 ∷ pos 0 ∷ pos 1 ∷ pos 1 ∷ pos 23 ∷ pos 32 ∷ []) (pos 0 ∷ pos 0 ∷ pos 1 ∷ pos 64 ∷ pos 128 ∷ [])
 
 -- the same without its last newline, and the extreme numbers of both signs
 abbrev pub cut_text : List ℕ
 cut_text = 112 ∷ 114 ∷ 111 ∷ 103 ∷ 114 ∷ 97 ∷ 109 ∷ 61 ∷ 45 ∷ 50 ∷ 49 ∷ 52 ∷ 55 ∷ 52 ∷ 56 ∷ 51 ∷ 54 ∷ 52 ∷ 56 ∷ 32 ∷ 50 ∷ 49 ∷ 52 ∷ 55 ∷ 52 ∷ 56 ∷ 51 ∷ 54 ∷ 52 ∷ 55 ∷ 10 ∷ 112 ∷ 114 ∷ 111 ∷ 112 ∷ 111 ∷ 115 ∷ 97 ∷ 108 ∷ 115 ∷ 61 ∷ 10 ∷ 98 ∷ 117 ∷ 100 ∷ 103 ∷ 101 ∷ 116 ∷ 61 ∷ 48 ∷ []
 
 abbrev pub cut_given : Given
-cut_given = given (Reads 2 0 (pos 0)) (negsuc 2147483647 ∷ pos 2147483647 ∷ []) []
+cut_given = given (Ok (input_of 2 0 (pos 0))) (negsuc 2147483647 ∷ pos 2147483647 ∷ []) []
 
 -- unfit texts, each with its first unfit line
 abbrev pub unfit_texts : List (List ℕ)
@@ -50,13 +49,13 @@ unfit_texts =
 abbrev pub unfit_lines : List ℕ
 unfit_lines = 1 ∷ 1 ∷ 1 ∷ 1 ∷ 1 ∷ 1 ∷ 1 ∷ 1 ∷ 1 ∷ 1 ∷ 1 ∷ 2 ∷ 2 ∷ 3 ∷ 3 ∷ 3 ∷ 3 ∷ 3 ∷ 3 ∷ []
 
-unfoldable pub answers : List (List ℕ) → List Input
+unfoldable pub answers : List (List ℕ) → List (Result Input ℕ)
 answers [] = []
 answers (t ∷ ts) = (input_in t).answer ∷ answers ts
 
-unfoldable pub unfit : List ℕ → List Input
+unfoldable pub unfit : List ℕ → List (Result Input ℕ)
 unfit [] = []
-unfit (k ∷ ks) = Unfit k ∷ unfit ks
+unfit (k ∷ ks) = Err k ∷ unfit ks
 
 -- "Output, whole", and the tables that it tells of
 abbrev pub output_text : List ℕ

@@ -2,58 +2,41 @@
 ghost use Rattle.std.specs.Prelude.{◌≡◌, ◌∷◌, [], length};
 ghost use Rattle.lister.specs.Bytes.{up_to, past, begins, Puts};
 
-use words::{bytes_from, bytes_to};
+use words::{part_from, part_to};
 
 // How many bytes stand before the first b.
 fn before(s: &[u8], b: u8) -> usize
     ensures { result ≡ length (up_to b s.now) }
 {
-    let mut i: usize = 0;
-    while i < s.len() {
-        if s[i] == b {
-            return i;
-        }
-        i += 1;
-    }
-    i
+    s.iter().position(|x| *x == b).unwrap_or(s.len())
 }
 
 // The bytes before the first b, all of them where there is none.
+#[tactic(auto, using(crate::proofs::ByteLaws::up_to_part))]
 pub fn up_to(s: &[u8], b: u8) -> &[u8]
     ensures { result.now ≡ up_to b s.now }
 {
-    bytes_to(s, before(s, b))
+    part_to(s, before(s, b))
 }
 
 // The bytes after the first b, none where there is none.
+#[tactic(auto, using(crate::proofs::ByteLaws::after_first))]
 pub fn after(s: &[u8], b: u8) -> &[u8]
     ensures { result.now ≡ past b s.now }
 {
-    let n = before(s, b);
-    if n < s.len() {
-        return bytes_from(s, n + 1);
-    }
-    bytes_from(s, n)
+    part_from(s, before(s, b) + 1)
 }
 
 // The text begins with the name.
+#[tactic(auto, using(crate::proofs::ByteLaws::begins_pointwise))]
 pub fn begins_with(s: &[u8], name: &[u8]) -> bool
     ensures { result ≡ begins name.now s.now }
 {
-    let mut i: usize = 0;
-    while i < name.len() {
-        if s.len() <= i {
-            return false;
-        }
-        if s[i] != name[i] {
-            return false;
-        }
-        i += 1;
-    }
-    true
+    s.starts_with(name)
 }
 
 // A byte stored at `at`, and the place after it; past the end nothing is stored and the place stays.
+#[tactic(auto, using(crate::proofs::BufferLaws::one_byte))]
 pub fn put(out: &mut [u8], at: usize, b: u8) -> usize
     ensures { Puts out.old at (b ∷ []) out.new result }
 {
@@ -65,14 +48,13 @@ pub fn put(out: &mut [u8], at: usize, b: u8) -> usize
 }
 
 // The bytes of s stored from `at` on.
+#[tactic(auto, using(crate::proofs::BufferLaws::writing))]
 pub fn put_all(out: &mut [u8], at: usize, s: &[u8]) -> usize
     ensures { Puts out.old at s.now out.new result }
 {
     let mut to = at;
-    let mut i: usize = 0;
-    while i < s.len() {
-        to = put(out, to, s[i]);
-        i += 1;
+    for b in s {
+        to = put(out, to, *b);
     }
     to
 }

@@ -14,23 +14,10 @@ pub const MOST_NUMBERS: usize = 4096;
 // Enough bytes for every listing, whatever the tables hold.
 pub const LISTING_BYTES: usize = 30930;
 
-// What a text is as a number.
-#[derive(Clone, Copy)]
-pub enum Numeral {
-    Number(i32),
-    Unfit,
-}
-
-// How many numbers a line has.
-#[derive(Clone, Copy)]
-pub enum Row {
-    Numbers(usize),
-    Unfit,
-}
-
-// The input: how many numbers the program and the proposals have, and the budget; or the number of the first unfit line.
-#[derive(Clone, Copy)]
-pub enum Input {
-    Reads(usize, usize, i32),
-    Unfit(usize),
+// What a fit input says: how many numbers the program and the proposals have, and the budget.
+#[derive(Clone, Copy, Debug, PartialEq, Eq)]
+pub struct Input {
+    pub program: usize,
+    pub proposals: usize,
+    pub budget: i32,
 }

@@ -6,19 +6,16 @@ ghost use Rattle.lister.specs.Listing.{value_text, given_text, named_line, count
 
 use super::bytes::{put, put_all};
 use super::numerals::{put_natural, put_number};
-use tables::{Slot, Sort, Value};
+use tables::{Sort, Value};
 
+#[tactic(auto, unfolding(crate::specs::Listing::value_text))]
 fn put_value(out: &mut [u8], at: usize, v: Value) -> usize
     ensures { Puts out.old at (value_text v) out.new result }
 {
     match v {
         Value::Nil => put_all(out, at, b"nil"),
-        Value::Bool(b) => {
-            if b {
-                return put_all(out, at, b"bool 1");
-            }
-            put_all(out, at, b"bool 0")
-        }
+        Value::Bool(true) => put_all(out, at, b"bool 1"),
+        Value::Bool(false) => put_all(out, at, b"bool 0"),
         Value::Int(n) => {
             let to = put_all(out, at, b"int ");
             put_number(out, to, n)
@@ -63,8 +60,8 @@ fn put_variable(out: &mut [u8], at: usize, environment: &[i32], heap: &[i32], x:
 {
     let slot = tables::cells::slot_of(tables::cells::read_cell(environment, heap, x));
     match slot {
-        Slot::Absent => at,
-        Slot::Has(v) => {
+        None => at,
+        Some(v) => {
             let number = put(out, at, b'v');
             let given = put_natural(out, number, x);
             put_given(out, given, v)
@@ -73,14 +70,13 @@ fn put_variable(out: &mut [u8], at: usize, environment: &[i32], heap: &[i32], x:
 }
 
 // The variables that are present, in order.
+#[tactic(auto, using(crate::proofs::ListingLaws::each), unfolding(crate::specs::Listing::variables_text))]
 fn put_variables(out: &mut [u8], at: usize, environment: &[i32], heap: &[i32]) -> usize
     ensures { Puts out.old at (variables_text (cells environment.now heap.now)) out.new result }
 {
     let mut to = at;
-    let mut x: usize = 0;
-    while x < tables::VARIABLES {
+    for x in 0..tables::VARIABLES {
         to = put_variable(out, to, environment, heap, x);
-        x += 1;
     }
     to
 }
@@ -91,8 +87,8 @@ fn put_field(out: &mut [u8], at: usize, heap: &[i32], r: usize, f: usize) -> usi
 {
     let slot = tables::cells::slot_of(tables::records::field_at(heap, r, f));
     match slot {
-        Slot::Absent => at,
-        Slot::Has(v) => {
+        None => at,
+        Some(v) => {
             let label = tables::records::label_at(heap, r, f);
             let number = put(out, at, b'r');
             let dot = put_natural(out, number, r);
@@ -104,61 +100,50 @@ fn put_field(out: &mut [u8], at: usize, heap: &[i32], r: usize, f: usize) -> usi
 }
 
 // The fields of record r, in their own order.
+#[tactic(auto, using(crate::proofs::ListingLaws::each), unfolding(crate::specs::Listing::fields_text))]
 fn put_fields(out: &mut [u8], at: usize, heap: &[i32], r: usize) -> usize
     ensures { Puts out.old at (fields_text heap.now r) out.new result }
 {
     let n = tables::records::field_count(heap, r);
     let mut to = at;
-    let mut f: usize = 0;
-    while f < n {
+    for f in 0..n {
         to = put_field(out, to, heap, r, f);
-        f += 1;
     }
     to
 }
 
 // How many records there are; no more than there is room for, whatever the count word says.
+#[tactic(auto, unfolding(crate::specs::Listing::shown_records))]
 fn shown_records(heap: &[i32]) -> usize
     ensures { result ≡ shown_records heap.now }
 {
-    let n = tables::records::record_count(heap);
-    if tables::RECORDS < n {
-        return tables::RECORDS;
-    }
-    n
+    tables::records::record_count(heap).min(tables::RECORDS)
 }
 
 // Each record with its field count and its fields.
+#[tactic(auto, using(crate::proofs::ListingLaws::each), unfolding(crate::specs::Listing::records_text))]
 fn put_records(out: &mut [u8], at: usize, heap: &[i32]) -> usize
     ensures { Puts out.old at (records_text heap.now) out.new result }
 {
     let n = shown_records(heap);
     let mut to = at;
-    let mut r: usize = 0;
-    while r < n {
+    for r in 0..n {
         let fields = put_counted(out, to, b'r', r, tables::records::field_count(heap, r));
         to = put_fields(out, fields, heap, r);
-        r += 1;
     }
     to
 }
 
 // The kept positions of a sort, each after its letter and number.
+#[tactic(auto, using(crate::proofs::ListingLaws::each), unfolding(crate::specs::Listing::positions_text))]
 fn put_positions(out: &mut [u8], at: usize, constraints: &[i32], s: Sort, letter: u8) -> usize
     ensures { Puts out.old at (positions_text constraints.now s letter) out.new result }
 {
     let n = tables::kept::kept_count(constraints, s);
     let mut to = at;
-    let mut i: usize = 0;
-    while i < n {
-        to = put_counted(
-            out,
-            to,
-            letter,
-            i,
-            tables::kept::position_at(constraints, s, i),
-        );
-        i += 1;
+    for i in 0..n {
+        let position = tables::kept::position_at(constraints, s, i);
+        to = put_counted(out, to, letter, i, position);
     }
     to
 }
@@ -189,7 +174,8 @@ fn put_tables(
     put_positions(out, identities, constraints, Sort::Identities, b'i')
 }
 
-// The whole output of a run: how many bytes were written. What would pass the end of out is not written; LISTING_BYTES are enough for every listing.
+// The whole output of a run: how many bytes were written.
+// What would pass the end of out is not written; LISTING_BYTES are enough for every listing.
 pub fn write_listing(
     out: &mut [u8],
     outcome: usize,

@@ -1,103 +1,78 @@
 // Decimal numbers, read and written.
-ghost use Rattle.std.specs.Prelude.{◌≡◌, ◌<◌, ◌+◌, nat_abs};
+ghost use Rattle.std.specs.Prelude.{◌≡◌, ◌<◌, ◌+◌, MatchOption};
 ghost use Rattle.lister.specs.Bytes.{Puts};
-ghost use Rattle.lister.specs.Numerals.{digit_of, value_from, natural_in, positive_of, negative_of, numeral_in, digits_by, digits, numeral};
+ghost use Rattle.lister.specs.Numerals.{digit_of, value_from, natural_in, IsRead, positive_of, negative_of, numeral_in, digits_by, digits, numeral};
 
 use super::bytes::put;
-use crate::Numeral;
-use words::bytes_from;
 
 // The greatest number that a word is without its sign.
 const GREATEST: usize = 2147483648;
 
-// What no text of digits is read as.
-const NO_NUMBER: usize = 2147483649;
-
-const MINUS: u8 = 45;
-
-// The digit that a byte is; 10 where it is none.
-fn digit(b: u8) -> usize
-    ensures { result ≡ digit_of b }
+// The digit that a byte is.
+#[tactic(auto, unfolding(crate::specs::Numerals::digit_of))]
+fn digit(b: u8) -> Option<usize>
+    ensures { MatchOption result (digit_of b ≡ 10) (λ d. (digit_of b ≡ d) × (d < 10)) }
 {
-    if b < 48 {
-        return 10;
+    match b {
+        b'0'..=b'9' => Some((b - b'0') as usize),
+        _ => None,
     }
-    if 57 < b {
-        return 10;
-    }
-    (b - 48) as usize
 }
 
-// The number of a row of digits; NO_NUMBER where a byte is none or where it would pass GREATEST.
-fn value(s: &[u8]) -> usize
-    ensures { result ≡ value_from 0 s.now }
+// The number of a row of digits, none where a byte is no digit or where it would pass GREATEST.
+#[tactic(auto, using(crate::proofs::NumeralLaws::valuing))]
+fn value(s: &[u8]) -> Option<usize>
+    ensures { IsRead (value_from 0 s.now) result }
 {
     let mut n: usize = 0;
-    let mut i: usize = 0;
-    while i < s.len() {
-        let d = digit(s[i]);
-        if d == 10 {
-            return NO_NUMBER;
-        }
-        n = 10 * n + d;
+    for b in s {
+        n = 10 * n + digit(*b)?;
         if GREATEST < n {
-            return NO_NUMBER;
+            return None;
         }
-        i += 1;
     }
-    n
+    Some(n)
 }
 
 // The number of a text of digits without leading zeros.
-#[tactic(auto, using(crate::proofs::NumeralLaws::natural_zero, crate::proofs::NumeralLaws::natural_more))]
-fn natural(s: &[u8]) -> usize
-    ensures { result ≡ natural_in s.now }
+#[tactic(auto, using(crate::proofs::NumeralLaws::naturals))]
+fn natural(s: &[u8]) -> Option<usize>
+    ensures { IsRead (natural_in s.now) result }
 {
-    if s.len() == 0 {
-        return NO_NUMBER;
+    match s {
+        [] | [b'0', _, ..] => None,
+        _ => value(s),
     }
-    if s.len() == 1 {
-        return value(s);
-    }
-    if digit(s[0]) == 0 {
-        return NO_NUMBER;
-    }
-    value(s)
 }
 
-fn positive(n: usize) -> Numeral
+#[tactic(auto, unfolding(crate::specs::Numerals::positive_of))]
+fn positive(n: usize) -> Option<i32>
     ensures { result ≡ positive_of n }
 {
-    if n < GREATEST {
-        return Numeral::Number(words::word_of(n));
-    }
-    Numeral::Unfit
+    i32::try_from(n).ok()
 }
 
 // The number after a minus sign.
-fn negative(n: usize) -> Numeral
+#[tactic(auto, unfolding(crate::specs::Numerals::negative_of))]
+fn negative(n: usize) -> Option<i32>
     ensures { result ≡ negative_of n }
 {
     if n == 0 {
-        return Numeral::Unfit;
+        return None;
     }
-    if GREATEST < n {
-        return Numeral::Unfit;
-    }
-    Numeral::Number(-1 - words::word_of(n - 1))
+    let n = i64::try_from(n).ok()?;
+    i32::try_from(-n).ok()
 }
 
 // A 32-bit number in decimal, without plus sign, leading zeros or -0.
-pub fn number(s: &[u8]) -> Numeral
+#[tactic(auto, using(crate::proofs::NumeralLaws::numbers))]
+pub fn number(s: &[u8]) -> Option<i32>
     ensures { result ≡ numeral_in s.now }
 {
-    if s.len() == 0 {
-        return Numeral::Unfit;
+    match s.strip_prefix(b"-") {
+        Some(rest) => negative(natural(rest)?),
+        None => positive(natural(s)?),
     }
-    if s[0] == MINUS {
-        return negative(natural(bytes_from(s, 1)));
-    }
-    positive(natural(s))
 }
 
 // The byte of a digit.
@@ -105,10 +80,11 @@ fn digit_byte(d: usize) -> u8
     requires { d < 10 }
     ensures { result ≡ 48 + d }
 {
-    48 + (d as u8)
+    b'0' + (d as u8)
 }
 
 // The digits of n, at most as many as `places` allows.
+#[tactic(auto, using(crate::proofs::BufferLaws::puts_none), unfolding(crate::specs::Numerals::digits_by))]
 fn put_digits(out: &mut [u8], at: usize, n: usize, places: usize) -> usize
     ensures { Puts out.old at (digits_by places n) out.new result }
 {
@@ -123,29 +99,21 @@ fn put_digits(out: &mut [u8], at: usize, n: usize, places: usize) -> usize
 }
 
 // A number in decimal.
+#[tactic(auto, unfolding(crate::specs::Numerals::digits))]
 pub fn put_natural(out: &mut [u8], at: usize, n: usize) -> usize
     ensures { Puts out.old at (digits n) out.new result }
 {
     put_digits(out, at, n, 20)
 }
 
-// A word without its sign.
-fn magnitude(w: i32) -> usize
-    ensures { result ≡ nat_abs w }
-{
-    if w < 0 {
-        return words::number(-1 - w) + 1;
-    }
-    words::number(w)
-}
-
 // A word in decimal.
 pub fn put_number(out: &mut [u8], at: usize, w: i32) -> usize
     ensures { Puts out.old at (numeral w) out.new result }
 {
+    let n = w.unsigned_abs() as usize;
     if w < 0 {
-        let to = put(out, at, MINUS);
-        return put_natural(out, to, magnitude(w));
+        let to = put(out, at, b'-');
+        return put_natural(out, to, n);
     }
-    put_natural(out, at, magnitude(w))
+    put_natural(out, at, n)
 }

@@ -1,4 +1,5 @@
 -- The marked cells are the target's class, and what the code answers of it. Assumes nothing.
+use Rattle.std.specs.Prelude.{Result, Ok, Err}
 use mathlib.Core.Path.{◌≡◌, refl, sym, ◌∙◌}
 use mathlib.Core.Bool.{Bool, true, false, not, ◌&&◌, ◌||◌}
 use mathlib.Core.List.{List, Memᴰ as OneOf}
@@ -19,15 +20,13 @@ use Rattle.tables.specs.Cells.{Cells}
 use Rattle.tables.specs.Kept.{kept_count}
 use Rattle.tables.proofs.FindLaws.{kept_in}
 use Rattle.tables.proofs.SearchLaws.{cases}
-use Rattle.rules.specs.State.{Res}
+use Rattle.program.specs.declared.Refusal.{Refusal}
+use Rattle.rules.specs.State.{Res, refused}
 use Rattle.rules.specs.Identities.{Tie, is_node, ties, member, frozen_by, class_of, names, clash_free}
 use Rattle.rules.specs.Rules.Identities.{IsNamed, by_tie, backwards, onwards}
 use Rattle.rules.proofs.ClassLaws.{or_left, or_right, or_cases, false≢true, class-all, class-target, class-iff}
 use Rattle.rules.proofs.PhaseLaws.{names-iff}
-use Rattle.proposals.proofs.FormLaws.{unlike}
 use Rattle.phases.specs.declared.Passed.{Passed}
-use Rattle.phases.specs.declared.Passed.TheVariants.{Over, Lost as Astray}
-use Rattle.phases.specs.declared.Classed.TheVariants.{May, Refuses}
 use Rattle.phases.specs.Sizes.{marks_words}
 use Rattle.phases.specs.Tying.{identity_at, tie_no, joins, named_by, Found, Even, Grows, Walked, Passes, PassesOn}
 use Rattle.phases.specs.Freezing.{free_ties}
@@ -41,14 +40,14 @@ use Rattle.phases.proofs.FreeLaws.{free-clash, ties-free, ties-none-free}
 pub unmarked-none : Unmarked (replicate marks_words 0)
 unmarked-none = record { long = length-replicate {A = ℕ} marks_words 0; none = none-marked marks_words }
 
-classed-refuses : {class : List ℕ} {a w : ℕ} {m : Res (List ℕ)} → m ≡ stop (record { number = a; word = w }) → Classes class (Refuses a w) m
-classed-refuses {a = a} {w = w} e = record {
-  refuses = λ b x h. let u : a ≡ b = cc in let v : w ≡ x = cc in rw (← u, ← v) e;
-  finds = λ h. unlike (cc);
+classed-refuses : {class : List ℕ} {f : Refusal} {m : Res (List ℕ)} → m ≡ stop f → Classes class (Err f) m
+classed-refuses {f = f} e = record {
+  refuses = λ g h. let u : f ≡ g = cc in rw (← u) e;
+  finds = λ h. cc;
 }
 
-classed-finds : {class : List ℕ} {m : Res (List ℕ)} → Finds class m → Classes class May m
-classed-finds f = record { refuses = λ b x h. unlike (cc); finds = λ h. f }
+classed-finds : {class : List ℕ} {m : Res (List ℕ)} → Finds class m → Classes class (Ok tt) m
+classed-finds f = record { refuses = λ g h. cc; finds = λ h. f }
 
 module _ (program kept : List ℤ) (S : Cells) (word : List ℤ) (target : ℕ) (v : Value) where
   abbrev T : ℕ → Res Tie
@@ -115,7 +114,7 @@ module _ (program kept : List ℤ) (S : Cells) (word : List ℤ) (target : ℕ) 
 
   -- ---- where no tie is kept
 
-  pub class-alone : {clear class : List ℕ} → Unmarked clear → target < locations → class ≡ with_mark clear target → n ≡ 0 → Classes class May (class_for program kept S word target v)
+  pub class-alone : {clear class : List ℕ} → Unmarked clear → target < locations → class ≡ with_mark clear target → n ≡ 0 → Classes class (Ok tt) (class_for program kept S word target v)
   unfolding class_for
   class-alone {clear = clear} {class = class} u low e none =
       let no_tie : (X : ℕ → Type 0) (k : ℕ) → k < n → X k = λ X k b. let z : ⊥ = omega arith in absurd z in
@@ -130,19 +129,19 @@ module _ (program kept : List ℤ) (S : Cells) (word : List ℤ) (target : ℕ) 
 
   -- ---- where ties are kept
 
-  module _ {count : ℕ} (kept-so-many : count ≡ n) {clear first class : List ℕ} (u : Unmarked clear) (low : target < locations) (start : first ≡ with_mark clear target) {r : Passed} (p : Passes T count false target first class r) where
-    pub class-lost : {class' : List ℕ} {a w : ℕ} → r ≡ Astray a w → Classes class' (Refuses a w) (class_for program kept S word target v)
+  module _ {count : ℕ} (kept-so-many : count ≡ n) {clear first class : List ℕ} (u : Unmarked clear) (low : target < locations) (start : first ≡ with_mark clear target) {r : Result Passed Refusal} (p : Passes T count false target first class r) where
+    pub class-lost : {class' : List ℕ} {f : Refusal} → r ≡ Err f → Classes class' (Err f) (class_for program kept S word target v)
     unfolding class_for
-    class-lost {a = a} {w = w} e =
-        let s = p.lost a w e in
-        classed-refuses (rw (ties-lost program kept S (record { number = a; word = w }) s.at (omega (arith, s.inside)) s.is (s.first refl)))
+    class-lost {f = f} e =
+        let s = p.lost f e in
+        classed-refuses (rw (ties-lost program kept S f s.at (omega (arith, s.inside)) s.is (s.first refl)))
 
-    module _ {named again : Bool} (e : r ≡ Over named again) where
-      pub walked-over : Walked T n target first class named again
-      walked-over = rw kept-so-many at (p.over named again e)
+    module _ {x : Passed} (e : r ≡ Ok x) where
+      pub walked-over : Walked T n target first class x.names x.again
+      walked-over = rw kept-so-many at (p.over x e)
 
       pub leads-on : Found T count
-      leads-on = (p.over named again e).found
+      leads-on = (p.over x e).found
 
       abbrev list : List Tie
       list = (ties-found program kept S walked-over.found).0
@@ -154,19 +153,19 @@ module _ (program kept : List ℤ) (S : Cells) (word : List ℤ) (target : ℕ) 
       node = not (names list target) || is_node v
 
       module _ {is : Bool} (what : is ≡ is_node v) where
-        node-is : node ≡ not (named && not is)
-        node-is = rw (← (names-are list followed walked-over), ← what) (by named is)
+        node-is : node ≡ not (x.names && not is)
+        node-is = rw (← (names-are list followed walked-over), ← what) (by x.names is)
           where
             by : (a b : Bool) → (not a || b) ≡ not (a && not b)
             by true true = refl
             by true false = refl
             by false b = refl
 
-        pub class-unfit : {class' : List ℕ} → named && not is ≡ true → Classes class' (Refuses 13 (length word)) (class_for program kept S word target v)
+        pub class-unfit : {class' : List ℕ} → x.names && not is ≡ true → Classes class' (Err (refused 13 word)) (class_for program kept S word target v)
         unfolding class_for
         class-unfit q = classed-refuses (rw (followed, node-is, q))
 
-        module _ (fits : named && not is ≡ false) {class' : List ℕ} (o : PassesOn T count again class class') {free : Bool} (f : free ≡ free_ties S (marked class') v (identity_at program kept) 0 count) where
+        module _ (fits : x.names && not is ≡ false) {class' : List ℕ} (o : PassesOn T count x.again class class') {free : Bool} (f : free ≡ free_ties S (marked class') v (identity_at program kept) 0 count) where
           all-grows : Grows T n (with_mark clear target) class'
           all-grows = rw start at (grows_then walked-over.grows (rw kept-so-many at o.grows))
 
@@ -177,10 +176,10 @@ module _ (program kept : List ℤ) (S : Cells) (word : List ℤ) (target : ℕ) 
           free-is = sym (free-clash S (marked class') v (class_of list target) (class-marks list followed u low all-grows all_closed) (frozen_by list))
               ∙ sym (ties-free S (marked class') v program kept list followed) ∙ sym (rw kept-so-many at f)
 
-          pub class-clashes : free ≡ false → Classes class' (Refuses 12 (length word)) (class_for program kept S word target v)
+          pub class-clashes : free ≡ false → Classes class' (Err (refused 12 word)) (class_for program kept S word target v)
           unfolding class_for
           class-clashes q = classed-refuses (rw (followed, node-is, fits, free-is, q))
 
-          pub class-found : free ≡ true → Classes class' May (class_for program kept S word target v)
+          pub class-found : free ≡ true → Classes class' (Ok tt) (class_for program kept S word target v)
           unfolding class_for
           class-found q = classed-finds (class-finds list followed u low all-grows all_closed (rw (followed, node-is, fits, free-is, q)))

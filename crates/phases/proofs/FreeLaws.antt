@@ -1,4 +1,5 @@
 -- Prefix cells, met where paths are followed again, are the rules' frozen cells. Assumes nothing.
+use Rattle.std.specs.Prelude.{Option, Some, None}
 use mathlib.Core.Path.{◌≡◌, refl, sym, ap, ◌∙◌}
 use mathlib.Core.Bool.{Bool, true, false, not, ◌&&◌, ◌||◌}
 use mathlib.Core.List.{List, [], ◌∷◌, ◌++◌}
@@ -12,8 +13,6 @@ use Rattle.words.specs.Words.{number_at}
 use Rattle.words.specs.Answer.{got}
 use Rattle.words.proofs.Laws.{number-drop}
 use Rattle.tables.specs.declared.Value.{Value}
-use Rattle.tables.specs.declared.Found.{Found}
-use Rattle.tables.specs.declared.Found.TheVariants.{At, Nothing}
 use Rattle.tables.specs.declared.Sort.TheVariants.{Identities}
 use Rattle.tables.specs.Cells.{Cells}
 use Rattle.tables.specs.Kept.{kept_count}
@@ -38,9 +37,9 @@ and_both false b c = refl
 passed-one : (S : Cells) (l : ℕ) (p : List ℤ) → passed S 1 l p ≡ l ∷ []
 passed-one S l p = go (step_to S l (number_at p 0)) refl
   where
-    go : (s : Found) → step_to S l (number_at p 0) ≡ s → passed S 1 l p ≡ l ∷ []
-    go (At next) e = passed-more S 0 l next p e ∙ ap (λ ls. l ∷ ls) (passed_none S next (drop 1 p))
-    go Nothing e = passed-lost S 0 l p e
+    go : (s : Option ℕ) → step_to S l (number_at p 0) ≡ s → passed S 1 l p ≡ l ∷ []
+    go (Some next) e = passed-more S 0 l next p e ∙ ap (λ ls. l ∷ ls) (passed_none S next (drop 1 p))
+    go None e = passed-lost S 0 l p e
 
 module _ (S : Cells) (f : ℕ → Bool) (v : Value) where
   abbrev F : List ℕ → Bool
@@ -112,9 +111,6 @@ module _ (S : Cells) (f : ℕ → Bool) (v : Value) where
     pub inside : i ≤ number_at p 1
     pub rest : F (passed S (number_at p 1 - i) at (drop i (drop 2 p))) ≡ free_way S f v p
 
-  pub freeing-starts : {p : List ℤ} {at : ℕ} → at ≡ number_at p 0 → Freeing p 0 at
-  freeing-starts {p = p} e = let z : number_at p 1 - 0 ≡ number_at p 1 = omega arith in record { inside = omega arith; rest = rw (z, e) }
-
   module _ {p : List ℤ} {i at : ℕ} (inv : Freeing p i at) where
     module _ (turn : i < number_at p 1) {r : Bool} (e : r ≡ may at) where
       abbrev labels : List ℤ
@@ -129,9 +125,9 @@ module _ (S : Cells) (f : ℕ → Bool) (v : Value) where
       pub freeing-fails : r ≡ false → false ≡ free_way S f v p
       freeing-fails q = sym (clash (step_to S at (number_at labels 0)) refl) ∙ inv.rest
         where
-          clash : (s : Found) → step_to S at (number_at labels 0) ≡ s → F (passed S (number_at p 1 - i) at labels) ≡ false
-          clash (At next) w = rw (← more, passed-more S (number_at p 1 - (i + 1)) at next labels w, free_more at (passed S (number_at p 1 - (i + 1)) next (drop 1 labels)), ← e, q)
-          clash Nothing w = rw (← more, passed-lost S (number_at p 1 - (i + 1)) at labels w, free_more at [], ← e, q)
+          clash : (s : Option ℕ) → step_to S at (number_at labels 0) ≡ s → F (passed S (number_at p 1 - i) at labels) ≡ false
+          clash (Some next) w = rw (← more, passed-more S (number_at p 1 - (i + 1)) at next labels w, free_more at (passed S (number_at p 1 - (i + 1)) next (drop 1 labels)), ← e, q)
+          clash None w = rw (← more, passed-lost S (number_at p 1 - (i + 1)) at labels w, free_more at [], ← e, q)
 
       -- the last prefix cell is looked at
       pub freeing-last : r ≡ true → i + 1 ≡ number_at p 1 → true ≡ free_way S f v p
@@ -140,16 +136,16 @@ module _ (S : Cells) (f : ℕ → Bool) (v : Value) where
           let w : F (passed S (number_at p 1 - i) at labels) ≡ true = rw (one, passed-one S at labels, free_more at [], ← e, q, free-none) in
           sym w ∙ inv.rest
 
-      module _ (ok : r ≡ true) {s : Found} {k : ℕ} {l : List ℤ} (part : l ≡ drop 2 p) (which : k ≡ number_at l i) (stepped : s ≡ step_to S at k) where
+      module _ (ok : r ≡ true) {s : Option ℕ} {k : ℕ} {l : List ℤ} (part : l ≡ drop 2 p) (which : k ≡ number_at l i) (stepped : s ≡ step_to S at k) where
         there : step_to S at (number_at labels 0) ≡ s
         there = rw (label, ← part, ← which) (sym stepped)
 
-        pub freeing-lost : s ≡ Nothing → true ≡ free_way S f v p
+        pub freeing-lost : s ≡ None → true ≡ free_way S f v p
         freeing-lost q =
             let w : F (passed S (number_at p 1 - i) at labels) ≡ true = rw (← more, passed-lost S (number_at p 1 - (i + 1)) at labels (there ∙ q), free_more at [], ← e, ok, free-none) in
             sym w ∙ inv.rest
 
-        pub freeing-goes-on : {next : ℕ} → s ≡ At next → Freeing p (i + 1) next
+        pub freeing-goes-on : {next : ℕ} → s ≡ Some next → Freeing p (i + 1) next
         freeing-goes-on {next = next} q =
             let w : F (passed S (number_at p 1 - i) at labels) ≡ F (passed S (number_at p 1 - (i + 1)) next (drop 1 labels))
             = rw (← more, passed-more S (number_at p 1 - (i + 1)) at next labels (there ∙ q), free_more at (passed S (number_at p 1 - (i + 1)) next (drop 1 labels)), ← e, ok) in
@@ -164,9 +160,6 @@ module _ (S : Cells) (f : ℕ → Bool) (v : Value) where
     pub record FreeingTies (i : ℕ) : Type 0 where
       pub inside : i ≤ n
       pub rest : free_ties S f v at i (n - i) ≡ free_ties S f v at 0 n
-
-    pub freeing-ties-starts : FreeingTies 0
-    freeing-ties-starts = let z : n - 0 ≡ n = omega arith in record { inside = omega arith; rest = rw z }
 
     module _ {i : ℕ} (inv : FreeingTies i) where
       module _ (turn : i < n) {p : List ℤ} {r : Bool} (is : p ≡ at i) (e : r ≡ free_tie S f v p) where

@@ -1,4 +1,3 @@
-pub mod RowLaws
 pub mod CountLaws
 pub mod MarkLaws
 pub mod WalkLaws

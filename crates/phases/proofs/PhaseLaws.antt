@@ -2,12 +2,12 @@
 use mathlib.Core.Path.{◌≡◌, refl, sym, ap, ◌∙◌}
 use mathlib.Core.Bool.{Bool, true, false, not, ◌&&◌, ◌||◌}
 use mathlib.Core.List.{List, [], ◌++◌}
-use mathlib.Core.Option.{none, some}
+use Rattle.std.specs.Prelude.{Some, None, Result, Ok, Err}
 use Prim.Native.Nat.{ℕ, ◌-◌, ◌*◌, ◌≤◌, ◌<◌}
 use native.Mathlib.Omega.{arith}
 use borrow.Author.Tests.{lt-ltb, le-ltb}
 use lib.IntN.{ℤ}
-use lib.ListN.{length, drop, length-drop}
+use lib.ListN.{length, drop}
 use Rattle.words.specs.Words.{word_at, number_at}
 use Rattle.words.specs.Bits.{marked}
 use Rattle.words.specs.Answer.{got, stop, ◌>>=◌, ◌>>◌, want}
@@ -18,6 +18,7 @@ use Rattle.tables.specs.Cells.{Cells, cells}
 use Rattle.tables.specs.Records.{record_count, with_record, laid_by, brought_back}
 use Rattle.tables.proofs.SearchLaws.{and_left, and_right, and-true}
 use Rattle.tables.proofs.RecordLaws.{add_back, add_same}
+use Rattle.program.specs.declared.Refusal.{Refusal}
 use Rattle.program.specs.Forms.{expression_depth}
 use Rattle.program.specs.Reading.{number, read_path, after}
 use Rattle.program.proofs.NumberLaws.{number_fits_lem}
@@ -33,16 +34,9 @@ use Rattle.rules.proofs.PhaseLaws.{member-append, clash-iff}
 use Rattle.rules.proofs.IdentityClauses.{phase-is}
 use Rattle.rules.proofs.StatementClauses.{value-phase-is, assign-is, new_is}
 use Rattle.expressions.specs.declared.Named.{Named}
-use Rattle.expressions.specs.declared.Named.TheVariants.{Cell, Lost}
 use Rattle.expressions.specs.Told.{named_of}
-use Rattle.proposals.specs.declared.Settled.{Settled}
-use Rattle.proposals.specs.declared.Settled.TheVariants.{Takes, Refuses}
 use Rattle.proposals.specs.Told.{settled_of, settled_cells, Settles}
-use Rattle.proposals.proofs.FormLaws.{unlike}
-use Rattle.phases.specs.declared.Classed.{Classed}
-use Rattle.phases.specs.declared.Classed.TheVariants.{May, Refuses as Unfound}
 use Rattle.phases.specs.declared.Done.{Done}
-use Rattle.phases.specs.declared.Done.TheVariants.{Accepted, Refused}
 use Rattle.phases.specs.Told.{done_of, done_state, Does}
 use Rattle.phases.specs.Taking.{cells_of, held_again, Gives}
 use Rattle.phases.specs.Freezing.{free_way}
@@ -58,70 +52,55 @@ state_of S kept = record { cells = S; kept = kept }
 
 -- ---- a statement that is refused, or done
 
-pub refuses : {S : State} {m : Res Left} {n w : ℕ} → m ≡ stop (record { number = n; word = w }) → Does S S (Refused n w) m
+pub refuses : {S : State} {m : Res Left} {f : Refusal} → m ≡ stop f → Does S S (Err f) m
 refuses e = rw e (record { is = refl; leaves = refl })
 
-pub does-same : {S Z : State} {r : Done} {m o : Res Left} → m ≡ o → Does S Z r m → Does S Z r o
+pub does-same : {S Z : State} {r : Result Done Refusal} {m o : Res Left} → m ≡ o → Does S Z r m → Does S Z r o
 does-same e d = rw e at d
 
--- what is accepted leaves the same tables, whatever stood before
-pub accepts-over : {S T Z : State} {r : Done} {m : Res Left} {left k : ℕ} → Does S Z r m → r ≡ Accepted left k → Does T Z (Accepted left k) m
-accepts-over {S = S} {T = T} {Z = Z} {m = m} d h = by m (sym h ∙ d.is) d.leaves
-  where
-    by : {left k : ℕ} (o : Res Left) → Accepted left k ≡ done_of o → Z ≡ done_state S o → Does T Z (Accepted left k) o
-    by (got l) e z = record { is = e; leaves = z }
-    by (stop f) e z = unlike cc
-
-pub record NotDone (S Z : State) (n w : ℕ) (m : Res Left) : Type 0 where
-  pub is : m ≡ stop (record { number = n; word = w })
+pub record NotDone (S Z : State) (f : Refusal) (m : Res Left) : Type 0 where
+  pub is : m ≡ stop f
   pub stays : Z ≡ S
 
-pub not_done : {S Z : State} {r : Done} {m : Res Left} {n w : ℕ} → Does S Z r m → r ≡ Refused n w → NotDone S Z n w m
+pub not_done : {S Z : State} {r : Result Done Refusal} {m : Res Left} {f : Refusal} → Does S Z r m → r ≡ Err f → NotDone S Z f m
 not_done {S = S} {Z = Z} {m = m} d h = by m (sym h ∙ d.is) d.leaves
   where
-    by : {n w : ℕ} (o : Res Left) → Refused n w ≡ done_of o → Z ≡ done_state S o → NotDone S Z n w o
-    by (got l) e z = unlike cc
-    by {n = n} {w = w} (stop f) e z =
-        let a : f.number ≡ n = cc in
-        let b : f.word ≡ w = cc in
-        let g : f ≡ record { number = n; word = w } = rw (← a, ← b) in
-        record { is = ap stop g; stays = z }
+    by : {f : Refusal} (o : Res Left) → Err f ≡ done_of o → Z ≡ done_state S o → NotDone S Z f o
+    by (got l) e z = cc
+    by (stop g) e z = record { is = cc; stays = z }
 
 -- ---- the value phase
 
-module _ (program kept p : List ℤ) (target : ℕ) (ws : List ℤ) {Z Y : Cells} {r : Settled}
-    (e : Settles Z Y r (settle program kept (record { own = none; target = some target; room = true }) p Z ws)) where
-  value-takes : {S : Cells} {left : ℕ} → r ≡ Takes left → Does (state_of S kept) (state_of Y kept) (Accepted left 1) (value_phase program kept p target Z ws)
+module _ (program kept p : List ℤ) (target : ℕ) (ws : List ℤ) {Z Y : Cells} {r : Result ℕ Refusal}
+    (e : Settles Z Y r (settle program kept (record { own = None; target = Some target; room = true }) p Z ws)) where
+  value-takes : {S : Cells} {left : ℕ} → r ≡ Ok left → Does (state_of S kept) (state_of Y kept) (Ok (record { unread = left; accepted = 1 })) (value_phase program kept p target Z ws)
   value-takes {S = S} h =
       rw (value-phase-is program kept p target Z ws)
-      (by (settle program kept (record { own = none; target = some target; room = true }) p Z ws) (sym h ∙ e.is) e.leaves)
+      (by (settle program kept (record { own = None; target = Some target; room = true }) p Z ws) (sym h ∙ e.is) e.leaves)
     where
-      by : {left : ℕ} (m : Res (Cells × List ℤ)) → Takes left ≡ settled_of m → Y ≡ settled_cells Z m
-          → Does (state_of S kept) (state_of Y kept) (Accepted left 1) (m >>= λ x. got (record { state = record { cells = x.0; kept = kept }; unread = x.1; accepted = 1 }))
+      by : {left : ℕ} (m : Res (Cells × List ℤ)) → Ok left ≡ settled_of m → Y ≡ settled_cells Z m
+          → Does (state_of S kept) (state_of Y kept) (Ok (record { unread = left; accepted = 1 })) (m >>= λ x. got (record { state = record { cells = x.0; kept = kept }; unread = x.1; accepted = 1 }))
       by {left = left} (got x) h l = let q : left ≡ length x.1 = cc in record { is = rw q; leaves = rw l }
-      by (stop f) h l = unlike cc
+      by (stop f) h l = cc
 
-  value-refuses : {n w : ℕ} → r ≡ Refuses n w → (value_phase program kept p target Z ws ≡ stop (record { number = n; word = w })) × (Y ≡ Z)
+  value-refuses : {f : Refusal} → r ≡ Err f → (value_phase program kept p target Z ws ≡ stop f) × (Y ≡ Z)
   value-refuses h =
       rw (value-phase-is program kept p target Z ws)
-      (by (settle program kept (record { own = none; target = some target; room = true }) p Z ws) _ (sym h ∙ e.is) e.leaves)
+      (by (settle program kept (record { own = None; target = Some target; room = true }) p Z ws) _ (sym h ∙ e.is) e.leaves)
     where
-      by : {n w : ℕ} (m : Res (Cells × List ℤ)) (f : Cells × List ℤ → Res Left) → Refuses n w ≡ settled_of m → Y ≡ settled_cells Z m → ((m >>= f) ≡ stop (record { number = n; word = w })) × (Y ≡ Z)
-      by (got x) f h l = unlike cc
-      by {n = n} {w = w} (stop g) f h l =
-          let a : g.number ≡ n = cc in
-          let b : g.word ≡ w = cc in
-          (rw (← a, ← b), l)
+      by : {f : Refusal} (m : Res (Cells × List ℤ)) (k : Cells × List ℤ → Res Left) → Err f ≡ settled_of m → Y ≡ settled_cells Z m → ((m >>= k) ≡ stop f) × (Y ≡ Z)
+      by (got x) k h l = cc
+      by {f = f} (stop g) k h l = let a : g ≡ f = cc in (rw a, l)
 
   -- ---- the cells of a class take the value, and then the value phase
 
   module _ {S : Cells} {class : List ℕ} {saved : List ℤ} {v : Value} (g : Gives S Z class saved v) where
-    pub move-takes : {left : ℕ} → r ≡ Takes left
-        → Does (state_of S kept) (state_of Y kept) (Accepted left 1) (value_phase program kept p target (put_all S (cells_of class) v) ws)
+    pub move-takes : {left : ℕ} → r ≡ Ok left
+        → Does (state_of S kept) (state_of Y kept) (Ok (record { unread = left; accepted = 1 })) (value_phase program kept p target (put_all S (cells_of class) v) ws)
     move-takes h = rw (← g.is) (value-takes h)
 
-    pub move-refuses : {X : Cells} {a w : ℕ} → r ≡ Refuses a w → X ≡ held_again saved (cells_of class) 0 Y
-        → Does (state_of S kept) (state_of X kept) (Refused a w) (value_phase program kept p target (put_all S (cells_of class) v) ws)
+    pub move-refuses : {X : Cells} {f : Refusal} → r ≡ Err f → X ≡ held_again saved (cells_of class) 0 Y
+        → Does (state_of S kept) (state_of X kept) (Err f) (value_phase program kept p target (put_all S (cells_of class) v) ws)
     move-refuses {X = X} h u =
         let x : X ≡ S = u ∙ rw (value-refuses h).1 g.back in
         rw (x, ← g.is) (refuses (value-refuses h).0)
@@ -163,11 +142,11 @@ module _ (program kept : List ℤ) (before now : Cells) (word : List ℤ) (targe
       by (stop f) = refl
 
   -- what follows the identity phase, by what the code knows of the class
-  module _ {class : List ℕ} {r : Classed} (c : Classes class r (class_for program kept before word target v)) (k : Cells → Res Left) where
-    class-refuses : {a w : ℕ} → r ≡ Unfound a w → (identity_phase program kept before now word target prefix v >>= k) ≡ stop (record { number = a; word = w })
-    class-refuses {a = a} {w = w} h = rw (phase-by-class, c.refuses a w h)
+  module _ {class : List ℕ} {r : Result (Unit {0}) Refusal} (c : Classes class r (class_for program kept before word target v)) (k : Cells → Res Left) where
+    class-refuses : {f : Refusal} → r ≡ Err f → (identity_phase program kept before now word target prefix v >>= k) ≡ stop f
+    class-refuses {f = f} h = rw (phase-by-class, c.refuses f h)
 
-    module _ (h : r ≡ May) {free : Bool} (e : free ≡ clash_free before prefix v (c.finds h).list) where
+    module _ (h : r ≡ Ok tt) {free : Bool} (e : free ≡ clash_free before prefix v (c.finds h).list) where
       way-clashes : free ≡ false → (identity_phase program kept before now word target prefix v >>= k) ≡ stop (refused 12 word)
       way-clashes q = rw (phase-by-class, (c.finds h).is, ← e, q)
 
@@ -184,83 +163,83 @@ unfolding gives
 gives_at program p kept ws S v w e = rw e
 
 module _ (program p kept ws : List ℤ) (S : Cells) (v : Value) {q : List ℤ} (part : q ≡ drop 1 p) where
-  pub give-lost : {r : Named} {n w : ℕ} → r ≡ named_of (way_at S q) → r ≡ Lost n w → Does (state_of S kept) (state_of S kept) (Refused n w) (gives program p (state_of S kept) ws v)
+  pub give-lost : {r : Result Named Refusal} {f : Refusal} → r ≡ named_of (way_at S q) → r ≡ Err f → Does (state_of S kept) (state_of S kept) (Err f) (gives program p (state_of S kept) ws v)
   unfolding gives
   give-lost t h = refuses (rw (← part, named-lost (way_at S q) (sym h ∙ t)))
 
-  module _ {l : Named} {target left : ℕ} (t : l ≡ named_of (way_at S q)) (at : l ≡ Cell target left) where
-    abbrev named : NamedAt (way_at S q) target left
+  module _ {l : Result Named Refusal} {x : Named} (t : l ≡ named_of (way_at S q)) (at : l ≡ Ok x) where
+    abbrev named : NamedAt (way_at S q) x
     named = named-at (way_at S q) (sym at ∙ t)
 
-    pub target-low : target < locations
+    pub target-low : x.cell < locations
     target-low = rw named.cell (way-below S q named.way named.is)
 
-    module _ {class : List ℕ} {r : Classed} (c : Classes class r (class_for program kept S p target v)) where
-      gives-on : (identity_phase program kept S S p target named.way.prefix v >>= λ Z. value_phase program kept p target Z ws) ≡ gives program p (state_of S kept) ws v
-      gives-on = ap (λ x. identity_phase program kept S S p x named.way.prefix v >>= λ Z. value_phase program kept p x Z ws) named.cell
-          ∙ sym (gives_at program p kept ws S v named.way (ap (λ x. way_at S x) (sym part) ∙ named.is))
+    module _ {class : List ℕ} {r : Result (Unit {0}) Refusal} (c : Classes class r (class_for program kept S p x.cell v)) where
+      gives-on : (identity_phase program kept S S p x.cell named.way.prefix v >>= λ Z. value_phase program kept p x.cell Z ws) ≡ gives program p (state_of S kept) ws v
+      gives-on = ap (λ l. identity_phase program kept S S p l named.way.prefix v >>= λ Z. value_phase program kept p l Z ws) named.cell
+          ∙ sym (gives_at program p kept ws S v named.way (ap (way_at S) (sym part) ∙ named.is))
 
-      pub give-clash : {a w : ℕ} → r ≡ Unfound a w → Does (state_of S kept) (state_of S kept) (Refused a w) (gives program p (state_of S kept) ws v)
-      give-clash h = refuses (sym gives-on ∙ class-refuses program kept S S p target named.way.prefix v c (λ Z. value_phase program kept p target Z ws) h)
+      pub give-clash : {f : Refusal} → r ≡ Err f → Does (state_of S kept) (state_of S kept) (Err f) (gives program p (state_of S kept) ws v)
+      give-clash h = refuses (sym gives-on ∙ class-refuses program kept S S p x.cell named.way.prefix v c (λ Z. value_phase program kept p x.cell Z ws) h)
 
-      module _ (h : r ≡ May) {free : Bool} (e : free ≡ free_way S (marked class) v q) where
+      module _ (h : r ≡ Ok tt) {free : Bool} (e : free ≡ free_way S (marked class) v q) where
         free-is : free ≡ clash_free S named.way.prefix v (c.finds h).list
         free-is = e ∙ way-free S (marked class) v q named.way named.is ∙ free-clash S (marked class) v (c.finds h).list (c.finds h).marks named.way.prefix
 
-        pub give-way-clash : free ≡ false → Does (state_of S kept) (state_of S kept) (Refused 12 (length p)) (gives program p (state_of S kept) ws v)
-        give-way-clash f = refuses (sym gives-on ∙ way-clashes program kept S S p target named.way.prefix v c (λ Z. value_phase program kept p target Z ws) h free-is f)
+        pub give-way-clash : free ≡ false → Does (state_of S kept) (state_of S kept) (Err (refused 12 p)) (gives program p (state_of S kept) ws v)
+        give-way-clash f = refuses (sym gives-on ∙ way-clashes program kept S S p x.cell named.way.prefix v c (λ Z. value_phase program kept p x.cell Z ws) h free-is f)
 
-        pub give-moves : free ≡ true → value_phase program kept p target (put_all S (cells_of class) v) ws ≡ gives program p (state_of S kept) ws v
-        give-moves f = class-moves program kept S S p target named.way.prefix v c (λ Z. value_phase program kept p target Z ws) h free-is f ∙ gives-on
+        pub give-moves : free ≡ true → value_phase program kept p x.cell (put_all S (cells_of class) v) ws ≡ gives program p (state_of S kept) ws v
+        give-moves f = class-moves program kept S S p x.cell named.way.prefix v c (λ Z. value_phase program kept p x.cell Z ws) h free-is f ∙ gives-on
 
 -- ---- a new record
+
+-- the heap that is seen is the one that is lent
+pub heap-seen : {e h a b : List ℤ} → cells e h ≡ cells a b → h ≡ b
+heap-seen q = ap (λ (S : Cells). S.heap) q
 
 -- a variable is reached through no cells
 nothing-clashes : (S : Cells) (v : Value) (c : List ℕ) → true ≡ clash_free S [] v c
 nothing-clashes S v c = sym ((clash-iff S [] v c).1 (λ l m n. member-none l n))
 
 module _ (program p kept ws e h : List ℤ) (x : ℕ) (fs : List ℤ) (n : ℕ) where
-  abbrev New : Cells → Done → Type 0
+  abbrev New : Cells → Result Done Refusal → Type 0
   New Z r = Does (state_of (cells e h) kept) (state_of Z kept) r (gives_new program p (state_of (cells e h) kept) ws x fs n)
 
-  pub new-nowhere : {w : ℕ} → variables ≤ x → w ≡ length p - 1 → New (cells e h) (Refused 2 w)
+  pub new-nowhere : variables ≤ x → New (cells e h) (Err (refused 2 (drop 1 p)))
   unfolding gives_new
-  new-nowhere l q = refuses (rw (le-ltb x variables l, length-drop 1 p, q))
+  new-nowhere l = refuses (rw (le-ltb x variables l))
 
   module _ (variable : x < variables) where
-    pub new-full : most_records ≤ record_count h → New (cells e h) (Refused 10 (length p))
+    pub new-full : most_records ≤ record_count h → New (cells e h) (Err (refused 10 p))
     unfolding gives_new
     new-full l = refuses (rw (lt-ltb x variables variable, le-ltb (record_count h) most_records l))
 
-    module _ (room : record_count h < most_records) {class : List ℕ} {r : Classed} (c : Classes class r (class_for program kept (cells e h) p x (Ref (record_count h)))) where
-      pub new-clash : {a w : ℕ} → r ≡ Unfound a w → New (cells e h) (Refused a w)
+    module _ (room : record_count h < most_records) {class : List ℕ} {r : Result (Unit {0}) Refusal} (c : Classes class r (class_for program kept (cells e h) p x (Ref (record_count h)))) where
+      pub new-clash : {f : Refusal} → r ≡ Err f → New (cells e h) (Err f)
       unfolding gives_new
       new-clash q = refuses (rw (lt-ltb x variables variable, lt-ltb (record_count h) most_records room)
           (class-refuses program kept (cells e h) (cells e (with_record h fs n)) p x [] (Ref (record_count h)) c (λ Z. value_phase program kept p x Z ws) q))
 
-      pub new-moves : r ≡ May
+      pub new-moves : r ≡ Ok tt
           → value_phase program kept p x (put_all (cells e (with_record h fs n)) (cells_of class) (Ref (record_count h))) ws ≡ gives_new program p (state_of (cells e h) kept) ws x fs n
       unfolding gives_new
       new-moves q = rw (lt-ltb x variables variable, lt-ltb (record_count h) most_records room)
           (class-moves program kept (cells e h) (cells e (with_record h fs n)) p x [] (Ref (record_count h)) c (λ Z. value_phase program kept p x Z ws) q (nothing-clashes (cells e h) (Ref (record_count h)) (c.finds q).list) refl)
 
 -- the record is added, and taken away where the rest is refused
-module _ (program p kept ws e h fs : List ℤ) (class : List ℕ) (n x : ℕ) {k d o : List ℤ} {v : ℕ} {r : Done} (a : k ≡ with_record h fs n) (b : v ≡ record_count h)
-    (y : Does (state_of (cells e k) kept) (state_of (cells d o) kept) r (value_phase program kept p x (put_all (cells e k) (cells_of class) (Ref v)) ws)) where
-  pub new-accepts : {left j : ℕ} → r ≡ Accepted left j
-      → Does (state_of (cells e h) kept) (state_of (cells d o) kept) (Accepted left j)
+module _ (program p kept ws e h fs : List ℤ) (class : List ℕ) (n x : ℕ) {k d o left : List ℤ} {v : ℕ} {r : Result Done Refusal} (a : k ≡ with_record h fs n) (b : v ≡ record_count h)
+    (y : Does (state_of (cells e k) kept) (state_of (cells d o) left) r (value_phase program kept p x (put_all (cells e k) (cells_of class) (Ref v)) ws)) where
+  pub new-back : (saved : List ℤ) {laid g : List ℤ} {f : Refusal} → 26 ≤ length saved → laid ≡ laid_by h saved → r ≡ Err f → g ≡ brought_back laid o
+      → Does (state_of (cells e h) kept) (state_of (cells d g) left) (Err f)
       (value_phase program kept p x (put_all (cells e (with_record h fs n)) (cells_of class) (Ref (record_count h))) ws)
-  new-accepts q = rw (← a, ← b) (accepts-over y q)
-
-  pub new-back : (saved : List ℤ) {laid g : List ℤ} {j w : ℕ} → 26 ≤ length saved → laid ≡ laid_by h saved → r ≡ Refused j w → g ≡ brought_back laid o
-      → Does (state_of (cells e h) kept) (state_of (cells d g) kept) (Refused j w)
-      (value_phase program kept p x (put_all (cells e (with_record h fs n)) (cells_of class) (Ref (record_count h))) ws)
-  new-back saved {g = g} long l q f =
+  new-back saved {g = g} long l q back =
       let s = not_done y q in
       let z : d ≡ e = ap (λ (t : State). t.cells.environment) s.stays in
       let u : o ≡ k = ap (λ (t : State). t.cells.heap) s.stays in
-      let i : g ≡ h = f ∙ rw (l, u, a) (add_back h fs saved n long) in
-      rw (← a, ← b, z, i) (refuses s.is)
+      let j : left ≡ kept = ap (λ (t : State). t.kept) s.stays in
+      let i : g ≡ h = back ∙ rw (l, u, a) (add_back h fs saved n long) in
+      rw (← a, ← b, z, i, j) (refuses s.is)
 
 -- ---- the statements
 

@@ -6,8 +6,9 @@ use Prim.Native.Nat.{ℕ, suc, ◌+◌, ◌-◌, ◌*◌, ◌≤◌, ◌<◌}
 use native.Mathlib.Omega.{arith}
 use native.Mathlib.Decide.{ℕ_discrete}
 use lib.IntN.{ℤ}
-use lib.ListN.{length, set}
-use lib.Seq.{set_out}
+use lib.ListN.{length}
+use Rattle.std.proofs.lemmas.List.{append-nil, length_push}
+use Rattle.std.proofs.Common.{length-append}
 use Rattle.words.specs.Bits.{marked, next_marked, marked_from}
 use Rattle.words.proofs.BitLaws.{next-least, next-most, next-marked, next-from, from-none, from_more}
 use Rattle.tables.specs.declared.Value.{Value}
@@ -21,7 +22,6 @@ use Rattle.rules.proofs.IdentityClauses.{put-all-none, put-all-more}
 use Rattle.rules.proofs.ClassLaws.{member-none, member-cons, member-head, member-tail}
 use Rattle.phases.specs.Sizes.{marks_words}
 use Rattle.phases.specs.Taking.{cells_of, held_again, Gives}
-use Rattle.phases.proofs.RowLaws.{append-none}
 
 module _ (v : Value) where
   put-twice : (S : Cells) (l k : ℕ) → put_cell (put_cell S l (cell_of v)) k (cell_of v) ≡ put_cell (put_cell S k (cell_of v)) l (cell_of v)
@@ -66,16 +66,6 @@ module _ (v : Value) where
   put_last : (S : Cells) (ls : List ℕ) (l : ℕ) → put_all S (ls ++ (l ∷ [])) v ≡ put_cell (put_all S ls v) l (cell_of v)
   put_last S [] l = rw (put-all-more S l [] v, put-all-none (put_cell S l (cell_of v)) v, put-all-none S v)
   put_last S (k ∷ ls) l = rw (put-all-more S k (ls ++ (l ∷ [])) v, put-all-more S k ls v) (put_last (put_cell S k (cell_of v)) ls l)
-
--- ---- a cell that is laid by
-
--- a cell is laid by in two words; past the end there are none
-pub laid-past : (saved : List ℤ) (i : ℕ) (c : Cell) → length saved ≤ i → saved ≡ put_pair saved (2 * i) c
-laid-past saved i c h = sym (rw (set_out saved (2 * i) c.kind (omega arith)) (set_out saved (2 * i + 1) c.payload (omega arith)))
-
-pub laid : (before : List ℤ) (i : ℕ) (c : Cell) {between after : List ℤ} {kind payload : ℤ}
-    → kind ≡ c.kind → payload ≡ c.payload → between ≡ set before (2 * i) kind → after ≡ set between (2 * i + 1) payload → after ≡ put_pair before (2 * i) c
-laid before i c k p a b = rw (← k, ← p, ← a) b
 
 -- ---- cells that hold again what was laid by
 
@@ -161,14 +151,6 @@ giving-starts {S = S} {class = class} {saved = saved} {v = v} long e = rw e (rec
   back = again-none saved 0 S;
 })
 
-length_last : (ls : List ℕ) (l : ℕ) → length (ls ++ (l ∷ [])) ≡ length ls + 1
-length_last [] l = refl
-length_last (k ∷ ls) l = let z : suc (length (ls ++ (l ∷ []))) ≡ suc (length ls) + 1 = omega (arith, length_last ls l) in z
-
-length_both : (ls ks : List ℕ) → length (ls ++ ks) ≡ length ls + length ks
-length_both [] ks = let z : length ks ≡ 0 + length ks = omega arith in z
-length_both (l ∷ ls) ks = let z : suc (length (ls ++ ks)) ≡ suc (length ls) + length ks = omega (arith, length_both ls ks) in z
-
 member-last {ℓ} : {X : Type ℓ} (k : ℕ) (ls : List ℕ) (l : ℕ) → member k (ls ++ (l ∷ [])) ≡ true → (member k ls ≡ true → X) → (k ≡ l → X) → X
 member-last k [] l m f g = member-cons k l [] m g (λ e. member-none k e)
 member-last k (j ∷ ls) l m f g = member-cons k j (ls ++ (l ∷ [])) m (λ e. f (member-head k j ls e)) (λ e. member-last k ls l e (λ q. f (member-tail k j ls q)) g)
@@ -181,7 +163,7 @@ module _ {S Z : Cells} {class : List ℕ} {before saved : List ℤ} {v : Value} 
     pub giving-room : 2 * i + 1 < length saved
     giving-room =
         let w : length inv.done + suc (length (marked_from class (l + 1) (locations - (l + 1)))) ≡ length (cells_of class)
-        = sym (length_both inv.done (l ∷ marked_from class (l + 1) (locations - (l + 1)))) ∙ rw (giving-rest turn) at (ap length inv.split) in
+        = sym (length-append inv.done (l ∷ marked_from class (l + 1) (locations - (l + 1)))) ∙ rw (giving-rest turn) at (ap length inv.split) in
         omega (arith, inv.counted, inv.long)
 
     pub giving-goes-on : {Y : Cells} {old c : Cell} {after : List ℤ} {next : ℕ} → old ≡ cell_at Z l → after ≡ put_pair saved (2 * i) old → c ≡ cell_of v → Y ≡ put_cell Z l c → next ≡ next_marked class (l + 1)
@@ -190,7 +172,7 @@ module _ {S Z : Cells} {class : List ℕ} {before saved : List ℤ} {v : Value} 
       done = inv.done ++ (l ∷ []);
       split = append_assoc inv.done (l ∷ []) (marked_from class (next_marked class (l + 1)) (locations - next_marked class (l + 1)))
           ∙ rw (next-cells class long (l + 1) (omega arith), ← (giving-rest turn)) inv.split;
-      counted = length_last inv.done l ∙ rw inv.counted;
+      counted = length_push inv.done l ∙ rw inv.counted;
       rising = λ j m. member-last j inv.done l m (λ q. omega (arith, inv.rising j q, next-least class (l + 1))) (λ q. omega (arith, next-least class (l + 1)));
       few = omega (arith, inv.few, next-least class (l + 1));
       inside = next_low class long (l + 1) (omega arith);
@@ -217,7 +199,7 @@ module _ {S Z : Cells} {class : List ℕ} {before saved : List ℤ} {v : Value} 
 
   pub giving-ends : locations ≤ l → Gives S Z class saved v
   giving-ends h =
-      let w : inv.done ≡ cells_of class = sym (append-none inv.done) ∙ rw (from-none class l locations h) at inv.split in
+      let w : inv.done ≡ cells_of class = sym (append-nil inv.done) ∙ rw (from-none class l locations h) at inv.split in
       record { is = rw (← w) inv.is; back = rw (← w) inv.back }
 
 -- ---- the loop in which they hold again what was laid by

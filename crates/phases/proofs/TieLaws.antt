@@ -1,4 +1,5 @@
 -- Kept identities, followed one by one, are the rules' ties. Assumes nothing.
+use Rattle.std.specs.Prelude.{Result, Ok, Err}
 use mathlib.Core.Path.{◌≡◌, refl, sym, ap, ap₂, subst, ◌∙◌}
 use mathlib.Core.Bool.{Bool, true, ◌&&◌}
 use mathlib.Core.List.Memᴰ
@@ -16,7 +17,8 @@ use Rattle.tables.specs.declared.Sort.TheVariants.{Identities}
 use Rattle.tables.specs.Cells.{Cells}
 use Rattle.tables.specs.Sizes.{locations}
 use Rattle.tables.specs.Kept.{kept_count, position_at}
-use Rattle.rules.specs.State.{Fault, Res, listed}
+use Rattle.program.specs.declared.Refusal.{Refusal}
+use Rattle.rules.specs.State.{Res, listed}
 use Rattle.rules.specs.Paths.{Way, way_at}
 use Rattle.rules.specs.Identities.{Tie, tie_at, ties_of, ties, frozen_by}
 use Rattle.rules.proofs.ConstraintClauses.{positions-are, listed-none, listed_more}
@@ -24,48 +26,49 @@ use Rattle.rules.proofs.EvaluateClauses.{way-part}
 use Rattle.rules.proofs.WayLaws.{way-below, one-of-cons}
 use Rattle.rules.proofs.IdentityClauses.{tie-is, ties-none, ties-more, ties-are, frozen-none, frozen-more}
 use Rattle.expressions.specs.declared.Named.{Named}
-use Rattle.expressions.specs.declared.Named.TheVariants.{Cell, Lost as Unnamed}
 use Rattle.expressions.specs.Told.{named_of}
-use Rattle.proposals.proofs.FormLaws.{unlike}
-use Rattle.phases.specs.declared.Tied.TheVariants.{Ends, Lost}
+use Rattle.phases.specs.declared.Ends.{Ends}
 use Rattle.phases.specs.Tying.{tie_no, tied_of, Found}
 
 -- ---- an L
 
-pub named-lost : (m : Res Way) {a w : ℕ} → Unnamed a w ≡ named_of m → m ≡ stop (record { number = a; word = w })
-named-lost (got x) e = unlike (cc)
-named-lost (stop f) {a = a} {w = w} e = let x : f.number ≡ a = cc in let y : f.word ≡ w = cc in rw (← x, ← y)
+pub named-lost : (m : Res Way) {f : Refusal} → Err f ≡ named_of m → m ≡ stop f
+named-lost (got w) e = cc
+named-lost (stop g) e = cc
 
-pub record NamedAt (m : Res Way) (l left : ℕ) : Type 0 where
+pub record NamedAt (m : Res Way) (n : Named) : Type 0 where
   pub way : Way
   pub is : m ≡ got way
-  pub cell : l ≡ way.cell
-  pub rest : left ≡ length way.rest
+  pub cell : n.cell ≡ way.cell
+  pub rest : n.left ≡ length way.rest
 
-pub named-at : (m : Res Way) {l left : ℕ} → Cell l left ≡ named_of m → NamedAt m l left
-named-at (got x) e = record { way = x; is = refl; cell = cc; rest = cc }
-named-at (stop f) e = unlike (cc)
+pub named-at : (m : Res Way) {n : Named} → Ok n ≡ named_of m → NamedAt m n
+named-at (got w) {n = n} e = let z : n ≡ record { cell = w.cell; left = length w.rest } = cc in record { way = w; is = refl; cell = rw z; rest = rw z }
+named-at (stop f) e = cc
 
 -- ---- an identity: one side, and then the other
 
-module _ (S : Cells) (p : List ℤ) {r : Named} (first : r ≡ named_of (way_at S p)) where
-  pub tie-lost : {a w : ℕ} → r ≡ Unnamed a w → Lost a w ≡ tied_of (tie_at S p)
+abbrev pub ends : ℕ → ℕ → Result Ends Refusal
+ends one two = Ok (record { one = one; two = two })
+
+module _ (S : Cells) (p : List ℤ) {r : Result Named Refusal} (first : r ≡ named_of (way_at S p)) where
+  pub tie-lost : {f : Refusal} → r ≡ Err f → Err f ≡ tied_of (tie_at S p)
   tie-lost e = rw (tie-is S p, named-lost (way_at S p) (sym e ∙ first))
 
-  module _ {one left : ℕ} (e : r ≡ Cell one left) {q : List ℤ} {r' : Named} (part : q ≡ last_of left p) (second : r' ≡ named_of (way_at S q)) where
-    side : NamedAt (way_at S p) one left
+  module _ {one : Named} (e : r ≡ Ok one) {q : List ℤ} {r' : Result Named Refusal} (part : q ≡ last_of one.left p) (second : r' ≡ named_of (way_at S q)) where
+    side : NamedAt (way_at S p) one
     side = named-at (way_at S p) (sym e ∙ first)
 
     other : q ≡ side.way.rest
     other = part ∙ ap (λ x. last_of x p) side.rest ∙ (way-part S p side.way side.is).is
 
-    pub tie-second-lost : {a w : ℕ} → r' ≡ Unnamed a w → Lost a w ≡ tied_of (tie_at S p)
+    pub tie-second-lost : {f : Refusal} → r' ≡ Err f → Err f ≡ tied_of (tie_at S p)
     tie-second-lost h = rw (tie-is S p, side.is, ← other, named-lost (way_at S q) (sym h ∙ second))
 
-    pub tie-found : {two rest : ℕ} → r' ≡ Cell two rest → Ends one two ≡ tied_of (tie_at S p)
+    pub tie-found : {two : Named} → r' ≡ Ok two → ends one.cell two.cell ≡ tied_of (tie_at S p)
     tie-found h =
         let w = named-at (way_at S q) (sym h ∙ second) in
-        rw (tie-is S p, side.is, ← other, w.is) (ap₂ Ends side.cell w.cell)
+        rw (tie-is S p, side.is, ← other, w.is) (ap₂ ends side.cell w.cell)
 
 -- what a tie is made of
 pub record Sides (S : Cells) (p : List ℤ) (t : Tie) : Type 0 where
@@ -79,8 +82,8 @@ pub tie-sides : (S : Cells) (p : List ℤ) (t : Tie) → tie_at S p ≡ got t �
 tie-sides S p t e = either (way_at S p)
     (λ a f. either (way_at S a.rest)
     (λ b g. record { one = a; is_one = f; two = b; is-two = g; made = let z : got (record { one = a.cell; two = b.cell; prefix = a.prefix ++ b.prefix }) ≡ got t = sym (rw (f, g) at (tie-is S p)) ∙ e in sym (cc) })
-    (λ h g. let z : stop h ≡ got t = sym (rw (f, g) at (tie-is S p)) ∙ e in unlike (cc)))
-    (λ h f. let z : stop h ≡ got t = sym (rw f at (tie-is S p)) ∙ e in unlike (cc))
+    (λ h g. let z : stop h ≡ got t = sym (rw (f, g) at (tie-is S p)) ∙ e in cc))
+    (λ h f. let z : stop h ≡ got t = sym (rw f at (tie-is S p)) ∙ e in cc)
 
 pub tie-low : (S : Cells) (p : List ℤ) (t : Tie) → tie_at S p ≡ got t → (t.one < locations) × (t.two < locations)
 tie-low S p t e =
@@ -114,7 +117,7 @@ module _ (program kept : List ℤ) (S : Cells) where
       let ts = row-found (suc i) n (λ k a b. h k (omega arith) (omega arith)) in
       (t.0 ∷ ts.0, row_more i n ∙ rw (t.1, ts.1))
 
-  row-lost : (f : Fault) (at : ℕ) → T at ≡ stop f → (i n : ℕ) → i ≤ at → at < i + n → ((k : ℕ) → i ≤ k → k < at → (t : Tie) × (T k ≡ got t)) → row i n ≡ stop f
+  row-lost : (f : Refusal) (at : ℕ) → T at ≡ stop f → (i n : ℕ) → i ≤ at → at < i + n → ((k : ℕ) → i ≤ k → k < at → (t : Tie) × (T k ≡ got t)) → row i n ≡ stop f
   row-lost f at e i zero a b h = let z : ⊥ = omega arith in absurd z
   row-lost f at e i (suc n) a b h = go (ℕ_discrete at i) (λ m. row-lost f at e (suc i) n m (omega arith) (λ k x y. h k (omega arith) y))
     where
@@ -134,8 +137,8 @@ module _ (program kept : List ℤ) (S : Cells) where
   row_first i n ts e = either (T i)
       (λ t f. either (row (suc i) n)
       (λ us g. record { first = t; is = f; others = us; are = g; all = let z : got (t ∷ us) ≡ got ts = sym (rw (f, g) at (row_more i n)) ∙ e in sym (cc) })
-      (λ h g. let z : stop h ≡ got ts = sym (rw (f, g) at (row_more i n)) ∙ e in unlike (cc)))
-      (λ h f. let z : stop h ≡ got ts = sym (rw f at (row_more i n)) ∙ e in unlike (cc))
+      (λ h g. let z : stop h ≡ got ts = sym (rw (f, g) at (row_more i n)) ∙ e in cc))
+      (λ h f. let z : stop h ≡ got ts = sym (rw f at (row_more i n)) ∙ e in cc)
 
   row_has : (i n : ℕ) (ts : List Tie) → row i n ≡ got ts → (k : ℕ) → i ≤ k → k < i + n → (t : Tie) → T k ≡ got t → OneOf t ts
   row_has i zero ts e k a b t f = let z : ⊥ = omega arith in absurd z
@@ -161,7 +164,7 @@ module _ (program kept : List ℤ) (S : Cells) where
   pub ties-found : Found T n → (ts : List Tie) × (ties program kept S ≡ got ts)
   ties-found h = let w = row-found 0 n (λ k a b. h k (omega arith)) in (w.0, ties-row ∙ w.1)
 
-  pub ties-lost : (f : Fault) (at : ℕ) → at < n → T at ≡ stop f → ((k : ℕ) → k < at → (t : Tie) × (T k ≡ got t)) → ties program kept S ≡ stop f
+  pub ties-lost : (f : Refusal) (at : ℕ) → at < n → T at ≡ stop f → ((k : ℕ) → k < at → (t : Tie) × (T k ≡ got t)) → ties program kept S ≡ stop f
   ties-lost f at b e h = ties-row ∙ row-lost f at e 0 n (omega arith) (omega arith) (λ k x y. h k y)
 
   module _ (ts : List Tie) (e : ties program kept S ≡ got ts) where

@@ -1,5 +1,5 @@
 -- The identity phase, nearer to the code: the class first, and then the cells that take the value. Assumes nothing: these are definitions.
-use Rattle.std.specs.Prelude.{ℕ, ◌≤◌, ◌≡◌, false, not, ◌||◌, List, [], ltb, ℤ, length, drop}
+use Rattle.std.specs.Prelude.{ℕ, ◌≤◌, ◌≡◌, false, not, ◌||◌, List, [], ltb, ℤ, length, drop, Result, Ok, Err}
 use Rattle.words.specs.Bits.{marked}
 use Rattle.words.specs.Answer.{got, stop, ◌>>=◌, ◌>>◌, want}
 use Rattle.tables.specs.declared.Value.{Value}
@@ -7,12 +7,11 @@ use Rattle.tables.specs.declared.Value.TheVariants.{Ref}
 use Rattle.tables.specs.Sizes.{variables, most_records}
 use Rattle.tables.specs.Cells.{Cells, cells}
 use Rattle.tables.specs.Records.{record_count, with_record}
+use Rattle.program.specs.declared.Refusal.{Refusal}
 use Rattle.rules.specs.State.{State, Res, refused}
 use Rattle.rules.specs.Paths.{way_at}
 use Rattle.rules.specs.Identities.{is_node, ties, frozen_by, class_of, names, clash_free, member, identity_phase}
 use Rattle.rules.specs.Statements.{Left, value_phase}
-use Rattle.phases.specs.declared.Classed.{Classed}
-use Rattle.phases.specs.declared.Classed.TheVariants.{May, Refuses}
 use Rattle.phases.specs.Sizes.{marks_words, class_cells}
 use Rattle.phases.specs.Taking.{cells_of}
 
@@ -38,9 +37,9 @@ pub record Finds (class : List ℕ) (m : Res (List ℕ)) : Type 0 where
   pub marks : (l : ℕ) → marked class l ≡ member l list
   pub same : (l : ℕ) → member l (cells_of class) ≡ member l list
 
-pub record Classes (class : List ℕ) (r : Classed) (m : Res (List ℕ)) : Type 0 where
-  pub refuses : (a w : ℕ) → r ≡ Refuses a w → m ≡ stop (record { number = a; word = w })
-  pub finds : r ≡ May → Finds class m
+pub record Classes (class : List ℕ) (r : Result (Unit {0}) Refusal) (m : Res (List ℕ)) : Type 0 where
+  pub refuses : (f : Refusal) → r ≡ Err f → m ≡ stop f
+  pub finds : r ≡ Ok tt → Finds class m
 
 -- the L of the assignment at p takes the value v, and then the value phase
 unfoldable pub gives : List ℤ → List ℤ → State → List ℤ → Value → Res Left

@@ -1,18 +1,17 @@
 -- Kept identities as ties in a row, and marks that grow with them. Assumes nothing: these are definitions.
-use Rattle.std.specs.Prelude.{ℕ, zero, suc, ◌+◌, ◌-◌, ◌≤◌, ◌<◌, ◌≡◌, Bool, true, false, not, cond, ◌&&◌, ◌||◌, List, eqb, ℤ, length, drop}
+use Rattle.std.specs.Prelude.{ℕ, zero, suc, ◌+◌, ◌-◌, ◌≤◌, ◌<◌, ◌≡◌, Bool, true, false, not, cond, ◌&&◌, ◌||◌, List, eqb, ℤ, length, drop, Result, Ok, Err}
 use Rattle.words.specs.Answer.{got, stop}
 use Rattle.words.specs.Bits.{marked, with_mark}
 use Rattle.tables.specs.declared.Sort.TheVariants.{Identities}
 use Rattle.tables.specs.Sizes.{locations}
 use Rattle.tables.specs.Cells.{Cells}
 use Rattle.tables.specs.Kept.{position_at}
+use Rattle.program.specs.declared.Refusal.{Refusal}
 use Rattle.rules.specs.State.{Res}
 use Rattle.rules.specs.Identities.{Tie, tie_at}
-use Rattle.phases.specs.declared.Tied.{Tied}
-use Rattle.phases.specs.declared.Tied.TheVariants.{Ends, Lost}
+use Rattle.phases.specs.declared.Ends.{Ends}
 use Rattle.phases.specs.declared.Grown.{Grown}
 use Rattle.phases.specs.declared.Passed.{Passed}
-use Rattle.phases.specs.declared.Passed.TheVariants.{Over, Lost as Astray}
 
 -- ---- ties
 
@@ -24,9 +23,9 @@ abbrev pub tie_no : List ℤ → List ℤ → Cells → ℕ → Res Tie
 tie_no program kept S k = tie_at S (identity_at program kept k)
 
 -- its two cells
-abbrev pub tied_of : Res Tie → Tied
-tied_of (got t) = Ends t.one t.two
-tied_of (stop f) = Lost f.number f.word
+abbrev pub tied_of : Res Tie → Result Ends Refusal
+tied_of (got t) = Ok (record { one = t.one; two = t.two })
+tied_of (stop f) = Err f
 
 -- the i-th of n, from the first on or back from the last
 abbrev pub turn_of : ℕ → ℕ → Bool → ℕ
@@ -88,15 +87,15 @@ module _ (T : ℕ → Res Tie) (n : ℕ) where
     pub unnamed : names ≡ false → (k : ℕ) → k < n → named_by target (T k) ≡ false
 
   -- tie number k leads nowhere; those before it do, where they are walked in their order
-  pub record Strays (back : Bool) (a w : ℕ) : Type 0 where
+  pub record Strays (back : Bool) (f : Refusal) : Type 0 where
     pub at : ℕ
     pub inside : at < n
-    pub is : T at ≡ stop (record { number = a; word = w })
+    pub is : T at ≡ stop f
     pub first : back ≡ false → (k : ℕ) → k < at → (t : Tie) × (T k ≡ got t)
 
-  pub record Passes (back : Bool) (target : ℕ) (class class' : List ℕ) (r : Passed) : Type 0 where
-    pub lost : (a w : ℕ) → r ≡ Astray a w → Strays back a w
-    pub over : (names again : Bool) → r ≡ Over names again → Walked target class class' names again
+  pub record Passes (back : Bool) (target : ℕ) (class class' : List ℕ) (r : Result Passed Refusal) : Type 0 where
+    pub lost : (f : Refusal) → r ≡ Err f → Strays back f
+    pub over : (x : Passed) → r ≡ Ok x → Walked target class class' x.names x.again
 
   -- walks until no mark is new
   pub record PassesOn (again : Bool) (class class' : List ℕ) : Type 0 where

@@ -1,32 +1,31 @@
 // The ties of kept identities, followed in the tables as often as they are asked for, and the class of a target as marks.
-ghost use Rattle.std.specs.Prelude.{◌≡◌, not, ◌||◌, ◌<◌, ◌≤◌, length};
+ghost use Rattle.std.specs.Prelude.{◌≡◌, not, ◌||◌, ◌<◌, ◌≤◌};
 ghost use Rattle.words.specs.Bits.{marked};
 ghost use Rattle.tables.specs.Sizes.{locations};
-ghost use Rattle.tables.specs.Cells.{cells};
+ghost use Rattle.tables.specs.Lending.{seen};
 ghost use Rattle.rules.specs.State.{slot_at};
 ghost use Rattle.rules.specs.Identities.{tie_at, is_node, is};
-ghost use Rattle.phases.specs.Sizes.{most_ties, marks_words};
+ghost use Rattle.phases.specs.Sizes.{most_ties};
 ghost use Rattle.phases.specs.Tying.{identity_at, tied_of, tie_no, turn_of, Found as Leads, GrowsTie, Passes, PassesOn};
 ghost use Rattle.phases.specs.Freezing.{free_way, free_tie, free_ties};
 ghost use Rattle.phases.specs.Classing.{class_for, Unmarked, Classes};
 
-use crate::{Classed, Grown, Passed, Tied};
-use expressions::Named;
+use crate::{Class, Ends, Grown, Passed};
 use expressions::paths::{cell_at, step};
-use tables::{Found, Slot, Sort, Value};
+use program::Refusal;
+use tables::{Sort, Value, View};
 use words::bits::{is_marked, mark};
 
 // The two cells that the identity at p names.
-fn tie_at(environment: &[i32], heap: &[i32], p: &[i32]) -> Tied
-    ensures { result ≡ tied_of (tie_at (cells environment.now heap.now) p.now) }
+fn tie_at(t: &View<'_>, p: &[i32]) -> Result<Ends, Refusal>
+    ensures { result ≡ tied_of (tie_at (seen t.now) p.now) }
 {
-    match cell_at(environment, heap, p) {
-        Named::Lost(a, w) => Tied::Lost(a, w),
-        Named::Cell(one, left) => match cell_at(environment, heap, words::part_last(p, left)) {
-            Named::Lost(b, x) => Tied::Lost(b, x),
-            Named::Cell(two, _) => Tied::Ends(one, two),
-        },
-    }
+    let one = cell_at(t, p)?;
+    let two = cell_at(t, words::part_last(p, one.left))?;
+    Ok(Ends {
+        one: one.cell,
+        two: two.cell,
+    })
 }
 
 // Kept identity number k, from its first side on.
@@ -41,30 +40,26 @@ fn identity_at<'a>(program: &'a [i32], constraints: &[i32], k: usize) -> &'a [i3
 }
 
 // References and nil.
+#[tactic(auto, unfolding(rules::specs::Identities::is_node))]
 pub fn is_node(v: Value) -> bool
     ensures { result ≡ is_node v }
 {
-    match v {
-        Value::Nil => true,
-        Value::Bool(_) => false,
-        Value::Int(_) => false,
-        Value::Ref(_) => true,
-    }
+    matches!(v, Value::Nil | Value::Ref(_))
 }
 
 // The cell at l holds v.
-fn holds(environment: &[i32], heap: &[i32], l: usize, v: Value) -> bool
-    ensures { result ≡ is (slot_at (cells environment.now heap.now) l) v }
+#[tactic(auto, unfolding(rules::specs::State::slot_at))]
+fn holds(t: &View<'_>, l: usize, v: Value) -> bool
+    ensures { result ≡ is (slot_at (seen t.now) l) v }
 {
-    let slot = tables::cells::slot_of(tables::cells::read_cell(environment, heap, l));
-    match slot {
-        Slot::Absent => false,
-        Slot::Has(w) => expressions::operators::are_same(w, v),
+    match t.value(l) {
+        None => false,
+        Some(w) => expressions::operators::are_same(w, v),
     }
 }
 
 // Both ends of a tie that has one end marked are marked.
-fn grow_tie(one: usize, two: usize, class: &mut [u64]) -> Grown
+fn grow_tie(one: usize, two: usize, class: &mut Class) -> Grown
     ensures { GrowsTie one two class.old class.new result }
 {
     let a = is_marked(class, one);
@@ -93,210 +88,132 @@ fn turn(n: usize, i: usize, back: bool) -> usize
     i
 }
 
-// One walk over the n ties, in kept order or back: each that has an end marked has both marked then. Another is due where a mark is new after a tie that stayed apart.
+// One walk over the n ties, in kept order or back: each that has an end marked has both marked then.
+// Another is due where a mark is new after a tie that stayed apart.
 fn pass(
     program: &[i32],
-    environment: &[i32],
-    heap: &[i32],
-    constraints: &[i32],
+    t: &View<'_>,
     n: usize,
     back: bool,
     target: usize,
-    class: &mut [u64],
-) -> Passed
-    requires n_le_most_ties { n ≤ most_ties }
-    requires class_len { length class.old ≡ marks_words }
-    ensures { Passes (tie_no program.now constraints.now (cells environment.now heap.now)) n back target class.old class.new result }
+    class: &mut Class,
+) -> Result<Passed, Refusal>
+    requires { n ≤ most_ties }
+    ensures { Passes (tie_no program.now t.now.constraints.now (seen t.now)) n back target class.old class.new result }
 {
     let mut names = false;
     let mut apart = false;
     let mut again = false;
-    let mut i: usize = 0;
-    while i < n {
-        let p = identity_at(program, constraints, turn(n, i, back));
-        match tie_at(environment, heap, p) {
-            Tied::Lost(a, w) => {
-                return Passed::Lost(a, w);
-            }
-            Tied::Ends(one, two) => {
-                let g = grow_tie(one, two, class);
-                names = names | (one == target) | (two == target);
-                again = again | (apart & g.new);
-                apart = apart | g.apart;
-            }
-        }
-        i += 1;
+    for i in 0..n {
+        let p = identity_at(program, t.constraints, turn(n, i, back));
+        let ends = tie_at(t, p)?;
+        let g = grow_tie(ends.one, ends.two, class);
+        names = names | (ends.one == target) | (ends.two == target);
+        again = again | (apart & g.new);
+        apart = apart | g.apart;
     }
-    Passed::Over(names, again)
+    Ok(Passed { names, again })
 }
 
 // Passes back and forth, after the first, as long as another is due.
-fn pass_on(
-    program: &[i32],
-    environment: &[i32],
-    heap: &[i32],
-    constraints: &[i32],
-    n: usize,
-    again: bool,
-    target: usize,
-    class: &mut [u64],
-)
+fn pass_on(program: &[i32], t: &View<'_>, n: usize, again: bool, target: usize, class: &mut Class)
     requires n_le_most_ties { n ≤ most_ties }
-    requires class_len { length class.old ≡ marks_words }
-    requires leads { Leads (tie_no program.now constraints.now (cells environment.now heap.now)) n }
-    ensures { PassesOn (tie_no program.now constraints.now (cells environment.now heap.now)) n again class.old class.new }
+    requires leads { Leads (tie_no program.now t.now.constraints.now (seen t.now)) n }
+    ensures { PassesOn (tie_no program.now t.now.constraints.now (seen t.now)) n again class.old class.new }
 {
     let mut back = true;
     let mut due = again;
     while due {
-        match pass(
-            program,
-            environment,
-            heap,
-            constraints,
-            n,
-            back,
-            target,
-            class,
-        ) {
-            Passed::Lost(_, _) => {
-                return;
-            }
-            Passed::Over(_, more) => {
-                due = more;
-            }
-        }
+        let Ok(passed) = pass(program, t, n, back, target, class) else {
+            return;
+        };
+        due = passed.again;
         back = !back;
     }
 }
 
 // The cell at l is not marked, or holds v.
-fn may_take(environment: &[i32], heap: &[i32], l: usize, class: &[u64], v: Value) -> bool
-    ensures { result ≡ (not (marked class.now l) || is (slot_at (cells environment.now heap.now) l) v) }
+fn may_take(t: &View<'_>, l: usize, class: &Class, v: Value) -> bool
+    ensures { result ≡ (not (marked class.now l) || is (slot_at (seen t.now) l) v) }
 {
     if !is_marked(class, l) {
         return true;
     }
-    holds(environment, heap, l, v)
+    holds(t, l, v)
 }
 
 // No prefix cell of the L at p is marked and holds anything but v.
-pub(crate) fn is_way_free(
-    environment: &[i32],
-    heap: &[i32],
-    p: &[i32],
-    class: &[u64],
-    v: Value,
-) -> bool
-    ensures { result ≡ free_way (cells environment.now heap.now) (marked class.now) v p.now }
+pub(crate) fn is_way_free(t: &View<'_>, p: &[i32], class: &Class, v: Value) -> bool
+    ensures { result ≡ free_way (seen t.now) (marked class.now) v p.now }
 {
     let n = words::number_at(p, 1);
     let labels = words::part_from(p, 2);
     let mut at = words::number_at(p, 0);
-    let mut i: usize = 0;
-    while i < n {
-        if !may_take(environment, heap, at, class, v) {
+    for i in 0..n {
+        if !may_take(t, at, class, v) {
             return false;
         }
         if i + 1 == n {
             return true;
         }
-        match step(environment, heap, at, words::number_at(labels, i)) {
-            Found::Nothing => {
-                return true;
-            }
-            Found::At(next) => {
-                at = next;
-            }
-        }
-        i += 1;
+        let Some(next) = step(t, at, words::number_at(labels, i)) else {
+            return true;
+        };
+        at = next;
     }
     true
 }
 
 // The same of both sides of the identity at p.
-fn is_tie_free(environment: &[i32], heap: &[i32], p: &[i32], class: &[u64], v: Value) -> bool
-    ensures { result ≡ free_tie (cells environment.now heap.now) (marked class.now) v p.now }
+fn is_tie_free(t: &View<'_>, p: &[i32], class: &Class, v: Value) -> bool
+    ensures { result ≡ free_tie (seen t.now) (marked class.now) v p.now }
 {
-    if !is_way_free(environment, heap, p, class, v) {
+    if !is_way_free(t, p, class, v) {
         return false;
     }
     let q = words::part_from(words::part_from(p, 2), words::number_at(p, 1));
-    is_way_free(environment, heap, q, class, v)
+    is_way_free(t, q, class, v)
 }
 
 // The same of n kept identities.
-fn is_clash_free(
-    program: &[i32],
-    environment: &[i32],
-    heap: &[i32],
-    constraints: &[i32],
-    n: usize,
-    class: &[u64],
-    v: Value,
-) -> bool
-    ensures { result ≡ free_ties (cells environment.now heap.now) (marked class.now) v (identity_at program.now constraints.now) 0 n }
+fn is_clash_free(program: &[i32], t: &View<'_>, n: usize, class: &Class, v: Value) -> bool
+    ensures { result ≡ free_ties (seen t.now) (marked class.now) v (identity_at program.now t.now.constraints.now) 0 n }
 {
-    let mut i: usize = 0;
-    while i < n {
-        let p = identity_at(program, constraints, i);
-        if !is_tie_free(environment, heap, p, class, v) {
+    for i in 0..n {
+        let p = identity_at(program, t.constraints, i);
+        if !is_tie_free(t, p, class, v) {
             return false;
         }
-        i += 1;
     }
     true
 }
 
-// The class of the target is marked: 13, and then 12 for the cells that kept identities freeze. Where none is kept, the class is the target.
+// The class of the target is marked: 13, and then 12 for the cells that kept identities freeze.
+// Where none is kept, the class is the target.
 pub(crate) fn mark_class(
     program: &[i32],
-    environment: &[i32],
-    heap: &[i32],
-    constraints: &[i32],
+    t: &View<'_>,
     target: usize,
     v: Value,
-    class: &mut [u64],
+    class: &mut Class,
     p: &[i32],
-) -> Classed
+) -> Result<(), Refusal>
     requires target_lt_locations { target < locations }
     requires unmarked { Unmarked class.old }
-    ensures { Classes class.new result (class_for program.now constraints.now (cells environment.now heap.now) p.now target v) }
+    ensures { Classes class.new result (class_for program.now t.now.constraints.now (seen t.now) p.now target v) }
 {
-    let n = tables::kept::kept_count(constraints, Sort::Identities);
+    let n = tables::kept::kept_count(t.constraints, Sort::Identities);
     mark(class, target);
     if n == 0 {
-        return Classed::May;
+        return Ok(());
     }
-    match pass(
-        program,
-        environment,
-        heap,
-        constraints,
-        n,
-        false,
-        target,
-        class,
-    ) {
-        Passed::Lost(a, w) => Classed::Refuses(a, w),
-        Passed::Over(names, again) => {
-            if names & !is_node(v) {
-                return Classed::Refuses(13, p.len());
-            }
-            pass_on(
-                program,
-                environment,
-                heap,
-                constraints,
-                n,
-                again,
-                target,
-                class,
-            );
-            if !is_clash_free(program, environment, heap, constraints, n, class, v) {
-                return Classed::Refuses(12, p.len());
-            }
-            Classed::May
-        }
+    let passed = pass(program, t, n, false, target, class)?;
+    if passed.names & !is_node(v) {
+        return Err(Refusal::at(13, p));
     }
+    pass_on(program, t, n, passed.again, target, class);
+    if !is_clash_free(program, t, n, class, v) {
+        return Err(Refusal::at(12, p));
+    }
+    Ok(())
 }

@@ -3,48 +3,46 @@ ghost use Rattle.std.specs.Prelude.{◌≡◌, ◌≤◌, ◌*◌, length};
 ghost use Rattle.words.specs.Bits.{next_marked};
 ghost use Rattle.tables.specs.declared.Value.TheVariants.{Ref};
 ghost use Rattle.tables.specs.Cells.{cells, put_pair};
+ghost use Rattle.tables.specs.Lending.{cells_in, StillLent, OnlyCells};
 ghost use Rattle.tables.specs.Records.{record_count, with_record};
 ghost use Rattle.rules.specs.Identities.{put_all};
 ghost use Rattle.rules.specs.Statements.{value_phase};
-ghost use Rattle.phases.specs.Sizes.{marks_words, class_cells};
-ghost use Rattle.phases.specs.Told.{tables, Does};
+ghost use Rattle.phases.specs.Sizes.{class_cells};
+ghost use Rattle.phases.specs.Told.{state_in, Does};
 ghost use Rattle.phases.specs.Taking.{cells_of, held_again, Gives};
 ghost use Rattle.phases.specs.Classing.{gives, gives_new};
 
 use super::classes::{is_way_free, mark_class};
-use crate::{CLASS_WORDS, Classed, Done, MARKS_WORDS, ROOM_WORDS};
-use expressions::Named;
+use crate::{CLASS_WORDS, Class, Done, MARKS_WORDS, ROOM_WORDS};
 use expressions::paths::cell_at;
+use program::Refusal;
+use proposals::Asked;
 use proposals::settling::settle;
-use proposals::{Asked, Settled};
-use tables::Value;
+use tables::{Cell, Tables, Value};
 
 // The first marked cell from l on; no location where none is.
-fn next_marked(class: &[u64], l: usize) -> usize
-    requires { length class.now ≡ marks_words }
+fn next_marked(class: &Class, l: usize) -> usize
     ensures { result ≡ next_marked class.now l }
 {
-    let mut i = l / 64;
-    if class.len() <= i {
+    let at = l / 64;
+    if MARKS_WORDS <= at {
         return l;
     }
-    let rest = class[i] >> (l % 64);
+    let rest = class[at] >> (l % 64);
     if rest != 0 {
         return l + u64::trailing_zeros(rest) as usize;
     }
-    i += 1;
-    while i < class.len() {
+    for i in at + 1..MARKS_WORDS {
         let word = class[i];
         if word != 0 {
             return 64 * i + u64::trailing_zeros(word) as usize;
         }
-        i += 1;
     }
-    64 * i
+    64 * MARKS_WORDS
 }
 
 // The cell c is laid by as number i of the saved ones; nothing is stored where there are no such words.
-fn lay_by(saved: &mut [i32], i: usize, c: tables::Cell)
+fn lay_by(saved: &mut [i32], i: usize, c: Cell)
     ensures { saved.new ≡ put_pair saved.old (2 * i) c }
 {
     if saved.len() <= i {
@@ -55,30 +53,30 @@ fn lay_by(saved: &mut [i32], i: usize, c: tables::Cell)
 }
 
 // The marked cells take the value; what was there is laid by, in their order.
-fn put_class(environment: &mut [i32], heap: &mut [i32], class: &[u64], v: Value, saved: &mut [i32])
-    requires class_len { length class.now ≡ marks_words }
-    requires class_in_bounds { 2 * length (cells_of class.now) ≤ length saved.old }
-    ensures { Gives (cells environment.old heap.old) (cells environment.new heap.new) class.now saved.new v }
+fn put_class(t: &mut Tables<'_>, class: &Class, v: Value, saved: &mut [i32])
+    requires { 2 * length (cells_of class.now) ≤ length saved.old }
+    ensures gives { Gives (cells_in t.old) (cells_in t.new) class.now saved.new v }
+    ensures rest { OnlyCells t.old t.new }
 {
     let mut i: usize = 0;
     let mut l = next_marked(class, 0);
     while l < tables::LOCATIONS {
-        lay_by(saved, i, tables::cells::read_cell(environment, heap, l));
-        tables::cells::write_cell(environment, heap, l, tables::cells::cell_of(v));
+        lay_by(saved, i, t.view().cell(l));
+        t.put(l, tables::cells::cell_of(v));
         i += 1;
         l = next_marked(class, l + 1);
     }
 }
 
 // The marked cells hold again what was laid by.
-fn take_back(environment: &mut [i32], heap: &mut [i32], class: &[u64], saved: &[i32])
-    requires { length class.now ≡ marks_words }
-    ensures { cells environment.new heap.new ≡ held_again saved.now (cells_of class.now) 0 (cells environment.old heap.old) }
+fn take_back(t: &mut Tables<'_>, class: &Class, saved: &[i32])
+    ensures cells { cells_in t.new ≡ held_again saved.now (cells_of class.now) 0 (cells_in t.old) }
+    ensures rest { OnlyCells t.old t.new }
 {
     let mut i: usize = 0;
     let mut at = next_marked(class, 0);
     while at < tables::LOCATIONS {
-        tables::cells::write_cell(environment, heap, at, tables::cells::pair_at(saved, 2 * i));
+        t.put(at, tables::cells::pair_at(saved, 2 * i));
         i += 1;
         at = next_marked(class, at + 1);
     }
@@ -87,32 +85,32 @@ fn take_back(environment: &mut [i32], heap: &mut [i32], class: &[u64], saved: &[
 // The marked cells, the target among them, take the value, and then the value phase.
 fn move_class(
     program: &[i32],
-    environment: &mut [i32],
-    heap: &mut [i32],
-    constraints: &[i32],
+    t: &mut Tables<'_>,
     proposals: &[i32],
-    class: &[u64],
+    class: &Class,
     target: usize,
     v: Value,
     p: &[i32],
-) -> Done
-    requires class_len { length class.now ≡ marks_words }
-    requires class_len_bound { length (cells_of class.now) ≤ class_cells }
-    ensures { Does (tables environment.old heap.old constraints.now) (tables environment.new heap.new constraints.now) result (value_phase program.now constraints.now p.now target (put_all (cells environment.old heap.old) (cells_of class.now) v) proposals.now) }
+) -> Result<Done, Refusal>
+    requires { length (cells_of class.now) ≤ class_cells }
+    ensures does { Does (state_in t.old) (state_in t.new) result (value_phase program.now t.old.constraints.now p.now target (put_all (cells_in t.old) (cells_of class.now) v) proposals.now) }
+    ensures lent { StillLent t.old t.new }
 {
     let mut saved = [0i32; CLASS_WORDS];
-    put_class(environment, heap, class, v, &mut saved);
+    put_class(t, class, v, &mut saved);
     let asked = Asked {
-        owns: false,
-        aims: true,
-        target: target,
+        own: None,
+        target: Some(target),
         room: true,
     };
-    match settle(program, environment, heap, constraints, proposals, p, asked) {
-        Settled::Takes(left) => Done::Accepted(left, 1),
-        Settled::Refuses(number, word) => {
-            take_back(environment, heap, class, &saved);
-            Done::Refused(number, word)
+    match settle(program, t, proposals, p, asked) {
+        Ok(unread) => Ok(Done {
+            unread,
+            accepted: 1,
+        }),
+        Err(fault) => {
+            take_back(t, class, &saved);
+            Err(fault)
         }
     }
 }
@@ -120,136 +118,77 @@ fn move_class(
 // The L of the assignment at p takes the value v: 7, 13, 12, and then the value phase.
 pub fn give(
     program: &[i32],
-    environment: &mut [i32],
-    heap: &mut [i32],
-    constraints: &[i32],
+    t: &mut Tables<'_>,
     proposals: &[i32],
     p: &[i32],
     v: Value,
-) -> Done
-    ensures { Does (tables environment.old heap.old constraints.now) (tables environment.new heap.new constraints.now) result (gives program.now p.now (tables environment.old heap.old constraints.now) proposals.now v) }
+) -> Result<Done, Refusal>
+    ensures does { Does (state_in t.old) (state_in t.new) result (gives program.now p.now (state_in t.old) proposals.now v) }
+    ensures lent { StillLent t.old t.new }
 {
     let q = words::part_from(p, 1);
-    match cell_at(environment, heap, q) {
-        Named::Lost(number, word) => Done::Refused(number, word),
-        Named::Cell(target, _) => {
-            let mut class = [0u64; MARKS_WORDS];
-            match mark_class(
-                program,
-                environment,
-                heap,
-                constraints,
-                target,
-                v,
-                &mut class,
-                p,
-            ) {
-                Classed::Refuses(a, w) => Done::Refused(a, w),
-                Classed::May => {
-                    if !is_way_free(environment, heap, q, &class, v) {
-                        return Done::Refused(12, p.len());
-                    }
-                    move_class(
-                        program,
-                        environment,
-                        heap,
-                        constraints,
-                        proposals,
-                        &class,
-                        target,
-                        v,
-                        p,
-                    )
-                }
-            }
-        }
+    let seen = t.view();
+    let target = cell_at(&seen, q)?.cell;
+    let mut class = [0u64; MARKS_WORDS];
+    mark_class(program, &seen, target, v, &mut class, p)?;
+    if !is_way_free(&seen, q, &class, v) {
+        return Err(Refusal::at(12, p));
     }
+    move_class(program, t, proposals, &class, target, v, p)
 }
 
 // A record of n fields is added, and the cells of a class take a reference to it; the record is taken away where that is refused.
 fn move_new(
     program: &[i32],
-    environment: &mut [i32],
-    heap: &mut [i32],
-    constraints: &[i32],
+    t: &mut Tables<'_>,
     proposals: &[i32],
-    class: &[u64],
+    class: &Class,
     x: usize,
     fields: &[i32],
     n: usize,
     p: &[i32],
-) -> Done
-    requires class_len { length class.now ≡ marks_words }
-    requires class_len_bound { length (cells_of class.now) ≤ class_cells }
-    ensures { Does (tables environment.old heap.old constraints.now) (tables environment.new heap.new constraints.now) result (value_phase program.now constraints.now p.now x (put_all (cells environment.old (with_record heap.old fields.now n)) (cells_of class.now) (Ref (record_count heap.old))) proposals.now) }
+) -> Result<Done, Refusal>
+    requires { length (cells_of class.now) ≤ class_cells }
+    ensures does { Does (state_in t.old) (state_in t.new) result (value_phase program.now t.old.constraints.now p.now x (put_all (cells t.old.environment.now (with_record t.old.heap.now fields.now n)) (cells_of class.now) (Ref (record_count t.old.heap.now))) proposals.now) }
+    ensures lent { StillLent t.old t.new }
 {
-    let v = Value::Ref(tables::records::record_count(heap));
+    let seen = t.view();
+    let v = Value::Ref(tables::records::record_count(seen.heap));
     let mut room = [0i32; ROOM_WORDS];
-    tables::records::lay_by(heap, &mut room);
-    tables::records::add_record(heap, fields, n);
-    match move_class(
-        program,
-        environment,
-        heap,
-        constraints,
-        proposals,
-        class,
-        x,
-        v,
-        p,
-    ) {
-        Done::Accepted(left, accepted) => Done::Accepted(left, accepted),
-        Done::Refused(number, word) => {
-            tables::records::bring_back(heap, &room);
-            Done::Refused(number, word)
+    tables::records::lay_by(seen.heap, &mut room);
+    tables::records::add_record(t.heap, fields, n);
+    match move_class(program, t, proposals, class, x, v, p) {
+        Ok(done) => Ok(done),
+        Err(fault) => {
+            tables::records::bring_back(t.heap, &room);
+            Err(fault)
         }
     }
 }
 
-// The variable x, which is reached through no cells, takes a new record of n fields: 2 where there is no such variable, 10, 13, 12, and then the value phase.
+// The variable x, which is reached through no cells, takes a new record of n fields:
+// 2 where there is no such variable, 10, 13, 12, and then the value phase.
 pub fn give_new(
     program: &[i32],
-    environment: &mut [i32],
-    heap: &mut [i32],
-    constraints: &[i32],
+    t: &mut Tables<'_>,
     proposals: &[i32],
     p: &[i32],
     x: usize,
     fields: &[i32],
     n: usize,
-) -> Done
-    ensures { Does (tables environment.old heap.old constraints.now) (tables environment.new heap.new constraints.now) result (gives_new program.now p.now (tables environment.old heap.old constraints.now) proposals.now x fields.now n) }
+) -> Result<Done, Refusal>
+    ensures does { Does (state_in t.old) (state_in t.new) result (gives_new program.now p.now (state_in t.old) proposals.now x fields.now n) }
+    ensures lent { StillLent t.old t.new }
 {
     if tables::VARIABLES <= x {
-        return Done::Refused(2, words::less(p.len(), 1));
+        return Err(Refusal::at(2, words::part_from(p, 1)));
     }
-    let r = tables::records::record_count(heap);
+    let seen = t.view();
+    let r = tables::records::record_count(seen.heap);
     if tables::RECORDS <= r {
-        return Done::Refused(10, p.len());
+        return Err(Refusal::at(10, p));
     }
     let mut class = [0u64; MARKS_WORDS];
-    match mark_class(
-        program,
-        environment,
-        heap,
-        constraints,
-        x,
-        Value::Ref(r),
-        &mut class,
-        p,
-    ) {
-        Classed::Refuses(a, w) => Done::Refused(a, w),
-        Classed::May => move_new(
-            program,
-            environment,
-            heap,
-            constraints,
-            proposals,
-            &class,
-            x,
-            fields,
-            n,
-            p,
-        ),
-    }
+    mark_class(program, &seen, x, Value::Ref(r), &mut class, p)?;
+    move_new(program, t, proposals, &class, x, fields, n, p)
 }

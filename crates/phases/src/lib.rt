@@ -13,11 +13,14 @@ pub const CLASS_WORDS: usize = 2 + 2 * tables::IDENTITY_POSITIONS;
 // What a record more may change: its own words, and the count.
 pub const ROOM_WORDS: usize = 1 + tables::RECORD_WORDS;
 
-// The two cells that an identity names; or a refusal's number and word.
+// The marks of a class of cells, a bit for each location.
+pub type Class = [u64; MARKS_WORDS];
+
+// The two cells that an identity names.
 #[derive(Clone, Copy)]
-pub enum Tied {
-    Ends(usize, usize),
-    Lost(usize, usize),
+pub struct Ends {
+    pub one: usize,
+    pub two: usize,
 }
 
 // A tie that is walked: whether a mark is new, and whether it stays apart, with no end marked.
@@ -27,23 +30,16 @@ pub struct Grown {
     pub apart: bool,
 }
 
-// All ties are walked: whether one names the target, and whether another pass is due; or a refusal's number and word.
+// All ties are walked: whether one names the target, and whether another pass is due.
 #[derive(Clone, Copy)]
-pub enum Passed {
-    Over(bool, bool),
-    Lost(usize, usize),
+pub struct Passed {
+    pub names: bool,
+    pub again: bool,
 }
 
-// The class is marked and may take the value; or a refusal's number and word.
+// An accepted statement: how many words of the proposals are unread, and how many proposals it took.
 #[derive(Clone, Copy)]
-pub enum Classed {
-    May,
-    Refuses(usize, usize),
-}
-
-// An accepted statement: how many words of the proposals are unread, and how many proposals it took; or a refusal's number and word.
-#[derive(Clone, Copy)]
-pub enum Done {
-    Accepted(usize, usize),
-    Refused(usize, usize),
+pub struct Done {
+    pub unread: usize,
+    pub accepted: usize,
 }

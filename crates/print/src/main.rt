@@ -9,6 +9,6 @@ fn main() {
     let mut text = [0u8; TEXT_BYTES];
     let mut out = [0u8; typed::TYPED_BYTES];
     let n = io::read_full(0, &mut text);
-    let k = typed::typed_text(words::bytes_to(&text, n), &mut out);
-    io::write_all(1, words::bytes_to(&out, k));
+    let k = typed::typed_text(words::part_to(&text, n), &mut out);
+    io::write_all(1, words::part_to(&out, k));
 }

@@ -12,8 +12,8 @@ use Rattle.words.specs.Words.{number_at}
 use Rattle.words.proofs.Laws.{number-first, number-drop}
 use Rattle.tables.specs.Sizes.{variables, labels}
 use Rattle.tables.proofs.SearchLaws.{cases}
-use Rattle.program.specs.Forms.{a_nil, a_false, a_true, an_integer, a_path, an_operation, an_identity}
-use Rattle.program.specs.Forms.{skip, assign, new, always, once, always_same, once_same, branch, loop}
+use Rattle.program.specs.declared.Form.TheVariants.{Nil as a_nil, False as a_false, True as a_true, Integer as an_integer, Path as a_path, Operation as an_operation, Identity as an_identity}
+use Rattle.program.specs.declared.Verb.TheVariants.{Skip as skip, Assign as assign, New as new, Always as always, Once as once, AlwaysSame as always_same, OnceSame as once_same, If as branch, While as loop}
 use Rattle.program.specs.Reading.{read_program}
 use Rattle.program.specs.Grammar as Grammar
 use Rattle.program.specs.Grammar.{Piece, block_of, statements_of, statement_of, Yields}

@@ -5,7 +5,7 @@ use mathlib.Core.List.{List, [], ◌∷◌, ◌++◌, append_assoc}
 use Prim.Native.Nat.{ℕ, zero, suc, ◌+◌, ◌≤◌, ◌<◌}
 use native.Mathlib.Omega.{arith}
 use lib.IntN.{ℤ, pos}
-use Rattle.program.specs.Forms.{a_nil, a_false, a_true, an_integer, a_path, an_identity}
+use Rattle.program.specs.declared.Form.TheVariants.{Nil as a_nil, False as a_false, True as a_true, Integer as an_integer, Path as a_path, Identity as an_identity}
 use Rattle.text.proofs.OperatorsRead.{level-of}
 use Rattle.printing.specs.Signs.{Sign, space, line, if_sign, then_sign, else_sign, while_sign, do_sign, semicolon_sign, open_brace_sign, close_brace_sign}
 use Rattle.printing.specs.Printing.{Printed, path_text, form_text, expression_text}

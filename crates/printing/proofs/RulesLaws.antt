@@ -11,7 +11,8 @@ use lib.ListN.{drop}
 use Rattle.words.specs.Words.{number_of, number_at}
 use Rattle.words.proofs.Laws.{number-first, number-drop}
 use Rattle.program.specs.Forms.{expression_depth}
-use Rattle.program.specs.Forms.{Form, a_nil, a_false, a_true, an_integer, a_path, an_operation, an_identity}
+use Rattle.program.specs.declared.Form.{Form}
+use Rattle.program.specs.declared.Form.TheVariants.{Nil as a_nil, False as a_false, True as a_true, Integer as an_integer, Path as a_path, Operation as an_operation, Identity as an_identity}
 use Rattle.program.specs.Grammar as Grammar
 use Rattle.program.proofs.FormLaws.{number_of_form, form-is}
 use Rattle.text.specs.Reading.{level_of}

@@ -1,11 +1,11 @@
 -- The names of a text's tokens are sorted as its signs are, and its tokens stand for what the signs stand for. Assumes nothing.
+use Rattle.std.specs.Prelude.{None, Some}
 use mathlib.Core.Path.{◌≡◌, refl, sym, ap, subst, ◌∙◌}
 use mathlib.Core.Bool.{true}
 use mathlib.Core.List.{List, [], ◌∷◌, ◌++◌}
 use Prim.Native.Nat.{ℕ, ◌+◌, ◌*◌, ◌<◌}
 use native.Mathlib.Omega.{arith}
 use lib.IntN.{ℤ}
-use Rattle.words.specs.declared.Ranged.TheVariants.{Within, Outside}
 use Rattle.words.specs.Range.{fits, ranged}
 use Rattle.words.proofs.Laws.{ranged-is}
 use Rattle.tables.proofs.SearchLaws.{cases}
@@ -44,8 +44,8 @@ numeral-says (Numeral.negative {n = n} d h) = Says.negative (digits-say d)
 ranged-one : (y z : ℤ) → fits z ≡ true → ranged y ≡ ranged z → y ≡ z
 ranged-one y z h e =
     cases (fits y)
-    (λ a. let q : Within y ≡ Within z = sym (ranged-is y ∙ rw a) ∙ e ∙ ranged-is z ∙ rw h in cc)
-    (λ a. let q : Outside ≡ Within z = sym (ranged-is y ∙ rw a) ∙ e ∙ ranged-is z ∙ rw h in let n : ◌≡◌ {A = ℕ} 0 1 = cc in let k : ⊥ = omega arith in absurd k)
+    (λ a. let q : Some y ≡ Some z = sym (ranged-is y ∙ rw a) ∙ e ∙ ranged-is z ∙ rw h in cc)
+    (λ a. let q : None ≡ Some z = sym (ranged-is y ∙ rw a) ∙ e ∙ ranged-is z ∙ rw h in let n : ◌≡◌ {A = ℕ} 0 1 = cc in let k : ⊥ = omega arith in absurd k)
 
 integer-is : (z : ℤ) → fits z ≡ true → integer_of (numeral z) ≡ z
 integer-is z h = ranged-one (integer_of (numeral z)) z h (sym (value-is (numeral z)) ∙ values (numeral z) z (numeral-says (numeral-is z h)))

@@ -6,7 +6,8 @@ use native.Mathlib.Omega.{arith}
 use lib.IntN.{ℤ, pos}
 use Rattle.words.proofs.Laws.{number-first}
 use Rattle.program.specs.Forms.{block_depth, expression_depth}
-use Rattle.program.specs.Forms.{Verb, skip, assign, new, always, once, always_same, once_same, branch, loop}
+use Rattle.program.specs.declared.Verb.{Verb}
+use Rattle.program.specs.declared.Verb.TheVariants.{Skip as skip, Assign as assign, New as new, Always as always, Once as once, AlwaysSame as always_same, OnceSame as once_same, If as branch, While as loop}
 use Rattle.program.specs.Grammar as Grammar
 use Rattle.program.proofs.FormLaws.{number_of_verb, verb-is}
 use Rattle.printing.specs.Signs.{Sign, variable, space, line}

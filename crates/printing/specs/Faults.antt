@@ -1,9 +1,9 @@
 -- Which numbers are at fault, refusal 24 (02, W5). Assumes nothing: these are definitions.
-use Rattle.std.specs.Prelude.{ℕ, zero, suc, ◌-◌, Bool, true, false, not, cond, ◌&&◌, ◌||◌, List, eqb, ltb, leb, ℤ, length, get_or, drop}
+use Rattle.std.specs.Prelude.{Option, Some, None, ℕ, zero, suc, ◌-◌, Bool, true, false, not, cond, ◌&&◌, ◌||◌, List, eqb, ltb, leb, ℤ, length, get_or, drop}
 use Rattle.tokens.specs.Bytes.{spelt}
 use Rattle.tokens.specs.Codes.{name_code}
 use Rattle.tokens.specs.Tokens.{token_from}
-use Rattle.printing.specs.Naming.{Naming, first_label, place_of, length_of, is_given, given_name, name_of}
+use Rattle.printing.specs.Naming.{Naming, numbers, first_label, place_of, length_of, is_given, given_name, name_of}
 
 -- "no name of W1, or longer than 65,536 bytes": all of the bytes are one token, which is a name; of more than 65,536 none is
 unfoldable pub is_name : List ℕ → Bool
@@ -38,6 +38,10 @@ at_fault N seen i = not (is_fit N i) || eqb (get_or seen i 0) 2 || has_twin N se
 unfoldable pub fault_from : Naming → List ℕ → ℕ → ℕ → ℕ
 fault_from N seen i zero = i
 fault_from N seen i (suc n) = cond (at_fault N seen i) i (fault_from N seen (suc i) n)
+
+-- a number at fault, none where it lies behind them all
+abbrev pub found : ℕ → Option ℕ
+found i = cond (ltb i numbers) (Some i) None
 
 -- how many of n numbers from i on are used
 unfoldable pub used_from : List ℕ → ℕ → ℕ → ℕ

@@ -1,7 +1,10 @@
 -- The names of variables and labels, the bytes of signs, and in which order numbers are used (02, W5). Assumes nothing: these are definitions.
-use Rattle.std.specs.Prelude.{ℕ, ◌+◌, ◌-◌, ◌*◌, Bool, not, cond, ◌||◌, List, [], ◌∷◌, ◌++◌, eqb, ltb, ℤ, get_or, set, take, drop}
+use Rattle.std.specs.Prelude.{ℕ, ◌+◌, ◌-◌, ◌*◌, Bool, not, cond, ◌||◌, List, [], ◌∷◌, ◌++◌, eqb, ltb, ℤ, get_or, set, take, drop, map}
 use Rattle.words.specs.Words.{word_at, number_of}
 use Rattle.lister.specs.Numerals.{digits, numeral}
+use Rattle.printing.specs.declared.names.Naming.{Naming as View}
+use Rattle.printing.specs.declared.names.Standing.{Standing}
+use Rattle.printing.specs.declared.names.Standing.TheVariants.{Unused, Led, Early}
 use Rattle.printing.specs.Signs.{Sign, blank, fixed, integer, variable, label}
 
 -- "names as cordbasin_read gives them, over the bytes of source"
@@ -11,6 +14,10 @@ pub record Naming : Type 0 where
 
 abbrev pub naming : List ℕ → List ℤ → Naming
 naming source names = record { source = source; names = names }
+
+-- the naming that the code lends from function to function
+abbrev pub naming_of : View → Naming
+naming_of v = naming v.source.now v.names.now
 
 -- variables are numbers 0 to 63 and labels 64 to 95, as 24's place has them: words 2i and 2i + 1 are number i's
 abbrev pub numbers : ℕ
@@ -61,6 +68,15 @@ numbers_of (variable x ∷ ss) = x ∷ numbers_of ss
 numbers_of (label l ∷ ss) = (first_label + l) ∷ numbers_of ss
 
 -- ---- first appearances in reading order
+
+-- the number that stands for a standing below
+abbrev pub rank : Standing → ℕ
+rank Unused = 0
+rank Led = 1
+rank Early = 2
+
+abbrev pub ranks : List Standing → List ℕ
+ranks seen = map rank seen
 
 -- it is the first of its sort, or the number before it is used
 unfoldable pub is_led : List ℕ → ℕ → Bool

@@ -1,6 +1,7 @@
 -- What the code that reads statements, blocks and programs comes to, step by step. Assumes nothing.
 use mathlib.Core.Path.{◌≡◌, refl, sym, ap, ◌∙◌}
 use mathlib.Core.Bool.{Bool, true, false}
+use Rattle.std.specs.Prelude.{Ok, Err, is_ok}
 use mathlib.Core.List.{List, [], ◌∷◌}
 use Prim.Native.Nat.{ℕ, zero, suc, ◌+◌, ◌-◌, ◌≤◌, ◌<◌}
 use native.Mathlib.Omega.{arith}
@@ -13,38 +14,14 @@ use lib.Seq.{get_or-set_same, get_or-set_other}
 use Rattle.words.specs.Words.{number_at, last_of}
 use Rattle.words.specs.Answer.{got, stop, ◌>>=◌}
 use Rattle.tables.proofs.SearchLaws.{cases}
-use Rattle.program.specs.Forms.{no_verb, verb_of}
-use Rattle.program.specs.declared.Piece.{Piece}
-use Rattle.program.specs.declared.Verdict.TheVariants.{Reads, Unfit}
-use Rattle.program.specs.Told.{told, verdict_of}
-use Rattle.program.specs.Reading.{Reading, read_path, read_expression, among, read_fields, read_new, read_assign, read_verb, read_with, read_block, read_statement, ends, place_in, read_program, after}
+use Rattle.program.specs.Forms.{verb_of}
+use Rattle.program.specs.declared.Verb.TheVariants.{Unknown as no_verb}
+use Rattle.program.specs.Told.{told, words_left, verdict_of}
+use Rattle.program.specs.Reading.{Reading, read_expression, among, read_fields, read_verb, read_with, read_block, read_statement, ends, place_in, read_program, after}
 use Rattle.program.proofs.NumberLaws.{number_fits_lem, number-high, verb-high}
 use Rattle.program.proofs.LengthLaws.{Part, part-trans, part-drop}
 use Rattle.program.proofs.ReadLaws.{halted, onward, told-left, past}
 use Rattle.program.proofs.RowLaws.{many, statements-many, last-part, last-length, last-all, last-but-one}
-
--- ---- assign and new
-
-module _ (p : List ℤ) where
-  pub assign-first : {r : Piece} → r ≡ told (read_path p) → r.fits ≡ false → r ≡ told (read_assign p)
-  unfolding read_assign
-  assign-first e h = halted (read_path p) _ e h
-
-  pub assign-second : {q : List ℤ} → read_path p ≡ got q → told (read_expression 16 false q) ≡ told (read_assign p)
-  unfolding read_assign
-  assign-second e = rw e
-
-  pub new-variable : 64 ≤ number_at p 0 → told (stop p) ≡ told (read_new p)
-  unfolding read_new
-  new-variable h = rw (number-high 0 63 p (omega arith) (omega arith))
-
-  pub new-count : number_at p 0 < 64 → 8 < number_at (drop 1 p) 0 → told (stop (drop 1 p)) ≡ told (read_new p)
-  unfolding read_new
-  new-count h l = rw (number_fits_lem 0 63 p (omega arith) (omega arith), number-high 0 8 (drop 1 p) (omega arith) l)
-
-  pub new-fields : number_at p 0 < 64 → number_at (drop 1 p) 0 ≤ 8 → told (read_fields (number_at (drop 1 p) 0) [] (drop 1 (drop 1 p))) ≡ told (read_new p)
-  unfolding read_new
-  new-fields h l = rw (number_fits_lem 0 63 p (omega arith) (omega arith), number_fits_lem 0 8 (drop 1 p) (omega arith) l)
 
 -- ---- the loop over the fields of new: i are read, and the marks tell the labels that came before
 
@@ -90,8 +67,8 @@ module _ {n i left : ℕ} {p q : List ℤ} {marks : List Bool} (inv : InFields n
       unfolding read_fields
       field-on = rw (number_fits_lem 0 31 q (omega arith) (omega arith), sym known ∙ fresh) at field-turn
 
-      pub field-stops : {r : Piece} → r ≡ told (read_expression 16 false (drop 1 q)) → r.fits ≡ false → r ≡ told (read_fields n [] p)
-      field-stops e h = halted (read_expression 16 false (drop 1 q)) _ e h ∙ ap told field-on
+      pub field-stops : {k : ℕ} → Err k ≡ told (read_expression 16 false (drop 1 q)) → Err k ≡ told (read_fields n [] p)
+      field-stops e = halted (read_expression 16 false (drop 1 q)) _ e ∙ ap told field-on
 
       agrees : (l : ℕ) → l < 32 → get_or (set marks (number_at q 0) true) l false ≡ among l (number_at q 0 ∷ inv.seen)
       unfolding among
@@ -99,11 +76,11 @@ module _ {n i left : ℕ} {p q : List ℤ} {marks : List Bool} (inv : InFields n
           (λ e. rw (e, eqb-true l (number_at q 0) e) (get_or-set_same marks (number_at q 0) true false (omega (arith, inv.long))))
           (λ e. rw e (get_or-set_other marks (number_at q 0) l true false (eqb-false l (number_at q 0) e) ∙ inv.agree l h))
 
-      pub field-goes-on : {r : Piece} → r ≡ told (read_expression 16 false (drop 1 q)) → r.fits ≡ true → Part (drop 1 q) (after (read_expression 16 false (drop 1 q))) → InFields n p (i + 1) r.left (set marks (number_at q 0) true)
-      field-goes-on {r = r} e h w =
+      pub field-goes-on : {k : ℕ} → Ok k ≡ told (read_expression 16 false (drop 1 q)) → Part (drop 1 q) (after (read_expression 16 false (drop 1 q))) → InFields n p (i + 1) k (set marks (number_at q 0) true)
+      field-goes-on {k} e w =
           let b : Part p (after (read_expression 16 false (drop 1 q))) = part-trans (rw is (last-part left p)) (part-trans (part-drop 1 q) w) in
-          let k : r.left ≡ length (after (read_expression 16 false (drop 1 q))) = told-left (read_expression 16 false (drop 1 q)) e in
-          let g : read_expression 16 false (drop 1 q) ≡ got (last_of r.left p) = onward (read_expression 16 false (drop 1 q)) b e h refl in
+          let z : k ≡ length (after (read_expression 16 false (drop 1 q))) = told-left (read_expression 16 false (drop 1 q)) e in
+          let g : read_expression 16 false (drop 1 q) ≡ got (last_of k p) = onward (read_expression 16 false (drop 1 q)) b e refl in
           record {
             inside = omega arith;
             short = omega (arith, b.short);
@@ -113,7 +90,7 @@ module _ {n i left : ℕ} {p q : List ℤ} {marks : List Bool} (inv : InFields n
             rest = rw g at field-on;
           }
 
-pub fields-end : {n i left : ℕ} {p : List ℤ} {marks : List Bool} → InFields n p i left marks → n ≤ i → record { fits = true; left = left } ≡ told (read_fields n [] p)
+pub fields-end : {n i left : ℕ} {p : List ℤ} {marks : List Bool} → InFields n p i left marks → n ≤ i → Ok left ≡ told (read_fields n [] p)
 unfolding read_fields
 fields-end {n = n} {i = i} {left = left} {p = p} inv h =
     let z : n - i ≡ 0 = omega arith in
@@ -141,11 +118,8 @@ module _ (d : ℕ) (p : List ℤ) where
     unfolding verb_of read_verb
     branches = statement-at 7 is
 
-    pub branch-test : {r : Piece} → r ≡ told (read_expression 16 false (drop 1 p)) → r.fits ≡ false → r ≡ told (read_statement d p)
-    branch-test e h = halted (read_expression 16 false (drop 1 p)) _ e h ∙ ap told branches
-
-    pub branch-first : {q : List ℤ} {r : Piece} → read_expression 16 false (drop 1 p) ≡ got q → r ≡ told (read_block d q) → r.fits ≡ false → r ≡ told (read_statement d p)
-    branch-first {q = q} t e h = halted (read_block d q) _ e h ∙ ap told (rw t at branches)
+    pub branch-first : {q : List ℤ} {k : ℕ} → read_expression 16 false (drop 1 p) ≡ got q → Err k ≡ told (read_block d q) → Err k ≡ told (read_statement d p)
+    branch-first {q = q} t e = halted (read_block d q) _ e ∙ ap told (rw t at branches)
 
     pub branch-second : {q r : List ℤ} → read_expression 16 false (drop 1 p) ≡ got q → read_block d q ≡ got r → told (read_block d r) ≡ told (read_statement d p)
     branch-second t u = ap told (rw (t, u) at branches)
@@ -154,9 +128,6 @@ module _ (d : ℕ) (p : List ℤ) where
     body : (read_expression 16 false (drop 1 p) >>= λ q. read_block d q) ≡ read_statement d p
     unfolding verb_of read_verb
     body = statement-at 8 is
-
-    pub loop-test : {r : Piece} → r ≡ told (read_expression 16 false (drop 1 p)) → r.fits ≡ false → r ≡ told (read_statement d p)
-    loop-test e h = halted (read_expression 16 false (drop 1 p)) _ e h ∙ ap told body
 
     pub loop-body : {q : List ℤ} → read_expression 16 false (drop 1 p) ≡ got q → told (read_block d q) ≡ told (read_statement d p)
     loop-body t = ap told (rw t at body)
@@ -174,37 +145,29 @@ module _ (d : ℕ) (p : List ℤ) where
   block_at (suc e) ne h =
       statements-many (λ r. read_block (suc e - 1) r) (number_at p 0) (drop 1 p) ∙ rw (sub-one (suc e), number_fits_lem 0 255 p (omega arith) h)
 
-  block-off : (e : ℕ) → (e ≡ 0 → ⊥) → 255 < number_at p 0 → told (stop p) ≡ told (read_block e p)
-  unfolding read_block
-  block-off zero ne h = absurd (ne refl)
-  block-off (suc e) ne h = rw (number-high 0 255 p (omega arith) h)
-
-  pub block-long : (d ≡ 0 → ⊥) → 255 < number_at p 0 → told (stop p) ≡ told (read_block d p)
-  block-long ne h = block-off d ne h
-
   pub block_row : (d ≡ 0 → ⊥) → number_at p 0 ≤ 255 → many (read_statement (d - 1)) (number_at p 0) (last_of (length p - 1) p) ≡ read_block d p
   block_row ne h = rw (last-but-one p) (block_at d ne h)
 
 -- ---- the program
 
-module _ (p : List ℤ) {r : Piece} where
-  placed-unfit : (m : Reading (List ℤ)) → r ≡ told m → r.fits ≡ false → Unfit (length p - r.left) ≡ verdict_of (place_in p (m >>= λ q. ends q))
+module _ (p : List ℤ) where
+  placed-unfit : {k : ℕ} (m : Reading (List ℤ)) → Err k ≡ told m → Err (length p - k) ≡ verdict_of (place_in p (m >>= λ q. ends q))
   unfolding place_in
-  placed-unfit (got q) e h = let z : ◌≡◌ {A = Bool} true false = sym (ap (λ (x : Piece). x.fits) e) ∙ h in cc
-  placed-unfit (stop q) e h = rw (ap (λ (x : Piece). x.left) e)
+  placed-unfit {k} (got q) e = let z : ◌≡◌ {A = Bool} false true = ap is_ok e in cc
+  placed-unfit {k} (stop q) e = let z : k ≡ length q = ap words_left e in rw z
 
-  placed-reads : (m : Reading (List ℤ)) → r ≡ told m → r.fits ≡ true → r.left ≡ 0 → Reads ≡ verdict_of (place_in p (m >>= λ q. ends q))
+  placed-reads : (m : Reading (List ℤ)) → Ok 0 ≡ told m → Ok tt ≡ verdict_of (place_in p (m >>= λ q. ends q))
   unfolding place_in ends
-  placed-reads (got q) e h z = rw (eq-eqb (length q) 0 (sym (ap (λ (x : Piece). x.left) e) ∙ z))
-  placed-reads (stop q) e h z = let y : ◌≡◌ {A = Bool} true false = sym h ∙ ap (λ (x : Piece). x.fits) e in cc
+  placed-reads (got q) e = let z : 0 ≡ length q = ap words_left e in rw (eq-eqb (length q) 0 (sym z))
+  placed-reads (stop q) e = let z : ◌≡◌ {A = Bool} true false = ap is_ok e in cc
 
-  placed-extra : (m : Reading (List ℤ)) → r ≡ told m → r.fits ≡ true → (r.left ≡ 0 → ⊥) → Unfit (length p - r.left) ≡ verdict_of (place_in p (m >>= λ q. ends q))
+  placed-extra : {k : ℕ} (m : Reading (List ℤ)) → Ok k ≡ told m → (k ≡ 0 → ⊥) → Err (length p - k) ≡ verdict_of (place_in p (m >>= λ q. ends q))
   unfolding place_in ends
-  placed-extra (got q) e h z = rw (ne_eqb (length q) 0 (λ n. z (ap (λ (x : Piece). x.left) e ∙ n)), ap (λ (x : Piece). x.left) e)
-  placed-extra (stop q) e h z = let y : ◌≡◌ {A = Bool} true false = sym h ∙ ap (λ (x : Piece). x.fits) e in cc
+  placed-extra {k} (got q) e ne = let z : k ≡ length q = ap words_left e in rw (ne_eqb (length q) 0 (λ n. ne (z ∙ n)), z)
+  placed-extra {k} (stop q) e ne = let z : ◌≡◌ {A = Bool} true false = ap is_ok e in cc
 
 module _ (p : List ℤ) where
-  pub program-long : 4096 < length p → Unfit 4096 ≡ verdict_of (read_program p)
+  pub program-long : 4096 < length p → Err 4096 ≡ verdict_of (read_program p)
   unfolding read_program
   program-long h = rw (lt-leb (length p) 4096 h)
 
@@ -213,12 +176,11 @@ module _ (p : List ℤ) where
     unfolding read_program
     program-is = rw (le-leb (length p) 4096 short)
 
-    module _ {r : Piece} (e : r ≡ told (read_block 8 p)) where
-      pub program-unfit : r.fits ≡ false → Unfit (length p - r.left) ≡ verdict_of (read_program p)
-      program-unfit h = placed-unfit p (read_block 8 p) e h ∙ ap verdict_of program-is
+    pub program-unfit : {k : ℕ} → Err k ≡ told (read_block 8 p) → Err (length p - k) ≡ verdict_of (read_program p)
+    program-unfit e = placed-unfit p (read_block 8 p) e ∙ ap verdict_of program-is
 
-      pub program-reads : r.fits ≡ true → r.left ≡ 0 → Reads ≡ verdict_of (read_program p)
-      program-reads h z = placed-reads p (read_block 8 p) e h z ∙ ap verdict_of program-is
+    pub program-reads : Ok 0 ≡ told (read_block 8 p) → Ok tt ≡ verdict_of (read_program p)
+    program-reads e = placed-reads p (read_block 8 p) e ∙ ap verdict_of program-is
 
-      pub program-extra : r.fits ≡ true → (r.left ≡ 0 → ⊥) → Unfit (length p - r.left) ≡ verdict_of (read_program p)
-      program-extra h z = placed-extra p (read_block 8 p) e h z ∙ ap verdict_of program-is
+    pub program-extra : {k : ℕ} → Ok k ≡ told (read_block 8 p) → (k ≡ 0 → ⊥) → Err (length p - k) ≡ verdict_of (read_program p)
+    program-extra e ne = placed-extra p (read_block 8 p) e ne ∙ ap verdict_of program-is

@@ -10,8 +10,12 @@ use lib.IntN.{ℤ, pos}
 use lib.ListN.{drop, get_or}
 use Rattle.words.specs.Words.{number_at}
 use Rattle.words.proofs.Laws.{number-cons}
-use Rattle.program.specs.Forms.{Form, a_nil, a_false, a_true, an_integer, a_path, an_operation, an_identity, no_form, forms, form_of}
-use Rattle.program.specs.Forms.{Verb, skip, assign, new, always, once, always_same, once_same, branch, loop, no_verb, verbs, verb_of}
+use Rattle.program.specs.Forms.{forms, form_of}
+use Rattle.program.specs.declared.Form.{Form}
+use Rattle.program.specs.declared.Form.TheVariants.{Nil as a_nil, False as a_false, True as a_true, Integer as an_integer, Path as a_path, Operation as an_operation, Identity as an_identity, Unknown as no_form}
+use Rattle.program.specs.Forms.{verbs, verb_of}
+use Rattle.program.specs.declared.Verb.{Verb}
+use Rattle.program.specs.declared.Verb.TheVariants.{Skip as skip, Assign as assign, New as new, Always as always, Once as once, AlwaysSame as always_same, OnceSame as once_same, If as branch, While as loop, Unknown as no_verb}
 
 -- what is no form has a number past those of the forms, and so for verbs
 abbrev pub number_of_form : Form → ℕ

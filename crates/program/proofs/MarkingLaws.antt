@@ -2,6 +2,7 @@
 use mathlib.Core.Path.{◌≡◌, refl, sym, ap, ◌∙◌}
 use mathlib.Core.Bool.{Bool, true, false, ◌&&◌, ◌||◌}
 use mathlib.Core.List.{List}
+use Rattle.std.specs.Prelude.{Option, Some, None, Result}
 use Prim.Native.Nat.{ℕ, zero, suc, ◌+◌, ◌-◌, ◌*◌, ◌≤◌, ◌<◌}
 use native.Mathlib.Omega.{arith}
 use native.Mathlib.Decide.{ℕ_discrete}
@@ -15,11 +16,11 @@ use Rattle.words.proofs.Laws.{number-drop}
 use Rattle.words.proofs.BitLaws.{mark-length, mark-is, none-marked}
 use Rattle.tables.specs.declared.Sort.{Sort}
 use Rattle.tables.proofs.SearchLaws.{cases}
-use Rattle.program.specs.Forms.{Verb, skip, assign, new, always, once, always_same, once_same, branch, loop, no_verb, verb_of}
-use Rattle.program.specs.declared.Piece.{Piece}
+use Rattle.program.specs.Forms.{verb_of}
+use Rattle.program.specs.declared.Verb.{Verb}
+use Rattle.program.specs.declared.Verb.TheVariants.{Skip as skip, Assign as assign, New as new, Always as always, Once as once, AlwaysSame as always_same, OnceSame as once_same, If as branch, While as loop, Unknown as no_verb}
 use Rattle.program.specs.declared.Spot.{Spot}
-use Rattle.program.specs.declared.Spot.TheVariants.{At, Nowhere}
-use Rattle.program.specs.Told.{told}
+use Rattle.program.specs.Told.{told, words_left}
 use Rattle.program.specs.Reading.{read_expression, read_block, read_statement, after}
 use Rattle.program.specs.Where.{or_else, spot_inside, spot_statement, spot_statements, spot_block, always_of, has_verb, is_always}
 use Rattle.program.specs.Marking.{found, Marked, MarksOf}
@@ -40,9 +41,9 @@ or-both : (a b c : Bool) → ((a || b) || c) ≡ (a || (b || c))
 or-both true b c = refl
 or-both false b c = refl
 
-found-either : (a b : Spot) → found (or_else a b) ≡ (found a || found b)
-found-either (At verb nest) b = refl
-found-either Nowhere b = refl
+found-either : (a b : Option Spot) → found (or_else a b) ≡ (found a || found b)
+found-either (Some spot) b = refl
+found-either None b = refl
 
 -- a part is no longer than what it is a part of
 module _ {q : List ℤ} {total : ℕ} (p : List ℤ) where
@@ -53,11 +54,11 @@ module _ {q : List ℤ} {total : ℕ} (p : List ℤ) where
   last-short k e h = rw e (omega (arith, (last-part k p).short, h))
 
 -- nothing more is marked
-pub marked-none : {total : ℕ} {marks : List ℕ} → Marked total (λ left. Nowhere) marks marks
+pub marked-none : {total : ℕ} {marks : List ℕ} → Marked total (λ left. None) marks marks
 marked-none {marks = marks} = record { at = λ i a b. sym (or-none (marked marks i)) }
 
 -- marks after marks
-pub marked-both : {total : ℕ} {s t : ℕ → Spot} {before middle marks : List ℕ}
+pub marked-both : {total : ℕ} {s t : ℕ → Option Spot} {before middle marks : List ℕ}
     → Marked total s before middle → length middle ≡ length before → Marked total t middle marks → Marked total (λ left. or_else (s left) (t left)) before marks
 marked-both {total} {s} {t} {before} m e n = record {
   at = λ i a b.
@@ -66,13 +67,13 @@ marked-both {total} {s} {t} {before} m e n = record {
 }
 
 -- the same statements, found another way
-pub marked-same : {total : ℕ} {s t : ℕ → Spot} {before marks : List ℕ} → ((left : ℕ) → s left ≡ t left) → Marked total s before marks → Marked total t before marks
+pub marked-same : {total : ℕ} {s t : ℕ → Option Spot} {before marks : List ℕ} → ((left : ℕ) → s left ≡ t left) → Marked total s before marks → Marked total t before marks
 marked-same {total} {s} {t} f m = record { at = λ i a b. rw (← f (total - i)) (m.at i a b) }
 
 -- ---- the statement at p
 
 module _ (d total : ℕ) (p : List ℤ) (short : length p ≤ total) where
-  abbrev stated : ℕ → Spot
+  abbrev stated : ℕ → Option Spot
   stated left = spot_statement (λ q. spot_block d left q) d left p
 
   module _ (before : List ℕ) {first : List ℕ} (e : first ≡ with_mark before (total - length p)) where
@@ -83,7 +84,7 @@ module _ (d total : ℕ) (p : List ℤ) (short : length p ≤ total) where
     other i a b ne = rw e (mark-is before (total - length p) i b ∙ rw (ne_eqb i (total - length p) (λ q. ne (omega arith))))
 
     -- the statement's own word is marked, then those inside it
-    inside : {inner : ℕ → Spot} {marks : List ℕ} → ((left : ℕ) → (length p ≡ left → ⊥) → inner left ≡ stated left) → Marked total inner first marks → Marked total stated before marks
+    inside : {inner : ℕ → Option Spot} {marks : List ℕ} → ((left : ℕ) → (length p ≡ left → ⊥) → inner left ≡ stated left) → Marked total inner first marks → Marked total stated before marks
     inside {inner} {marks} f m = record { at = λ i a b. go i a b (ℕ_discrete (length p) (total - i)) }
       where
         long : length first ≡ length before
@@ -127,13 +128,13 @@ module _ (d total : ℕ) (p : List ℤ) {marks : List ℕ} where
       record { inside = omega arith; short = omega arith; kept = refl; rest = λ k a b. rw (z, last-but-one p, opened d (total - k) p d ne h) }
 
 module _ {d total n i here : ℕ} {p q : List ℤ} {before marks next : List ℕ} (inv : Marking d total n p i here before marks) (more : i < n) (is : q ≡ last_of here p) where
-  pub marking-goes-on : {r : Piece} → Marked total (λ left. spot_statement (λ r. spot_block (d - 1) left r) (d - 1) left q) marks next → length next ≡ length marks → r ≡ told (read_statement (d - 1) q)
-      → Marking d total n p (i + 1) r.left before next
+  pub marking-goes-on : {r : Result ℕ ℕ} {k : ℕ} → Marked total (λ left. spot_statement (λ r. spot_block (d - 1) left r) (d - 1) left q) marks next → length next ≡ length marks → r ≡ told (read_statement (d - 1) q) → k ≡ words_left r
+      → Marking d total n p (i + 1) k before next
   unfolding spot_statements
-  marking-goes-on {r} m l g =
+  marking-goes-on {k = k} m l g left =
       let w : Part p (after (read_statement (d - 1) q)) = part-trans (rw is (last-part here p)) (after-part _ (uses-keeps (statement-uses (d - 1) q))) in
-      let k : r.left ≡ length (after (read_statement (d - 1) q)) = told-left (read_statement (d - 1) q) g in
-      let a : last_of r.left p ≡ after (read_statement (d - 1) q) = rw k w.is in
+      let y : k ≡ length (after (read_statement (d - 1) q)) = left ∙ told-left (read_statement (d - 1) q) g in
+      let a : last_of k p ≡ after (read_statement (d - 1) q) = rw y w.is in
       let z : n - i ≡ suc (n - (i + 1)) = omega arith in
       record {
         inside = omega arith;
@@ -151,19 +152,19 @@ marking-ends {n = n} {i = i} {marks = marks} inv h = let z : n - i ≡ 0 = omega
 
 -- ---- the verb of a statement is the number of its word
 
-abbrev Verbed : ℕ → Spot → Type 0
-Verbed w (At verb nest) = verb ≡ w
-Verbed w Nowhere = Unit {0}
+abbrev Verbed : ℕ → Option Spot → Type 0
+Verbed w (Some spot) = spot.verb ≡ w
+Verbed w None = Unit {0}
 
-verbed-either : (w : ℕ) (a b : Spot) → Verbed w a → Verbed w b → Verbed w (or_else a b)
-verbed-either w (At verb nest) b h k = h
-verbed-either w Nowhere b h k = k
+verbed-either : (w : ℕ) (a b : Option Spot) → Verbed w a → Verbed w b → Verbed w (or_else a b)
+verbed-either w (Some spot) b h k = h
+verbed-either w None b h k = k
 
 module _ (whole : List ℤ) (left : ℕ) where
   abbrev word : ℕ
   word = number_at (last_of left whole) 0
 
-  module _ (inner : List ℤ → Spot) (each : (q : List ℤ) → Part whole q → Verbed word (inner q)) (nest : ℕ) where
+  module _ (inner : List ℤ → Option Spot) (each : (q : List ℤ) → Part whole q → Verbed word (inner q)) (nest : ℕ) where
     past-test : {p : List ℤ} → Part whole p → Part whole (after (read_expression 16 false (drop 1 p)))
     past-test {p} w = part-trans w (part-trans (part-drop 1 p) (after-part _ (uses-keeps (expression-uses 16 false (drop 1 p)))))
 
@@ -207,9 +208,9 @@ module _ (whole : List ℤ) (left : ℕ) where
 
 -- ---- what the marks of a program tell
 
-verb-is : (w n : ℕ) (s : Spot) → Verbed w s → has_verb n s ≡ (found s && eqb w n)
-verb-is w n (At verb nest) e = rw e
-verb-is w n Nowhere e = refl
+verb-is : (w n : ℕ) (s : Option Spot) → Verbed w s → has_verb n s ≡ (found s && eqb w n)
+verb-is w n (Some spot) e = rw e
+verb-is w n None e = refl
 
 module _ (p : List ℤ) (s : Sort) (at : ℕ) where
   pub always-past : length p ≤ at → false ≡ is_always p s at

@@ -13,7 +13,9 @@ use Rattle.words.specs.Answer.{got, stop}
 use Rattle.words.proofs.AnswerLaws.{tested, got-inj}
 use Rattle.words.proofs.Laws.{number-first, number-cons}
 use Rattle.tables.proofs.SearchLaws.{and_left, and_right, and-true}
-use Rattle.program.specs.Forms.{no_form, forms, form_of, no_verb, verbs, verb_of}
+use Rattle.program.specs.Forms.{forms, form_of, verbs, verb_of}
+use Rattle.program.specs.declared.Form.TheVariants.{Unknown as no_form}
+use Rattle.program.specs.declared.Verb.TheVariants.{Unknown as no_verb}
 use Rattle.program.specs.Reading.{number, any_word}
 
 -- a number that was read: its range, and the word that it is

@@ -12,8 +12,12 @@ use Rattle.words.specs.Answer.{got, stop, ◌>>=◌}
 use Rattle.words.proofs.AnswerLaws.{got-inj}
 use Rattle.words.proofs.Laws.{number-first, number-drop}
 use Rattle.program.specs.Forms.{block_depth, expression_depth}
-use Rattle.program.specs.Forms.{Form, a_nil, a_false, a_true, an_integer, a_path, an_operation, an_identity, no_form, form_of}
-use Rattle.program.specs.Forms.{Verb, skip, assign, new, always, once, always_same, once_same, branch, loop, no_verb, verb_of}
+use Rattle.program.specs.Forms.{form_of}
+use Rattle.program.specs.declared.Form.{Form}
+use Rattle.program.specs.declared.Form.TheVariants.{Nil as a_nil, False as a_false, True as a_true, Integer as an_integer, Path as a_path, Operation as an_operation, Identity as an_identity, Unknown as no_form}
+use Rattle.program.specs.Forms.{verb_of}
+use Rattle.program.specs.declared.Verb.{Verb}
+use Rattle.program.specs.declared.Verb.TheVariants.{Skip as skip, Assign as assign, New as new, Always as always, Once as once, AlwaysSame as always_same, OnceSame as once_same, If as branch, While as loop, Unknown as no_verb}
 use Rattle.program.specs.Reading.{Reading, read_path}
 use Rattle.program.specs.Grammar.{Path, Expression, Parts, Constraint, Fields, Piece, block_of, statements_of, statement_of, Yields}
 use Rattle.program.proofs.GrammarLaws.{path-complete}

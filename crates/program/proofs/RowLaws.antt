@@ -1,6 +1,6 @@
 -- Pieces in a row, as the loops read them: the parts of C, and the statements of a block. Assumes nothing.
 use mathlib.Core.Path.{◌≡◌, refl, ap, ◌∙◌}
-use mathlib.Core.Bool.{true, false}
+use Rattle.std.specs.Prelude.{Ok, Err}
 use mathlib.Core.List.{List, [], ◌∷◌}
 use Prim.Native.Nat.{ℕ, zero, suc, ◌+◌, ◌-◌, ◌≤◌, ◌<◌}
 use native.Mathlib.Omega.{arith}
@@ -9,7 +9,6 @@ use lib.ListN.{length, drop, length-drop}
 use Rattle.words.specs.Words.{last_of}
 use Rattle.words.specs.Answer.{got, ◌>>=◌}
 use Rattle.words.proofs.AnswerLaws.{bind-cong}
-use Rattle.program.specs.declared.Piece.{Piece}
 use Rattle.program.specs.Told.{told}
 use Rattle.program.specs.Reading.{Reading, read_part, read_parts, read_with, read_statements, after}
 use Rattle.program.proofs.LengthLaws.{Part, part-trans, part-drop}
@@ -61,17 +60,17 @@ module _ {one : List ℤ → Reading (List ℤ)} {n : ℕ} {p : List ℤ} {whole
   unfolding many
   turn h = let z : n - i ≡ suc (n - (i + 1)) = omega arith in rw z at inv.rest
 
-  pub row-stops : {r : Piece} {q : List ℤ} → i < n → q ≡ last_of left p → r ≡ told (one q) → r.fits ≡ false → r ≡ told whole
-  row-stops h l e f = halted (one (last_of left p)) _ (rw l at e) f ∙ ap told (turn h)
+  pub row-stops : {k : ℕ} {q : List ℤ} → i < n → q ≡ last_of left p → Err k ≡ told (one q) → Err k ≡ told whole
+  row-stops h l e = halted (one (last_of left p)) _ (rw l at e) ∙ ap told (turn h)
 
-  pub row-goes-on : {r : Piece} {q : List ℤ} → i < n → q ≡ last_of left p → r ≡ told (one q) → r.fits ≡ true → Part q (after (one q)) → InRow one n p whole (i + 1) r.left
-  row-goes-on {r = r} h l e f w =
+  pub row-goes-on : {k : ℕ} {q : List ℤ} → i < n → q ≡ last_of left p → Ok k ≡ told (one q) → Part q (after (one q)) → InRow one n p whole (i + 1) k
+  row-goes-on {k} h l e w =
       let b : Part p (after (one (last_of left p))) = part-trans (last-part left p) (rw l at w) in
-      let k : r.left ≡ length (after (one (last_of left p))) = told-left (one (last_of left p)) (rw l at e) in
-      let g : one (last_of left p) ≡ got (last_of r.left p) = onward (one (last_of left p)) b (rw l at e) f refl in
+      let z : k ≡ length (after (one (last_of left p))) = told-left (one (last_of left p)) (rw l at e) in
+      let g : one (last_of left p) ≡ got (last_of k p) = onward (one (last_of left p)) b (rw l at e) refl in
       record { inside = omega arith; short = omega (arith, b.short); rest = rw g at (turn h) }
 
-  pub row_ends : n ≤ i → record { fits = true; left = left } ≡ told whole
+  pub row_ends : n ≤ i → Ok left ≡ told whole
   unfolding many
   row_ends h =
       let z : n - i ≡ 0 = omega arith in

@@ -1,18 +1,17 @@
 -- Marks on the words of a program at which statements begin, a bit for each. Assumes nothing: these are definitions.
-use Rattle.std.specs.Prelude.{ℕ, ◌-◌, ◌*◌, ◌<◌, ◌≡◌, Bool, true, false, ◌&&◌, ◌||◌, List, ℤ, length}
+use Rattle.std.specs.Prelude.{ℕ, ◌-◌, ◌*◌, ◌<◌, ◌≡◌, Bool, true, false, ◌&&◌, ◌||◌, List, ℤ, length, Option, Some, None}
 use Rattle.words.specs.Bits.{marked}
 use Rattle.program.specs.Forms.{block_depth}
 use Rattle.tables.specs.declared.Sort.TheVariants.{Values, Identities}
 use Rattle.program.specs.Where.{spot_block, positions_stand}
 use Rattle.program.specs.declared.Spot.{Spot}
-use Rattle.program.specs.declared.Spot.TheVariants.{At, Nowhere}
 
-abbrev pub found : Spot → Bool
-found (At verb nest) = true
-found Nowhere = false
+abbrev pub found : Option Spot → Bool
+found (Some spot) = true
+found None = false
 
 -- of `total` words each keeps its mark, and those are marked too from which on `spot` finds a statement
-pub record Marked (total : ℕ) (spot : ℕ → Spot) (before marks : List ℕ) : Type 0 where
+pub record Marked (total : ℕ) (spot : ℕ → Option Spot) (before marks : List ℕ) : Type 0 where
   pub at : (i : ℕ) → i < total → i < 64 * length before → marked marks i ≡ (marked before i || found (spot (total - i)))
 
 -- the marks are those of the program's statements

@@ -5,7 +5,7 @@ ghost use Rattle.program.specs.Marking.{Marked, MarksOf, both_stand};
 
 use super::blocks::{read_block, read_statement};
 use super::places::always_of;
-use super::reading::read_expression;
+use super::reading::{read_expression, words_left};
 use crate::{BLOCK_DEPTH, EXPRESSION_DEPTH, MOST_STATEMENTS, MOST_WORDS};
 use tables::Sort;
 use words::bits::{is_marked, mark};
@@ -23,15 +23,15 @@ fn mark_statement(p: &[i32], d: usize, total: usize, marks: &mut [u64])
     let q = words::part_from(p, 1);
     match words::number_at(p, 0) {
         7 => {
-            let e = read_expression(q, EXPRESSION_DEPTH, false);
-            let b = words::part_last(q, e.left);
+            let left = words_left(read_expression(q, EXPRESSION_DEPTH, false));
+            let b = words::part_last(q, left);
             mark_block(b, d, total, marks);
-            let a = read_block(b, d);
-            mark_block(words::part_last(b, a.left), d, total, marks);
+            let rest = words_left(read_block(b, d));
+            mark_block(words::part_last(b, rest), d, total, marks);
         }
         8 => {
-            let e = read_expression(q, EXPRESSION_DEPTH, false);
-            mark_block(words::part_last(q, e.left), d, total, marks);
+            let left = words_left(read_expression(q, EXPRESSION_DEPTH, false));
+            mark_block(words::part_last(q, left), d, total, marks);
         }
         _ => {}
     }
@@ -51,13 +51,10 @@ fn mark_block(p: &[i32], d: usize, total: usize, marks: &mut [u64])
         return;
     }
     let mut here = words::less(p.len(), 1);
-    let mut i: usize = 0;
-    while i < n {
+    for _ in 0..n {
         let q = words::part_last(p, here);
         mark_statement(q, d - 1, total, marks);
-        let a = read_statement(q, d - 1);
-        here = a.left;
-        i += 1;
+        here = words_left(read_statement(q, d - 1));
     }
 }
 
@@ -69,10 +66,7 @@ fn is_always_marked(program: &[i32], s: Sort, at: usize, marks: &[u64]) -> bool
     if program.len() <= at {
         return false;
     }
-    if !is_marked(marks, at) {
-        return false;
-    }
-    words::number_at(program, at) == always_of(s)
+    is_marked(marks, at) && words::number_at(program, at) == always_of(s)
 }
 
 // Every kept position of the sort is marked and has the sort's verb.
@@ -81,15 +75,10 @@ fn positions_marked(program: &[i32], constraints: &[i32], s: Sort, marks: &[u64]
     ensures { result ≡ positions_stand program.now constraints.now s }
 {
     let n = tables::kept::kept_count(constraints, s);
-    let mut i: usize = 0;
-    while i < n {
+    (0..n).all(|i| {
         let at = tables::kept::position_at(constraints, s, i);
-        if !is_always_marked(program, s, at, marks) {
-            return false;
-        }
-        i += 1;
-    }
-    true
+        is_always_marked(program, s, at, marks)
+    })
 }
 
 // Every kept position of both sorts, by marks that are made once.
@@ -99,8 +88,6 @@ pub(crate) fn marks_stand(program: &[i32], constraints: &[i32]) -> bool
 {
     let mut marks = [0u64; MARKS_WORDS];
     mark_block(program, BLOCK_DEPTH, program.len(), &mut marks);
-    if !positions_marked(program, constraints, Sort::Values, &marks) {
-        return false;
-    }
-    positions_marked(program, constraints, Sort::Identities, &marks)
+    positions_marked(program, constraints, Sort::Values, &marks)
+        && positions_marked(program, constraints, Sort::Identities, &marks)
 }

@@ -1,51 +1,52 @@
 // Paths, expressions and constraints. Each is read from the part of the program that begins at its first word.
+// A reader answers how many words are left after its piece, or, as an Err, from the first unfit word on.
 ghost use Rattle.std.specs.Prelude.{◌≡◌};
 ghost use Rattle.words.specs.Answer.{stop};
-ghost use Rattle.program.specs.Told.{told};
+ghost use Rattle.program.specs.Told.{told, words_left};
 ghost use Rattle.program.specs.Reading.{any_word, read_labels, read_path, read_paths, read_expression, read_part, read_parts, read_constraint};
 
-use crate::{EXPRESSION_DEPTH, MOST_PARTS, MOST_STEPS, OPERATORS, Piece, REQUIRED};
+use crate::{EXPRESSION_DEPTH, MOST_PARTS, MOST_STEPS, OPERATORS, REQUIRED};
 
 // The part begins with an unfit word.
-pub fn unfit(p: &[i32]) -> Piece
+pub fn unfit(p: &[i32]) -> Result<usize, usize>
     ensures { result ≡ told (stop p.now) }
 {
-    Piece {
-        fits: false,
-        left: p.len(),
+    Err(p.len())
+}
+
+// How many words are left after a piece, or from its first unfit word on.
+pub fn words_left(piece: Result<usize, usize>) -> usize
+    ensures { result ≡ words_left piece }
+{
+    match piece {
+        Ok(left) | Err(left) => left,
     }
 }
 
-fn read_word(p: &[i32]) -> Piece
+#[tactic(auto, unfolding(crate::specs::Reading::any_word))]
+fn read_word(p: &[i32]) -> Result<usize, usize>
     ensures { result ≡ told (any_word p.now) }
 {
     if p.len() == 0 {
         return unfit(p);
     }
-    Piece {
-        fits: true,
-        left: p.len() - 1,
-    }
+    Ok(p.len() - 1)
 }
 
-fn read_labels(p: &[i32], n: usize) -> Piece
+fn read_labels(p: &[i32], n: usize) -> Result<usize, usize>
     ensures { result ≡ told (read_labels n p.now) }
 {
-    let mut i: usize = 0;
-    while i < n {
+    for i in 0..n {
         if tables::LABELS <= words::number_at(p, i) {
             return unfit(words::part_from(p, i));
         }
-        i += 1;
     }
-    Piece {
-        fits: true,
-        left: words::less(p.len(), n),
-    }
+    Ok(words::less(p.len(), n))
 }
 
 // L: variable, n, n labels.
-pub fn read_path(p: &[i32]) -> Piece
+#[tactic(auto, unfolding(crate::specs::Reading::read_path, crate::specs::Reading::number))]
+pub fn read_path(p: &[i32]) -> Result<usize, usize>
     ensures { result ≡ told (read_path p.now) }
 {
     if tables::VARIABLES <= words::number_at(p, 0) {
@@ -60,18 +61,17 @@ pub fn read_path(p: &[i32]) -> Piece
 }
 
 // The two paths of L == L.
-pub fn read_paths(p: &[i32]) -> Piece
+#[tactic(auto, unfolding(crate::specs::Reading::read_paths))]
+pub fn read_paths(p: &[i32]) -> Result<usize, usize>
     ensures { result ≡ told (read_paths p.now) }
 {
-    let a = read_path(p);
-    if !a.fits {
-        return a;
-    }
-    read_path(words::part_last(p, a.left))
+    let left = read_path(p)?;
+    read_path(words::part_last(p, left))
 }
 
 // e, nested at most d deep; in_c: inside C.
-pub fn read_expression(p: &[i32], d: usize, in_c: bool) -> Piece
+#[tactic(auto, using(crate::proofs::ReadLaws::halted), unfolding(crate::specs::Reading::read_expression, crate::specs::Reading::read_form, crate::specs::Reading::number, crate::specs::Forms::form_of))]
+pub fn read_expression(p: &[i32], d: usize, in_c: bool) -> Result<usize, usize>
     ensures { result ≡ told (read_expression d in_c p.now) }
 {
     if d == 0 {
@@ -80,18 +80,9 @@ pub fn read_expression(p: &[i32], d: usize, in_c: bool) -> Piece
     let form = words::number_at(p, 0);
     let q = words::part_from(p, 1);
     match form {
-        20 => Piece {
-            fits: true,
-            left: q.len(),
-        },
-        21 => Piece {
-            fits: true,
-            left: q.len(),
-        },
-        22 => Piece {
-            fits: true,
-            left: q.len(),
-        },
+        20 => Ok(q.len()),
+        21 => Ok(q.len()),
+        22 => Ok(q.len()),
         23 => read_word(q),
         24 => read_path(q),
         25 => {
@@ -103,11 +94,8 @@ pub fn read_expression(p: &[i32], d: usize, in_c: bool) -> Piece
                 return unfit(q);
             }
             let r = words::part_from(q, 1);
-            let a = read_expression(r, d - 1, in_c);
-            if !a.fits {
-                return a;
-            }
-            read_expression(words::part_last(r, a.left), d - 1, in_c)
+            let left = read_expression(r, d - 1, in_c)?;
+            read_expression(words::part_last(r, left), d - 1, in_c)
         }
         26 => {
             if in_c {
@@ -120,7 +108,8 @@ pub fn read_expression(p: &[i32], d: usize, in_c: bool) -> Piece
 }
 
 // A part of C: priority and e.
-pub fn read_part(p: &[i32]) -> Piece
+#[tactic(auto, unfolding(crate::specs::Reading::read_part, crate::specs::Reading::number))]
+pub fn read_part(p: &[i32]) -> Result<usize, usize>
     ensures { result ≡ told (read_part p.now) }
 {
     let priority = words::number_at(p, 0);
@@ -133,27 +122,19 @@ pub fn read_part(p: &[i32]) -> Piece
     read_expression(words::part_from(p, 1), EXPRESSION_DEPTH, true)
 }
 
-fn read_parts(p: &[i32], m: usize) -> Piece
+fn read_parts(p: &[i32], m: usize) -> Result<usize, usize>
     ensures { result ≡ told (read_parts m p.now) }
 {
     let mut left = p.len();
-    let mut i: usize = 0;
-    while i < m {
-        let a = read_part(words::part_last(p, left));
-        left = a.left;
-        if !a.fits {
-            return a;
-        }
-        i += 1;
+    for _ in 0..m {
+        left = read_part(words::part_last(p, left))?;
     }
-    Piece {
-        fits: true,
-        left: left,
-    }
+    Ok(left)
 }
 
 // C: m, m parts.
-pub fn read_constraint(p: &[i32]) -> Piece
+#[tactic(auto, unfolding(crate::specs::Reading::read_constraint, crate::specs::Reading::number))]
+pub fn read_constraint(p: &[i32]) -> Result<usize, usize>
     ensures { result ≡ told (read_constraint p.now) }
 {
     let m = words::number_at(p, 0);

@@ -2,32 +2,31 @@
 use mathlib.Core.Path.{◌≡◌, sym, ◌∙◌}
 use mathlib.Core.List.{List}
 use Prim.Native.Nat.{ℕ}
-use native.Mathlib.Omega.{arith}
 use lib.IntN.{ℤ}
 use lib.ListN.{length}
+use Rattle.std.specs.Prelude.{Result, Ok, Err}
 use Rattle.words.specs.Answer.{got, stop}
 use Rattle.words.proofs.AnswerLaws.{either}
 use Rattle.tables.specs.Cells.{Cells}
+use Rattle.program.specs.declared.Refusal.{Refusal}
 use Rattle.rules.specs.State.{Res}
 use Rattle.rules.specs.Proposals.{settle}
 use Rattle.rules.proofs.EffectLaws.{settles-near}
 use Rattle.rules.proofs.ProposalLaws.{settle-iff}
-use Rattle.proposals.specs.declared.Settled.{Settled}
-use Rattle.proposals.specs.declared.Settled.TheVariants.{Takes, Refuses}
 use Rattle.proposals.specs.Told.{settled_of, settled_cells, Settles}
 use Rattle.proposals.specs.Claims.{TakenMoves, RefusedStays, TakenExactly}
 use Rattle.proposals.proofs.FormLaws.{unlike}
 
 -- a proposal that is taken: the rules take it, with the same tables and unread words
-module _ {S Z : Cells} {r : Settled} (m : Res (Cells × List ℤ)) (s : Settles S Z r m) where
-  pub taken_is {ℓ} : {X : Type ℓ} {left : ℕ} → r ≡ Takes left → ((rest : List ℤ) → m ≡ got (Z, rest) → length rest ≡ left → X) → X
+module _ {S Z : Cells} {r : Result ℕ Refusal} (m : Res (Cells × List ℤ)) (s : Settles S Z r m) where
+  pub taken_is {ℓ} : {X : Type ℓ} {left : ℕ} → r ≡ Ok left → ((rest : List ℤ) → m ≡ got (Z, rest) → length rest ≡ left → X) → X
   taken_is {X = X} {left = left} h k = by m s.is s.leaves (λ rest e l. k rest e l)
     where
       by : (y : Res (Cells × List ℤ)) → r ≡ settled_of y → Z ≡ settled_cells S y → ((rest : List ℤ) → y ≡ got (Z, rest) → length rest ≡ left → X) → X
       by (got x) i z k = k x.1 (rw z) (let q = sym i ∙ h in cc)
-      by (stop f) i z k = absurd (let q : Refuses f.number f.word ≡ Takes left = sym i ∙ h in let y : ◌≡◌ {A = ℕ} 0 1 = cc in omega arith)
+      by (stop f) i z k = unlike (let q : ◌≡◌ {A = Result ℕ Refusal} (Err f) (Ok left) = sym i ∙ h in cc)
 
-  pub stays : {n at : ℕ} → r ≡ Refuses n at → Z ≡ S
+  pub stays : {k : Refusal} → r ≡ Err k → Z ≡ S
   stays h =
       either m
       (λ x e. unlike (let y = sym (rw e at s.is) ∙ h in cc))
@@ -38,7 +37,7 @@ taken-moves program kept asked word S Z ws r left sized s h =
     taken_is (settle program kept asked word S ws) s h λ rest e l. (settles-near sized ((settle-iff program kept asked word S ws Z rest).0 e)).effect
 
 pub refused-stays : RefusedStays
-refused-stays program kept asked word S Z ws r n at s h = stays (settle program kept asked word S ws) s h
+refused-stays program kept asked word S Z ws r f s h = stays (settle program kept asked word S ws) s h
 
 pub taken-exactly : TakenExactly
 taken-exactly program kept asked word S Z ws r left s = (

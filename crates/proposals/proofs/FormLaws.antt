@@ -10,6 +10,7 @@ use lib.Dec.{ltb, leb}
 use lib.IntN.{ℤ, pos}
 use lib.ListN.{length, drop}
 use lib.Seq.{drop-drop}
+use Rattle.std.specs.Prelude.{Result, Ok, Err}
 use Rattle.words.specs.Words.{number_of, number_at}
 use Rattle.words.specs.Answer.{Answer, got, stop, ◌>>=◌, ◌>>◌, want}
 use Rattle.words.proofs.Laws.{number-first, number-drop}
@@ -21,7 +22,6 @@ use Rattle.rules.specs.Rules.Proposals.{EntriesAre, no_more, next, Formed, forme
 use Rattle.rules.proofs.ConstraintClauses.{listed-none, listed_more}
 use Rattle.rules.proofs.ProposalClauses.{entries_none, entries-no-words, entries-one-word, entries-more, proposal-none, proposal-more}
 use Rattle.rules.proofs.EntryLaws.{entries-few, formed-iff, entries-stop}
-use Rattle.proposals.specs.declared.Formed.TheVariants.{Pairs, Not}
 use Rattle.proposals.specs.Told.{answers, entry_at, entries_in, formed_of}
 
 pub unlike {ℓ} : {X : Type ℓ} → ◌≡◌ {A = ℕ} 0 1 → X
@@ -51,9 +51,6 @@ one-pair m low (l ∷ v ∷ q) h =
 pub record PairsLeft (pairs : List ℤ) (n i low : ℕ) : Type 0 where
   pub inside : i ≤ n
   pub rest : answers (entries (n - i) low (drop (2 * i) pairs)) ≡ answers (entries n 0 pairs)
-
-pub pairs_start : {pairs : List ℤ} {n : ℕ} → PairsLeft pairs n 0 0
-pairs_start {n = n} = let z : n - 0 ≡ n = omega arith in record { inside = omega arith; rest = rw z }
 
 module _ {pairs : List ℤ} {n i low : ℕ} (inv : PairsLeft pairs n i low) where
   module _ (more : i < n) {q : List ℤ} (part : q ≡ drop (2 * i) pairs) where
@@ -92,7 +89,7 @@ entries-count (next a b others) = ap suc (entries-count others)
 formed-count : {w : ℤ} {ws rest : List ℤ} {es : List Entry} → Formed (w ∷ ws) es rest → number_of w ≡ length es
 formed-count (by_count is) = entries-count is
 
-pub form-none : (ws : List ℤ) → length ws ≡ 0 → Not 6 ≡ formed_of (proposal ws)
+pub form-none : (ws : List ℤ) → length ws ≡ 0 → Err 6 ≡ formed_of (proposal ws)
 form-none [] h = rw proposal-none
 form-none (n ∷ ws) h = let z : ⊥ = omega arith in absurd z
 
@@ -100,14 +97,14 @@ module _ (n : ℤ) (ws : List ℤ) (few : number_of n ≤ locations) where
   proposal-entries : proposal (n ∷ ws) ≡ entries (number_of n) 0 ws
   proposal-entries = rw (proposal-more n ws, le-leb (number_of n) locations few)
 
-  broken : false ≡ answers (entries (number_of n) 0 ws) → Not 16 ≡ formed_of (proposal (n ∷ ws))
+  broken : false ≡ answers (entries (number_of n) 0 ws) → Err 16 ≡ formed_of (proposal (n ∷ ws))
   broken h = either (entries (number_of n) 0 ws)
       (λ x e. unlike (let y : false ≡ true = rw e at h in cc))
       (λ k e. rw (proposal-entries, e, entries-stop (number_of n) 0 ws k e))
 
-  formed : true ≡ answers (entries (number_of n) 0 ws) → Pairs (number_of n) ≡ formed_of (proposal (n ∷ ws))
+  formed : true ≡ answers (entries (number_of n) 0 ws) → Ok (number_of n) ≡ formed_of (proposal (n ∷ ws))
   formed h = either (entries (number_of n) 0 ws)
-      (λ x e. rw (proposal-entries, e) (ap Pairs (formed-count ((formed-iff (n ∷ ws) x.0 x.1).0 (proposal-entries ∙ e)))))
+      (λ x e. rw (proposal-entries, e) (ap Ok (formed-count ((formed-iff (n ∷ ws) x.0 x.1).0 (proposal-entries ∙ e)))))
       (λ k e. unlike (let y : true ≡ false = rw e at h in cc))
 
 module _ (ws : List ℤ) (begun : length ws ≡ 0 → ⊥) {n : ℕ} (is : n ≡ number_at ws 0) where
@@ -119,14 +116,14 @@ module _ (ws : List ℤ) (begun : length ws ≡ 0 → ⊥) {n : ℕ} (is : n ≡
       go [] e = absurd (begun (ap length e))
       go (w ∷ us) e = f w us e (is ∙ (rw e (number-first w us)))
 
-  pub form-many : locations < n → Not 16 ≡ formed_of (proposal ws)
+  pub form-many : locations < n → Err 16 ≡ formed_of (proposal ws)
   form-many h = with_first λ w us e k. rw (e, proposal-more w us, lt-leb (number_of w) locations (rw k at h))
 
   module _ (few : n ≤ locations) {q : List ℤ} (part : q ≡ drop 1 ws) {b : Bool} (e : b ≡ answers (entries n 0 q)) where
-    pub form-broken : b ≡ false → Not 16 ≡ formed_of (proposal ws)
+    pub form-broken : b ≡ false → Err 16 ≡ formed_of (proposal ws)
     form-broken f = with_first λ w us i k. rw i (broken w us (rw k at few) (rw (part, i, k) at (sym f ∙ e)))
 
-    pub form-pairs : b ≡ true → Pairs n ≡ formed_of (proposal ws)
+    pub form-pairs : b ≡ true → Ok n ≡ formed_of (proposal ws)
     form-pairs f = with_first λ w us i k. rw (i, k) (formed w us (rw k at few) (rw (part, i, k) at (sym f ∙ e)))
 
 -- ---- the entries, told by the words
@@ -162,8 +159,8 @@ pub record Proposed (ws : List ℤ) (n : ℕ) : Type 0 where
   pub few : n ≤ locations
   pub is : proposal ws ≡ got (entries_in (drop 1 ws) n, drop (1 + 2 * n) ws)
 
-pub proposed : {ws : List ℤ} {n : ℕ} → Pairs n ≡ formed_of (proposal ws) → Proposed ws n
-proposed {ws = ws} {n = n} h = either (proposal ws) there (λ k e. unlike (let y : Pairs n ≡ Not k = rw e at h in cc))
+pub proposed : {ws : List ℤ} {n : ℕ} → Ok n ≡ formed_of (proposal ws) → Proposed ws n
+proposed {ws = ws} {n = n} h = either (proposal ws) there (λ k e. unlike (let y : ◌≡◌ {A = Result ℕ ℕ} (Ok n) (Err k) = rw e at h in cc))
   where
     as-told : {ws rest : List ℤ} {es : List Entry} → Formed ws es rest → n ≡ length es → Proposed ws n
     as-told {rest = rest} {es = es} (by_count {n = m} {ws = ws} is) e =
@@ -175,4 +172,4 @@ proposed {ws = ws} {n = n} h = either (proposal ws) there (λ k e. unlike (let y
         }
 
     there : (x : List Entry × List ℤ) → proposal ws ≡ got x → Proposed ws n
-    there x e = as-told ((formed-iff ws x.0 x.1).0 e) (let y : Pairs n ≡ Pairs (length x.0) = rw e at h in cc)
+    there x e = as-told ((formed-iff ws x.0 x.1).0 e) (let y : ◌≡◌ {A = Result ℕ ℕ} (Ok n) (Ok (length x.0)) = rw e at h in cc)

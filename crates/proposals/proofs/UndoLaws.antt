@@ -10,7 +10,7 @@ use lib.Seq.{get_or-set_same, get_or-set_other}
 use Rattle.words.specs.Words.{word_at, number_at}
 use Rattle.tables.specs.Values.{cell}
 use Rattle.tables.specs.Cells.{Cells, cell_at}
-use Rattle.tables.proofs.CellLaws.{read-kind, put_back, put-lengths}
+use Rattle.tables.proofs.CellLaws.{read-kind, put_back}
 use Rattle.proposals.specs.Undoing.{with_payload, undone, Swaps}
 
 -- ---- putting back
@@ -47,12 +47,7 @@ laid-back pairs before {S = S} {Z = Z} {after = after} {l = l} {new = new} {old 
 
 pub record PuttingBack (S Z : Cells) (pairs saved : List ℤ) (n i : ℕ) : Type 0 where
   pub inside : i ≤ n
-  pub environment : length Z.environment ≡ length S.environment
-  pub heap : length Z.heap ≡ length S.heap
   pub rest : undone pairs saved i Z ≡ undone pairs saved n S
-
-pub putting-back-starts : {S : Cells} {pairs saved : List ℤ} {n : ℕ} → PuttingBack S S pairs saved n n
-putting-back-starts = record { inside = omega arith; environment = refl; heap = refl; rest = refl }
 
 module _ {S Z : Cells} {pairs saved : List ℤ} {n i : ℕ} (inv : PuttingBack S Z pairs saved n i) where
   pub putting-back-goes-on : {Y : Cells} {l : ℕ} {w old : ℤ} → 0 < i → l ≡ number_at pairs (2 * (i - 1)) → w ≡ word_at saved (i - 1) → Swaps Z Y l w old → PuttingBack S Y pairs saved n (i - 1)
@@ -60,8 +55,6 @@ module _ {S Z : Cells} {pairs saved : List ℤ} {n i : ℕ} (inv : PuttingBack S
       let z : i - 1 + 1 ≡ i = omega arith in
       record {
         inside = omega (arith, inv.inside);
-        environment = rw y.puts ((put-lengths Z _ _).0 ∙ inv.environment);
-        heap = rw y.puts ((put-lengths Z _ _).1 ∙ inv.heap);
         rest = rw (y.puts, l, w) (sym (rw z at (undone-more pairs saved (i - 1) Z)) ∙ inv.rest);
       }
 

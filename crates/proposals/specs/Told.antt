@@ -1,7 +1,6 @@
 -- What the code answers, and what it leaves of the tables, for what the rules answer of a proposal. A part is told by how many words are left in it.
 -- Assumes nothing: these are definitions.
-use Rattle.std.specs.Prelude.{ℕ, ◌+◌, ◌*◌, ◌≡◌, Bool, true, false, not, ◌||◌, List, ℤ, length, drop}
-use Rattle.std.proofs.Math.Option.{Option, none, some}
+use Rattle.std.specs.Prelude.{ℕ, ◌+◌, ◌*◌, ◌≡◌, Bool, true, false, not, ◌||◌, List, ℤ, length, Option, Result, Ok, Err}
 use Rattle.words.specs.Words.{word_at, number_at}
 use Rattle.words.specs.Answer.{Answer, got, stop, ◌>>=◌, ◌>>◌, want}
 use Rattle.tables.specs.Cells.{Cells}
@@ -9,12 +8,9 @@ use Rattle.rules.specs.State.{Res, refused, listed}
 use Rattle.rules.specs.Constraints.{counted, required_hold}
 use Rattle.rules.specs.Proposals.{Entry, entries_fit, applied, none?}
 use Rattle.rules.specs.Proposals.{Asked as Asks}
-use Rattle.expressions.specs.Judging.{own_of}
-use Rattle.proposals.specs.declared.Formed.{Formed}
-use Rattle.proposals.specs.declared.Formed.TheVariants.{Pairs, Not}
+use Rattle.program.specs.declared.Refusal.{Refusal}
+use Rattle.expressions.specs.Judging.{own_in}
 use Rattle.proposals.specs.declared.Asked.{Asked}
-use Rattle.proposals.specs.declared.Settled.{Settled}
-use Rattle.proposals.specs.declared.Settled.TheVariants.{Takes, Refuses}
 
 -- the pair number i, as an entry, and n pairs from the first on
 unfoldable pub entry_at : List ℤ → ℕ → Entry
@@ -28,18 +24,14 @@ abbrev pub answers : {E A : Type 0} → Answer E A → Bool
 answers (got x) = true
 answers (stop e) = false
 
-abbrev pub formed_of : Answer ℕ (List Entry × List ℤ) → Formed
-formed_of (got x) = Pairs (length x.0)
-formed_of (stop n) = Not n
+-- how many pairs there are; or the refusal's number
+abbrev pub formed_of : Answer ℕ (List Entry × List ℤ) → Result ℕ ℕ
+formed_of (got x) = Ok (length x.0)
+formed_of (stop n) = Err n
 
--- the cell that may not be changed, if there is one
-abbrev pub aim_of : Bool → ℕ → Option ℕ
-aim_of true target = some target
-aim_of false target = none
-
--- what the statement at p asks; its own C begins after its first word
-abbrev pub asks_of : Asked → List ℤ → Asks
-asks_of a p = record { own = own_of a.owns (drop 1 p); target = aim_of a.aims a.target; room = a.room }
+-- what a statement asks
+abbrev pub asks_of : Asked → Asks
+asks_of a = record { own = own_in a.own; target = a.target; room = a.room }
 
 -- the end of the judge: the entries are applied, and each required part must be true
 abbrev pub tried : List ℤ → List ℤ → Option (List ℤ) → List ℤ → Cells → List Entry → List ℤ → Res (Cells × List ℤ)
@@ -55,15 +47,16 @@ judged program kept asked word S all es rest = do
   want (refused 18 word) (not all || none? es)
   tried program kept asked.own word S es rest
 
-abbrev pub settled_of : Res (Cells × List ℤ) → Settled
-settled_of (got x) = Takes (length x.1)
-settled_of (stop f) = Refuses f.number f.word
+-- how many words are unread after it; or the refusal
+abbrev pub settled_of : Res (Cells × List ℤ) → Result ℕ Refusal
+settled_of (got x) = Ok (length x.1)
+settled_of (stop f) = Err f
 
 -- the tables after a proposal; those before it where it is refused
 abbrev pub settled_cells : Cells → Res (Cells × List ℤ) → Cells
 settled_cells S (got x) = x.0
 settled_cells S (stop f) = S
 
-pub record Settles (S Z : Cells) (r : Settled) (m : Res (Cells × List ℤ)) : Type 0 where
+pub record Settles (S Z : Cells) (r : Result ℕ Refusal) (m : Res (Cells × List ℤ)) : Type 0 where
   pub is : r ≡ settled_of m
   pub leaves : Z ≡ settled_cells S m

@@ -1,18 +1,20 @@
 // The one judge of a proposal: 6, 16, 17, 18, 19.
-ghost use Rattle.std.specs.Prelude.{◌≡◌, ◌≤◌, ◌+◌, ◌*◌, length, drop};
+ghost use Rattle.std.specs.Prelude.{◌≡◌, ◌≤◌, ◌+◌, ◌*◌, length, drop, Ok};
 ghost use Rattle.tables.specs.Sizes.{locations};
-ghost use Rattle.tables.specs.Cells.{cells};
+ghost use Rattle.tables.specs.Lending.{seen, cells_in, OnlyCells};
 ghost use Rattle.rules.specs.Constraints.{counted};
-ghost use Rattle.rules.specs.Proposals.{entries, proposal, may_take, entries_fit};
+ghost use Rattle.rules.specs.Proposals.{entries, proposal, may_take, is_target, entries_fit};
 ghost use Rattle.rules.specs.Proposals.{settle as settle_by};
-ghost use Rattle.expressions.specs.Judging.{weighed_of, own_of};
-ghost use Rattle.expressions.specs.declared.Weighed.TheVariants.{Reads};
-ghost use Rattle.proposals.specs.Told.{answers, entries_in, aim_of, asks_of, formed_of, tried, judged, Settles};
+ghost use Rattle.expressions.specs.Judging.{weighed_of, own_in};
+ghost use Rattle.proposals.specs.Told.{answers, entries_in, asks_of, formed_of, tried, judged, Settles};
 ghost use Rattle.proposals.specs.Undoing.{Applies};
 
 use super::undoing::{put_back, put_payload};
-use crate::{Asked, FEW_PAIRS, Formed, SAVED_WORDS, Settled};
+use crate::{Asked, FEW_PAIRS, SAVED_WORDS};
 use expressions::Weighed;
+use expressions::constraints::counted_at;
+use program::Refusal;
+use tables::{Tables, View};
 
 // n pairs, whose locations rise.
 fn are_pairs(pairs: &[i32], n: usize) -> bool
@@ -20,8 +22,7 @@ fn are_pairs(pairs: &[i32], n: usize) -> bool
     ensures { result ≡ answers (entries n 0 pairs.now) }
 {
     let mut low: usize = 0;
-    let mut i: usize = 0;
-    while i < n {
+    for i in 0..n {
         let q = words::part_from(pairs, 2 * i);
         if q.len() < 2 {
             return false;
@@ -34,122 +35,111 @@ fn are_pairs(pairs: &[i32], n: usize) -> bool
             return false;
         }
         low = l + 1;
-        i += 1;
     }
     true
 }
 
-// The form of the proposal that the words begin with.
-pub fn form_of(proposals: &[i32]) -> Formed
+// How many pairs the proposal has that the words begin with; or a refusal's number.
+pub fn form_of(proposals: &[i32]) -> Result<usize, usize>
     ensures { result ≡ formed_of (proposal proposals.now) }
 {
     if proposals.len() == 0 {
-        return Formed::Not(6);
+        return Err(6);
     }
     let n = words::number_at(proposals, 0);
     if tables::LOCATIONS < n {
-        return Formed::Not(16);
+        return Err(16);
     }
     if !are_pairs(words::part_from(proposals, 1), n) {
-        return Formed::Not(16);
+        return Err(16);
     }
-    Formed::Pairs(n)
+    Ok(n)
 }
 
 // A payload that the cell may take by a proposal.
 fn may_take(c: tables::Cell, w: i32) -> bool
     ensures { result ≡ may_take c w }
 {
-    if words::same(w, c.payload) {
+    if w == c.payload {
         return false;
     }
     let kind = words::number(c.kind);
     if kind == 2 {
-        return words::same(w, 0) | words::same(w, 1);
+        return (w == 0) | (w == 1);
     }
     kind == 3
 }
 
-// Every one of n pairs names a cell and a payload that it may.
-fn entries_fit(
-    environment: &[i32],
-    heap: &[i32],
-    pairs: &[i32],
-    n: usize,
-    aims: bool,
-    target: usize,
-) -> bool
-    requires { n ≤ locations }
-    ensures { result ≡ entries_fit (cells environment.now heap.now) (aim_of aims target) (entries_in pairs.now n) }
+// The cell at l is the one that may not be changed.
+fn is_target(target: Option<usize>, l: usize) -> bool
+    ensures { result ≡ is_target target l }
 {
-    let mut i: usize = 0;
-    while i < n {
+    match target {
+        Some(x) => l == x,
+        None => false,
+    }
+}
+
+// Every one of n pairs names a cell and a payload that it may.
+fn entries_fit(t: &View<'_>, pairs: &[i32], n: usize, target: Option<usize>) -> bool
+    requires { n ≤ locations }
+    ensures { result ≡ entries_fit (seen t.now) target (entries_in pairs.now n) }
+{
+    for i in 0..n {
         let l = words::number_at(pairs, 2 * i);
-        if aims & (l == target) {
+        if is_target(target, l) {
             return false;
         }
-        if !may_take(
-            tables::cells::read_cell(environment, heap, l),
-            words::word_at(pairs, 2 * i + 1),
-        ) {
+        if !may_take(t.cell(l), words::word_at(pairs, 2 * i + 1)) {
             return false;
         }
-        i += 1;
     }
     true
 }
 
 // The cells of n pairs take their payloads and keep their kinds; the payloads that were there are laid by.
-fn apply(environment: &mut [i32], heap: &mut [i32], pairs: &[i32], n: usize, saved: &mut [i32])
+fn apply(t: &mut Tables<'_>, pairs: &[i32], n: usize, saved: &mut [i32])
     requires n_le_locations { n ≤ locations }
     requires n_in_bounds { n ≤ length saved.old }
-    ensures { Applies (cells environment.old heap.old) (cells environment.new heap.new) pairs.now saved.new n }
+    ensures applies { Applies (cells_in t.old) (cells_in t.new) pairs.now saved.new n }
+    ensures rest { OnlyCells t.old t.new }
 {
-    let mut i: usize = 0;
-    while i < n {
+    for i in 0..n {
         let l = words::number_at(pairs, 2 * i);
-        let old = put_payload(environment, heap, l, words::word_at(pairs, 2 * i + 1));
+        let old = put_payload(t, l, words::word_at(pairs, 2 * i + 1));
         words::store(saved, i, old);
-        i += 1;
     }
 }
 
 // The parts that count, once n pairs are applied: 15, 19. The tables are as they were where it refuses.
 fn try_saving(
     program: &[i32],
-    environment: &mut [i32],
-    heap: &mut [i32],
-    constraints: &[i32],
+    t: &mut Tables<'_>,
     proposals: &[i32],
     n: usize,
     p: &[i32],
-    owns: bool,
+    own: Option<&[i32]>,
     saved: &mut [i32],
-) -> Settled
+) -> Result<usize, Refusal>
     requires n_le_locations { n ≤ locations }
     requires n_in_bounds { n ≤ length saved.old }
-    ensures { Settles (cells environment.old heap.old) (cells environment.new heap.new) result (tried program.now constraints.now (own_of owns (drop 1 p.now)) p.now (cells environment.old heap.old) (entries_in (drop 1 proposals.now) n) (drop (1 + 2 * n) proposals.now)) }
+    ensures settles { Settles (cells_in t.old) (cells_in t.new) result (tried program.now t.old.constraints.now (own_in own.entry) p.now (cells_in t.old) (entries_in (drop 1 proposals.now) n) (drop (1 + 2 * n) proposals.now)) }
+    ensures rest { OnlyCells t.old t.new }
 {
     let pairs = words::part_from(proposals, 1);
-    apply(environment, heap, pairs, n, saved);
-    match expressions::constraints::counted_at(
-        program,
-        environment,
-        heap,
-        constraints,
-        words::part_from(p, 1),
-        owns,
-    ) {
-        Weighed::Fails(number, at) => {
-            put_back(environment, heap, pairs, n, saved);
-            Settled::Refuses(number, at)
+    apply(t, pairs, n, saved);
+    let v = t.view();
+    match counted_at(program, &v, own) {
+        Err(fault) => {
+            put_back(t, pairs, n, saved);
+            Err(fault)
         }
-        Weighed::Reads(_, required) => {
-            if !required {
-                put_back(environment, heap, pairs, n, saved);
-                return Settled::Refuses(19, p.len());
+        Ok(parts) => {
+            if !parts.required {
+                put_back(t, pairs, n, saved);
+                return Err(Refusal::at(19, p));
             }
-            Settled::Takes(words::less(proposals.len(), 1 + 2 * n))
+            Ok(words::less(proposals.len(), 1 + 2 * n))
         }
     }
 }
@@ -157,133 +147,74 @@ fn try_saving(
 // As try_saving; the payloads of a few pairs are laid by in a few words.
 fn try_pairs(
     program: &[i32],
-    environment: &mut [i32],
-    heap: &mut [i32],
-    constraints: &[i32],
+    t: &mut Tables<'_>,
     proposals: &[i32],
     n: usize,
     p: &[i32],
-    owns: bool,
-) -> Settled
+    own: Option<&[i32]>,
+) -> Result<usize, Refusal>
     requires { n ≤ locations }
-    ensures { Settles (cells environment.old heap.old) (cells environment.new heap.new) result (tried program.now constraints.now (own_of owns (drop 1 p.now)) p.now (cells environment.old heap.old) (entries_in (drop 1 proposals.now) n) (drop (1 + 2 * n) proposals.now)) }
+    ensures settles { Settles (cells_in t.old) (cells_in t.new) result (tried program.now t.old.constraints.now (own_in own.entry) p.now (cells_in t.old) (entries_in (drop 1 proposals.now) n) (drop (1 + 2 * n) proposals.now)) }
+    ensures rest { OnlyCells t.old t.new }
 {
     if n <= FEW_PAIRS {
         let mut few = [0i32; FEW_PAIRS];
-        return try_saving(
-            program,
-            environment,
-            heap,
-            constraints,
-            proposals,
-            n,
-            p,
-            owns,
-            &mut few,
-        );
+        return try_saving(program, t, proposals, n, p, own, &mut few);
     }
     let mut saved = [0i32; SAVED_WORDS];
-    try_saving(
-        program,
-        environment,
-        heap,
-        constraints,
-        proposals,
-        n,
-        p,
-        owns,
-        &mut saved,
-    )
+    try_saving(program, t, proposals, n, p, own, &mut saved)
 }
 
-// A proposal of n pairs, where all parts that count are satisfied or not, and the required ones.
+// A proposal of n pairs, where the parts that count come to this.
 fn judge(
     program: &[i32],
-    environment: &mut [i32],
-    heap: &mut [i32],
-    constraints: &[i32],
+    t: &mut Tables<'_>,
     proposals: &[i32],
     n: usize,
     p: &[i32],
-    asked: Asked,
-    all: bool,
-    required: bool,
-) -> Settled
+    asked: Asked<'_>,
+    parts: Weighed,
+) -> Result<usize, Refusal>
     requires n_le_locations { n ≤ locations }
-    requires heap_value { weighed_of (counted program.now constraints.now (own_of asked.owns (drop 1 p.now)) (cells environment.old heap.old)) ≡ Reads all required }
-    ensures { Settles (cells environment.old heap.old) (cells environment.new heap.new) result (judged program.now constraints.now (asks_of asked p.now) p.now (cells environment.old heap.old) all (entries_in (drop 1 proposals.now) n) (drop (1 + 2 * n) proposals.now)) }
+    requires heap_value { weighed_of (counted program.now t.old.constraints.now (own_in asked.own) (cells_in t.old)) ≡ Ok parts }
+    ensures settles { Settles (cells_in t.old) (cells_in t.new) result (judged program.now t.old.constraints.now (asks_of asked.entry) p.now (cells_in t.old) parts.all (entries_in (drop 1 proposals.now) n) (drop (1 + 2 * n) proposals.now)) }
+    ensures rest { OnlyCells t.old t.new }
 {
     if n == 0 {
-        if !required {
-            return Settled::Refuses(19, p.len());
+        if !parts.required {
+            return Err(Refusal::at(19, p));
         }
-        return Settled::Takes(words::less(proposals.len(), 1));
+        return Ok(words::less(proposals.len(), 1));
     }
-    if !entries_fit(
-        environment,
-        heap,
-        words::part_from(proposals, 1),
-        n,
-        asked.aims,
-        asked.target,
-    ) {
-        return Settled::Refuses(17, p.len());
+    let v = t.view();
+    if !entries_fit(&v, words::part_from(proposals, 1), n, asked.target) {
+        return Err(Refusal::at(17, p));
     }
-    if all {
-        return Settled::Refuses(18, p.len());
+    if parts.all {
+        return Err(Refusal::at(18, p));
     }
-    try_pairs(
-        program,
-        environment,
-        heap,
-        constraints,
-        proposals,
-        n,
-        p,
-        asked.owns,
-    )
+    try_pairs(program, t, proposals, n, p, asked.own)
 }
 
-// The tables take the proposal that the words begin with, or stay as they are. The statement is at p; its own C, if it has one, begins after its first word.
+// The tables take the proposal that the words begin with, or stay as they are; the answer is how many words are unread
+// after it. The statement is at p.
 pub fn settle(
     program: &[i32],
-    environment: &mut [i32],
-    heap: &mut [i32],
-    constraints: &[i32],
+    t: &mut Tables<'_>,
     proposals: &[i32],
     p: &[i32],
-    asked: Asked,
-) -> Settled
-    ensures { Settles (cells environment.old heap.old) (cells environment.new heap.new) result (settle_by program.now constraints.now (asks_of asked p.now) p.now (cells environment.old heap.old) proposals.now) }
+    asked: Asked<'_>,
+) -> Result<usize, Refusal>
+    ensures settles { Settles (cells_in t.old) (cells_in t.new) result (settle_by program.now t.old.constraints.now (asks_of asked.entry) p.now (cells_in t.old) proposals.now) }
+    ensures rest { OnlyCells t.old t.new }
 {
-    match expressions::constraints::counted_at(
-        program,
-        environment,
-        heap,
-        constraints,
-        words::part_from(p, 1),
-        asked.owns,
-    ) {
-        Weighed::Fails(number, at) => Settled::Refuses(number, at),
-        Weighed::Reads(all, required) => {
-            if !asked.room {
-                return Settled::Refuses(14, p.len());
-            }
-            match form_of(proposals) {
-                Formed::Not(number) => Settled::Refuses(number, p.len()),
-                Formed::Pairs(n) => judge(
-                    program,
-                    environment,
-                    heap,
-                    constraints,
-                    proposals,
-                    n,
-                    p,
-                    asked,
-                    all,
-                    required,
-                ),
-            }
-        }
+    let v = t.view();
+    let parts = counted_at(program, &v, asked.own)?;
+    if !asked.room {
+        return Err(Refusal::at(14, p));
+    }
+    match form_of(proposals) {
+        Err(number) => Err(Refusal::at(number, p)),
+        Ok(n) => judge(program, t, proposals, n, p, asked, parts),
     }
 }

@@ -1,37 +1,35 @@
 // A payload put in a cell that keeps its kind; and payloads put back, one for each pair of words whose first is a location.
 ghost use Rattle.std.specs.Prelude.{◌≡◌, ◌≤◌};
 ghost use Rattle.tables.specs.Sizes.{locations};
-ghost use Rattle.tables.specs.Cells.{cells};
+ghost use Rattle.tables.specs.Lending.{cells_in, OnlyCells};
 ghost use Rattle.proposals.specs.Undoing.{undone, Swaps};
 
+use tables::{Cell, Tables};
+
 // The cell at l takes the payload w and keeps its kind; the answer is the payload that it had.
-pub(crate) fn put_payload(environment: &mut [i32], heap: &mut [i32], l: usize, w: i32) -> i32
-    ensures { Swaps (cells environment.old heap.old) (cells environment.new heap.new) l w result }
+pub(crate) fn put_payload(t: &mut Tables<'_>, l: usize, w: i32) -> i32
+    ensures swaps { Swaps (cells_in t.old) (cells_in t.new) l w result }
+    ensures rest { OnlyCells t.old t.new }
 {
-    let old = tables::cells::read_cell(environment, heap, l);
-    let c = tables::Cell {
-        kind: old.kind,
-        payload: w,
-    };
-    tables::cells::write_cell(environment, heap, l, c);
+    let old = t.view().cell(l);
+    t.put(
+        l,
+        Cell {
+            kind: old.kind,
+            payload: w,
+        },
+    );
     old.payload
 }
 
 // The n payloads that were laid by are put back, the last first.
-pub(crate) fn put_back(
-    environment: &mut [i32],
-    heap: &mut [i32],
-    pairs: &[i32],
-    n: usize,
-    saved: &[i32],
-)
+pub(crate) fn put_back(t: &mut Tables<'_>, pairs: &[i32], n: usize, saved: &[i32])
     requires { n ≤ locations }
-    ensures { cells environment.new heap.new ≡ undone pairs.now saved.now n (cells environment.old heap.old) }
+    ensures cells { cells_in t.new ≡ undone pairs.now saved.now n (cells_in t.old) }
+    ensures rest { OnlyCells t.old t.new }
 {
-    let mut i = n;
-    while 0 < i {
-        i -= 1;
+    for i in (0..n).rev() {
         let l = words::number_at(pairs, 2 * i);
-        put_payload(environment, heap, l, words::word_at(saved, i));
+        put_payload(t, l, words::word_at(saved, i));
     }
 }

@@ -3,7 +3,7 @@ use mathlib.Core.Path.{◌≡◌, refl, sym, ap, ◌∙◌}
 use mathlib.Core.Logic.{◌↔◌}
 use mathlib.Core.Bool.{Bool, true, false, not, cond, ◌&&◌, ◌||◌, true≢false}
 use mathlib.Core.List.{List, [], ◌∷◌}
-use mathlib.Core.Option.{Option, none, some}
+use Rattle.std.specs.Prelude.{Option, None, Some}
 use Prim.Native.Nat.{ℕ}
 use native.Mathlib.Omega.{arith}
 use borrow.Author.Tests.{eqb-true, eqb-false, eq-eqb, ne_eqb, not-true}
@@ -115,9 +115,9 @@ allowed-iff S t es = each_of (entry_fits S t) (entries_fit S t) refl (λ x xs. r
         and-true (may_take (cell_at S e.location) e.payload) (not (is_target t e.location))
         (kind-takes (cell_at S e.location) e.payload a.kind a.different) (free t a.other)
       where
-        free : (t : Option ℕ) → (t ≡ some e.location → ⊥) → not (is_target t e.location) ≡ true
-        free none n = refl
-        free (some l) n = ap not (ne_eqb e.location l (λ q. n (ap some (sym q))))
+        free : (t : Option ℕ) → (t ≡ Some e.location → ⊥) → not (is_target t e.location) ≡ true
+        free None n = refl
+        free (Some l) n = ap not (ne_eqb e.location l (λ q. n (ap Some (sym q))))
 
 -- 18
 pub needed-iff : (before : List Part) (es : List Entry) → (not (all_hold before) || none? es ≡ true) ↔ Needed before es

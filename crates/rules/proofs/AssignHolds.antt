@@ -1,5 +1,6 @@
 -- What is kept still holds after an assignment and after a new.
 -- Assumes nothing.
+use Rattle.std.specs.Prelude.{Some}
 use mathlib.Core.Path.{◌≡◌, ap, ◌∙◌}
 use mathlib.Core.Bool.{Bool, true, false, not, ◌&&◌, ◌||◌}
 use mathlib.Core.List.{List}
@@ -14,7 +15,6 @@ use Rattle.words.specs.Answer.{got}
 use Rattle.words.proofs.AnswerLaws.{stop≢got, got-inj, step, tested}
 use Rattle.tables.specs.declared.Value.{Value}
 use Rattle.tables.specs.declared.Value.TheVariants.{Bool as Truth, Int, Ref}
-use Rattle.tables.specs.declared.Slot.TheVariants.{Has}
 use Rattle.tables.specs.Values.{cell_of}
 use Rattle.tables.specs.Cells.{Cells}
 use Rattle.tables.specs.Records.{record_count}
@@ -22,11 +22,15 @@ use Rattle.fit.specs.Fit.{cell_fits, Fit}
 use Rattle.fit.proofs.CellFits.{cell-fits}
 use Rattle.fit.proofs.FitLaws.{fit-count-word, fit-ref}
 use Rattle.program.specs.Forms.{operators, expression_depth}
-use Rattle.program.specs.Forms.{Form, a_nil, a_false, a_true, an_integer, a_path, an_operation, an_identity, no_form, form_of}
+use Rattle.program.specs.Forms.{form_of}
+use Rattle.program.specs.declared.Form.{Form}
+use Rattle.program.specs.declared.Form.TheVariants.{Nil as a_nil, False as a_false, True as a_true, Integer as an_integer, Path as a_path, Operation as an_operation, Identity as an_identity, Unknown as no_form}
 use Rattle.program.specs.Reading.{number, any_word, read_path, after}
+use Rattle.program.specs.declared.Operator.{Operator}
+use Rattle.program.specs.declared.Operator.TheVariants.{Plus, Minus, Times, Below, AtMost, Equal, Unequal, AtLeast, Above, And, Or, Unknown}
 use Rattle.rules.specs.State.{State, Res, reads, slot_at}
 use Rattle.rules.specs.Paths.{way_at, value_at}
-use Rattle.rules.specs.Evaluation.{Op, add, sub, mul, lt, le, eq, ne, ge, gt, and, or, no_op, op_of, takes, kind_of, int_of, bool_of, same, ranged, made, apply, at, evaluate_form, evaluate}
+use Rattle.rules.specs.Evaluation.{op_of, takes, kind_of, int_of, bool_of, same, ranged, made, apply, at, evaluate_form, evaluate}
 use Rattle.rules.specs.Identities.{identity_phase}
 use Rattle.rules.specs.Steps.Phases.{by_path, as_before}
 use Rattle.rules.specs.Proposals.{settle}
@@ -56,24 +60,24 @@ module _ (S : Cells) (fit : Fit S) where
   unfolding ranged
   ranged-there z v e = tested 9 (fits z) _ e λ c k. int-there z (got-inj k)
 
-  made-there : (o : Op) (a b v : Value) → made o a b ≡ got v → There S v
+  made-there : (o : Operator) (a b v : Value) → made o a b ≡ got v → There S v
   unfolding made
-  made-there add a b v e = ranged-there (int_of a +ℤ int_of b) v e
-  made-there sub a b v e = ranged-there (int_of a -ℤ int_of b) v e
-  made-there mul a b v e = ranged-there (int_of a *ℤ int_of b) v e
-  made-there lt a b v e = truth-there (lt_z (int_of a) (int_of b)) (got-inj e)
-  made-there le a b v e = truth-there (le_z (int_of a) (int_of b)) (got-inj e)
-  made-there eq a b v e = truth-there (same a b) (got-inj e)
-  made-there ne a b v e = truth-there (not (same a b)) (got-inj e)
-  made-there ge a b v e = truth-there (le_z (int_of b) (int_of a)) (got-inj e)
-  made-there gt a b v e = truth-there (lt_z (int_of b) (int_of a)) (got-inj e)
-  made-there and a b v e = truth-there (bool_of a && bool_of b) (got-inj e)
-  made-there or a b v e = truth-there (bool_of a || bool_of b) (got-inj e)
-  made-there no_op a b v e = stop≢got e
+  made-there Plus a b v e = ranged-there (int_of a +ℤ int_of b) v e
+  made-there Minus a b v e = ranged-there (int_of a -ℤ int_of b) v e
+  made-there Times a b v e = ranged-there (int_of a *ℤ int_of b) v e
+  made-there Below a b v e = truth-there (lt_z (int_of a) (int_of b)) (got-inj e)
+  made-there AtMost a b v e = truth-there (le_z (int_of a) (int_of b)) (got-inj e)
+  made-there Equal a b v e = truth-there (same a b) (got-inj e)
+  made-there Unequal a b v e = truth-there (not (same a b)) (got-inj e)
+  made-there AtLeast a b v e = truth-there (le_z (int_of b) (int_of a)) (got-inj e)
+  made-there Above a b v e = truth-there (lt_z (int_of b) (int_of a)) (got-inj e)
+  made-there And a b v e = truth-there (bool_of a && bool_of b) (got-inj e)
+  made-there Or a b v e = truth-there (bool_of a || bool_of b) (got-inj e)
+  made-there Unknown a b v e = stop≢got e
 
   value_there : (p : List ℤ) (x : Value × List ℤ) → value_at S p ≡ got x → There S x.0
   unfolding slot_at
-  value_there p x e r q = value_of S p x e λ w e1 h k. fit-ref S fit w.cell r (h ∙ ap Has q)
+  value_there p x e r q = value_of S p x e λ w e1 h k. fit-ref S fit w.cell r (h ∙ ap Some q)
 
   fst-is : {v : Value} {q : List ℤ} {x : Value × List ℤ} → ◌≡◌ {A = Res (Value × List ℤ)} (got (v, q)) (got x) → v ≡ x.0
   fst-is e = ap (λ (y : Value × List ℤ). y.0) (got-inj e)

@@ -2,7 +2,7 @@
 use mathlib.Core.Path.{◌≡◌, refl}
 use mathlib.Core.Bool.{Bool, true, false, not, ◌&&◌, ◌||◌}
 use mathlib.Core.List.{List, [], ◌∷◌, ◌++◌}
-use mathlib.Core.Option.{Option, none, some}
+use Rattle.std.specs.Prelude.{Option, None, Some}
 use Prim.Native.Nat.{ℕ, suc, ◌+◌}
 use lib.Dec.{eqb}
 use lib.IntN.{ℤ}
@@ -117,11 +117,11 @@ pub listed_more : {A : Type 0} (f : ℕ → A) (i n : ℕ) → listed f i (suc n
 unfolding listed
 listed_more f i n = refl
 
-pub own-none : (S : Cells) → own_parts S none ≡ got []
+pub own-none : (S : Cells) → own_parts S None ≡ got []
 unfolding own_parts
 own-none S = refl
 
-pub own-some : (S : Cells) (p : List ℤ) → own_parts S (some p) ≡ constraint_at S p
+pub own-some : (S : Cells) (p : List ℤ) → own_parts S (Some p) ≡ constraint_at S p
 unfolding own_parts
 own-some S p = refl
 

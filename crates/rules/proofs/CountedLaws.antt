@@ -2,7 +2,7 @@
 use mathlib.Core.Path.{◌≡◌, refl}
 use mathlib.Core.Logic.{◌↔◌}
 use mathlib.Core.List.{List, [], ◌∷◌, append-nil}
-use mathlib.Core.Option.{Option, none, some}
+use Rattle.std.specs.Prelude.{Option, None, Some}
 use Prim.Native.Nat.{ℕ, ◌+◌}
 use lib.IntN.{ℤ}
 use lib.ListN.{drop}
@@ -35,10 +35,10 @@ module _ (program : List ℤ) (S : Cells) where
 
   counted-sound : (kept : List ℤ) (own : Option (List ℤ)) (xs : List Part) → counted program kept own S ≡ got xs → CountedAre program kept S own xs
   unfolding counted own_parts
-  counted-sound kept none xs e =
+  counted-sound kept None xs e =
       step (kept_parts program S (positions kept Values)) _ e λ ys e1 k1.
       rw (← got-inj k1, append-nil ys) (kept_only (kept-sound (positions kept Values) ys e1))
-  counted-sound kept (some p) xs e =
+  counted-sound kept (Some p) xs e =
       step (constraint_at S p) _ e λ zs e1 k1.
       step (kept_parts program S (positions kept Values)) _ k1 λ ys e2 k2.
       rw (← got-inj k2) (with_own (kept-sound (positions kept Values) ys e2) ((constraint-iff S p zs).0 e1))

@@ -3,7 +3,7 @@ use mathlib.Core.Path.{◌≡◌, refl, sym, ◌∙◌}
 use mathlib.Core.Logic.{◌⊎◌, inl, inr}
 use mathlib.Core.Bool.{true}
 use mathlib.Core.List.{List}
-use mathlib.Core.Option.{some}
+use Rattle.std.specs.Prelude.{Some}
 use Prim.Native.Nat.{ℕ, ◌≤◌, ◌<◌}
 use native.Mathlib.Omega.{arith}
 use native.Mathlib.Decide.{ℕ_discrete}
@@ -53,7 +53,7 @@ near-refl asked S z = record {
 }
 
 module _ (asked : Asked) (S Z : Cells) (l : ℕ) (n : ℤ) (near : Near asked S Z) (small : l < 576)
-    (same : cell_at Z l ≡ cell_at S l) (kind : OfKind (cell_at S l) n) (free : asked.target ≡ some l → ⊥) where
+    (same : cell_at Z l ≡ cell_at S l) (kind : OfKind (cell_at S l) n) (free : asked.target ≡ Some l → ⊥) where
   abbrev c : Cell
   c = cell (cell_at Z l).kind n
 
@@ -79,7 +79,7 @@ module _ (asked : Asked) (S Z : Cells) (l : ℕ) (n : ℤ) (near : Near asked S 
       moves k (yes e) = rw e (inr (n, (kind, read_same Z l c near.sized small ∙ rw same)))
       moves k (no m) = rw (read-other Z l k c m) (near.effect.cells k)
 
-      spares : (k : ℕ) → asked.target ≡ some k → Dec (k ≡ l) → cell_at (put_cell Z l c) k ≡ cell_at S k
+      spares : (k : ℕ) → asked.target ≡ Some k → Dec (k ≡ l) → cell_at (put_cell Z l c) k ≡ cell_at S k
       spares k e (yes i) = absurd (free (rw i at e))
       spares k e (no m) = read-other Z l k c m ∙ near.effect.target k e
 

@@ -9,7 +9,8 @@ use lib.IntN.{ℤ, pos}
 use Rattle.words.specs.Words.{number_at}
 use Rattle.words.specs.Answer.{stop}
 use Rattle.words.proofs.Laws.{number-first}
-use Rattle.program.specs.Forms.{expression_depth, branch, loop, verb_of}
+use Rattle.program.specs.Forms.{expression_depth, verb_of}
+use Rattle.program.specs.declared.Verb.TheVariants.{If as branch, While as loop}
 use Rattle.program.specs.Grammar.{Expression, Takes}
 use Rattle.program.proofs.FormLaws.{number_of_verb}
 use Rattle.rules.specs.State.{Fault}

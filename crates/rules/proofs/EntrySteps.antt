@@ -4,7 +4,7 @@ use Prim.Native.Nat.{ℕ, zero, suc, ◌<◌, ◌≤◌}
 use native.Mathlib.Omega.{arith}
 use mathlib.Core.Bool.{true, false, true≢false}
 use mathlib.Core.List.{List, [], ◌∷◌, Memᴰ as OneOf}
-use mathlib.Core.Option.{Option, none, some}
+use Rattle.std.specs.Prelude.{Option, None, Some}
 use lib.IntN.{ℤ, pos}
 use lib.ListN.{length, get_or}
 use Rattle.words.specs.Words.{number_at}
@@ -45,7 +45,7 @@ pub record Gave (program : List ℤ) (S : State) (ws s : List ℤ) (l : Left) : 
   pub rest : List ℤ
   pub gives : Gives S.cells s target prefix value S.cells
   pub phase : Phase program S.kept S.cells S.cells target prefix value now
-  pub settles : Settles program S.kept (asking none (some target) true) now ws cells rest
+  pub settles : Settles program S.kept (asking None (Some target) true) now ws cells rest
   pub leaving : l ≡ leaves cells S.kept rest 1
 
 -- an assignment writes no record before its identity phase
@@ -90,7 +90,7 @@ entries-move program x ws S l e sized s =
       now = g.now;
       gives = g.gives;
       phase = g.phase;
-      proposed = subst (λ (m : Left). Effect (asking none (some g.target) true) g.now m.state.cells) (sym g.leaving) (proposals-move program S.kept (asking none (some g.target) true) g.now ws g.cells g.rest (phase-sized sized g.phase) g.settles);
+      proposed = subst (λ (m : Left). Effect (asking None (Some g.target) true) g.now m.state.cells) (sym g.leaving) (proposals-move program S.kept (asking None (Some g.target) true) g.now ws g.cells g.rest (phase-sized sized g.phase) g.settles);
       kept = ap (λ m. m.state.kept) g.leaving;
     }
 
@@ -130,12 +130,12 @@ fails-number (Fails.not_needed a b c) = record { known = there 13 numbers (omega
 fails-number (Fails.not_met a b c d e g) = record { known = there 14 numbers (omega arith); least = omega arith; most = omega arith }
 
 -- where no C is stated, 15 is the only number before the proposal
-uncounted-number : {program kept : List ℤ} {S : Cells} {own : Option (List ℤ)} {f : Fault} → own ≡ none → Uncounted program kept S own f → Number f.number
+uncounted-number : {program kept : List ℤ} {S : Cells} {own : Option (List ℤ)} {f : Fault} → own ≡ None → Uncounted program kept S own f → Number f.number
 uncounted-number e (Uncounted.own m) = absurd (let z : ◌≡◌ {A = ℕ} 0 1 = cc in omega arith)
 uncounted-number e (Uncounted.kept a b c) = record { known = there 10 numbers (omega arith); least = omega arith; most = omega arith }
 
 unsettled-number : {program kept word : List ℤ} {asked : Asked} {S : Cells} {ws : List ℤ} {f : Fault}
-    → asked.own ≡ none → asked.room ≡ true → Unsettled program kept asked word S ws f → Number f.number
+    → asked.own ≡ None → asked.room ≡ true → Unsettled program kept asked word S ws f → Number f.number
 unsettled-number own room (Unsettled.uncounted u) = uncounted-number own u
 unsettled-number own room (Unsettled.no_room c r) = absurd (true≢false (sym room ∙ r))
 unsettled-number own room (Unsettled.turned-down c r f) = fails-number f
@@ -147,7 +147,7 @@ pub data Turned (program : List ℤ) (S : State) (ws x : List ℤ) : Fault → T
   by-phase : {n target : ℕ} {prefix : List ℕ} {v : Value} {N : Cells} → Gives S.cells (pos 1 ∷ x) target prefix v N
       → PhaseFails program S.kept S.cells target prefix v n → Turned program S ws x (refused n (pos 1 ∷ x))
   by-proposal : {target : ℕ} {prefix : List ℕ} {v : Value} {N Y : Cells} {f : Fault} → Gives S.cells (pos 1 ∷ x) target prefix v N
-      → Phase program S.kept S.cells N target prefix v Y → Unsettled program S.kept (asking none (some target) true) (pos 1 ∷ x) Y ws f → Turned program S ws x f
+      → Phase program S.kept S.cells N target prefix v Y → Unsettled program S.kept (asking None (Some target) true) (pos 1 ∷ x) Y ws f → Turned program S ws x f
 
 turned_by : {program : List ℤ} {S : State} {ws s x : List ℤ} {f : Fault} → s ≡ pos 1 ∷ x → Refused program S ws s f → Turned program S ws x f
 turned_by {x = x} q (Refused.f_value {p = p} m) = let i : p ≡ x = cc in by_value (rw i at m)

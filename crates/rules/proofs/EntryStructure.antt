@@ -7,7 +7,7 @@ use lib.IntN.{ℤ, pos}
 use lib.ListN.{length}
 use Rattle.words.specs.Words.{number_of}
 use Rattle.words.proofs.AnswerLaws.{got-inj}
-use Rattle.program.specs.Forms.{assign}
+use Rattle.program.specs.declared.Verb.TheVariants.{Assign as assign}
 use Rattle.program.specs.Grammar.{Takes}
 use Rattle.rules.specs.State.{State}
 use Rattle.rules.specs.Statements.{Left, do_simple}

@@ -14,7 +14,8 @@ use Rattle.words.proofs.AnswerLaws.{stop≢got, step}
 use Rattle.tables.specs.declared.Value.{Value}
 use Rattle.tables.specs.declared.Value.TheVariants.{Nil, Int}
 use Rattle.tables.specs.declared.Value.TheVariants.{Bool as Truth}
-use Rattle.program.specs.Forms.{assign, verb_of}
+use Rattle.program.specs.Forms.{verb_of}
+use Rattle.program.specs.declared.Verb.TheVariants.{Assign as assign}
 use Rattle.program.specs.Reading.{read_path, number}
 use Rattle.program.specs.Grammar.{Path, Expression, statement_of, Yields, Takes}
 use Rattle.program.proofs.NumberLaws.{number_read, number-of}

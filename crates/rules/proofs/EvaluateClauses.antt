@@ -13,7 +13,9 @@ use Rattle.words.proofs.AnswerLaws.{step, got-inj, stop≢got}
 use Rattle.tables.specs.declared.Value.{Value}
 use Rattle.tables.specs.declared.Value.TheVariants.{Nil, Bool as Truth, Int}
 use Rattle.tables.specs.Cells.{Cells}
-use Rattle.program.specs.Forms.{Form, a_nil, a_false, a_true, an_integer, a_path, an_operation, an_identity, no_form, form_of}
+use Rattle.program.specs.Forms.{form_of}
+use Rattle.program.specs.declared.Form.{Form}
+use Rattle.program.specs.declared.Form.TheVariants.{Nil as a_nil, False as a_false, True as a_true, Integer as an_integer, Path as a_path, Operation as an_operation, Identity as an_identity, Unknown as no_form}
 use Rattle.program.specs.Reading.{number, any_word}
 use Rattle.program.proofs.NumberLaws.{number_read, any-read}
 use Rattle.program.proofs.FormLaws.{number_of_form}

@@ -3,7 +3,7 @@ use mathlib.Core.Path.{◌≡◌, refl}
 use Prim.Native.Nat.{ℕ, zero, suc, ◌-◌}
 use mathlib.Core.Bool.{Bool, true, false, not, cond, ◌&&◌, ◌||◌, true≢false}
 use mathlib.Core.List.{List, [], ◌∷◌, ◌++◌}
-use mathlib.Core.Option.{Option, none, some}
+use Rattle.std.specs.Prelude.{Option, None, Some}
 use lib.Dec.{ltb, leb}
 use lib.IntN.{ℤ}
 use lib.ListN.{drop}
@@ -18,9 +18,11 @@ use Rattle.tables.specs.Cells.{Cells, cells}
 use Rattle.tables.specs.Records.{record_count, with_record}
 use Rattle.program.specs.Forms.{expression_depth}
 use Rattle.program.specs.Reading.{number, read_path, after}
+use Rattle.program.specs.declared.Operator.{Operator}
+use Rattle.program.specs.declared.Operator.TheVariants.{Plus, Minus, Times, Below, AtMost, Equal, Unequal, AtLeast, Above, And, Or, Unknown}
 use Rattle.rules.specs.State.{State, Res, refused, reads}
 use Rattle.rules.specs.Paths.{way_at}
-use Rattle.rules.specs.Evaluation.{Op, add, sub, mul, lt, le, eq, ne, ge, gt, and, or, no_op, kind_of, takes, ranged, made, apply, at, evaluate}
+use Rattle.rules.specs.Evaluation.{kind_of, takes, ranged, made, apply, at, evaluate}
 use Rattle.rules.specs.Constraints.{Part, constraint_at, fifteen, kept_at, kept_parts, own_parts, counted, all_hold, required_hold}
 use Rattle.rules.specs.Identities.{is_node, same_now, ties, names, frozen_by, class_of, clash_free, identity_phase}
 use Rattle.rules.specs.Proposals.{Asked, entries, proposal, entries_fit, applied, none?, settle}
@@ -44,22 +46,22 @@ module _ (P : ℕ → Type 0) where
   unfolding ranged
   ranged-fine nine z = ends-want 9 (fits z) _ nine λ c. ends-got tt
 
-  pub made-fine : (o : Op) → (o ≡ no_op → P 8) → P 9 → (a b : Value) → Ends Any P (made o a b)
+  pub made-fine : (o : Operator) → (o ≡ Unknown → P 8) → P 9 → (a b : Value) → Ends Any P (made o a b)
   unfolding made
-  made-fine add eight nine a b = ranged-fine nine _
-  made-fine sub eight nine a b = ranged-fine nine _
-  made-fine mul eight nine a b = ranged-fine nine _
-  made-fine lt eight nine a b = ends-got tt
-  made-fine le eight nine a b = ends-got tt
-  made-fine eq eight nine a b = ends-got tt
-  made-fine ne eight nine a b = ends-got tt
-  made-fine ge eight nine a b = ends-got tt
-  made-fine gt eight nine a b = ends-got tt
-  made-fine and eight nine a b = ends-got tt
-  made-fine or eight nine a b = ends-got tt
-  made-fine no_op eight nine a b = ends-stop (eight refl)
+  made-fine Plus eight nine a b = ranged-fine nine _
+  made-fine Minus eight nine a b = ranged-fine nine _
+  made-fine Times eight nine a b = ranged-fine nine _
+  made-fine Below eight nine a b = ends-got tt
+  made-fine AtMost eight nine a b = ends-got tt
+  made-fine Equal eight nine a b = ends-got tt
+  made-fine Unequal eight nine a b = ends-got tt
+  made-fine AtLeast eight nine a b = ends-got tt
+  made-fine Above eight nine a b = ends-got tt
+  made-fine And eight nine a b = ends-got tt
+  made-fine Or eight nine a b = ends-got tt
+  made-fine Unknown eight nine a b = ends-stop (eight refl)
 
-  pub apply-fine : P 8 → P 9 → (o : Op) (a b : Value) → Ends Any P (apply o a b)
+  pub apply-fine : P 8 → P 9 → (o : Operator) (a b : Value) → Ends Any P (apply o a b)
   unfolding apply
   apply-fine eight nine o a b = ends-want 8 (takes o (kind_of a) (kind_of b)) _ eight λ c. made-fine o (λ q. eight) nine a b
 
@@ -142,8 +144,8 @@ module _ (P : ℕ → Type 0) where
         value-fine : (target : ℕ) (Y : Cells) → Fine P Any (value_phase program S.kept p target Y ws)
         unfolding value_phase own_parts
         value-fine target Y =
-            ends-then (settle program S.kept (record { own = none; target = some target; room = true }) p Y ws) _
-            (settle-fine S.kept (record { own = none; target = some target; room = true }) p Y ws (λ e. absurd (true≢false e)) (λ Z. ends-got tt)) λ x u. ends-got tt
+            ends-then (settle program S.kept (record { own = None; target = Some target; room = true }) p Y ws) _
+            (settle-fine S.kept (record { own = None; target = Some target; room = true }) p Y ws (λ e. absurd (true≢false e)) (λ Z. ends-got tt)) λ x u. ends-got tt
 
         pub assign-fine : P 12 → P 13 → Fine P Any (evaluate expression_depth S.cells (after (read_path (drop 1 p)))) → Fine P Any (way_at S.cells (drop 1 p))
             → Fine P Any (ties program S.kept S.cells) → Fine P Any (do_assign program p S ws)
@@ -176,7 +178,7 @@ module _ (P : ℕ → Type 0) where
         pub constraint-fine : ((Z : Cells) → Fine P Any (constraint_at Z (drop 1 p))) → (keeps : Bool) → (keeps ≡ true → P 14) → Fine P Any (do_constraint keeps program p S ws)
         unfolding do_constraint own_parts
         constraint-fine h keeps fourteen =
-            ends-then (settle program S.kept (record { own = some (drop 1 p); target = none; room = cond keeps (has_room S.kept Values (position_of program p)) true }) p S.cells ws) _
-            (settle-fine S.kept (record { own = some (drop 1 p); target = none; room = cond keeps (has_room S.kept Values (position_of program p)) true }) p S.cells ws
+            ends-then (settle program S.kept (record { own = Some (drop 1 p); target = None; room = cond keeps (has_room S.kept Values (position_of program p)) true }) p S.cells ws) _
+            (settle-fine S.kept (record { own = Some (drop 1 p); target = None; room = cond keeps (has_room S.kept Values (position_of program p)) true }) p S.cells ws
             (room-met keeps (has_room S.kept Values (position_of program p)) fourteen) h) λ x u.
             ends-got tt

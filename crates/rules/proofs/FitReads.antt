@@ -11,6 +11,7 @@ use Rattle.words.specs.Words.{number_at}
 use Rattle.words.specs.Answer.{got}
 use Rattle.words.proofs.Laws.{number-cons}
 use Rattle.tables.specs.declared.Value.{Value}
+use Rattle.tables.specs.declared.Kind.{Kind}
 use Rattle.tables.specs.Sizes.{labels}
 use Rattle.tables.specs.Cells.{Cells}
 use Rattle.fit.specs.Fit.{Fit}
@@ -20,7 +21,7 @@ use Rattle.program.specs.Grammar.{Labels, Path, Expression, Parts, Constraint, T
 use Rattle.program.proofs.GrammarSound.{takes_none, takes-word, takes-as, takes_two}
 use Rattle.program.proofs.GrammarLaws.{path-complete, expression-complete, constraint-complete}
 use Rattle.rules.specs.Paths.{Way, way_at}
-use Rattle.rules.specs.Evaluation.{Kind, evaluate, kind}
+use Rattle.rules.specs.Evaluation.{evaluate, kind}
 use Rattle.rules.specs.Rules.Expressions.{HasField, Leads, here, by, Names, names, Holds, holds}
 use Rattle.rules.specs.Rules.Expressions.{Literal, e_literal, e_path, e_operation, e_same, e_differ, Within}
 use Rattle.rules.specs.Rules.Expressions.{t_literal, t_path, t_operation, KindWithin}

@@ -23,7 +23,8 @@ use Rattle.tables.specs.Records.{record_count}
 use Rattle.tables.proofs.SearchLaws.{cases}
 use Rattle.fit.specs.Fit.{Fit}
 use Rattle.fit.proofs.FitLaws.{fit_count}
-use Rattle.program.specs.Forms.{expression_depth, assign, new, verb_of}
+use Rattle.program.specs.Forms.{expression_depth, verb_of}
+use Rattle.program.specs.declared.Verb.TheVariants.{Assign as assign, New as new}
 use Rattle.program.specs.Grammar.{Fields}
 use Rattle.program.proofs.FormLaws.{verb-word}
 use Rattle.program.proofs.NumberLaws.{number-of}

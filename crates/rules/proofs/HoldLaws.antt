@@ -1,9 +1,9 @@
 -- What is kept still holds after a proposal, after always and once, and after an identity.
 -- Assumes nothing.
+use Rattle.std.specs.Prelude.{Option, Some}
 use mathlib.Core.Path.{◌≡◌, refl, sym, ap, ◌∙◌}
 use mathlib.Core.Bool.{true, false}
 use mathlib.Core.List.{List, [], ◌∷◌, ◌++◌}
-use mathlib.Core.Option.{some}
 use Prim.Native.Nat.{ℕ, ◌+◌, ◌<◌}
 use native.Mathlib.Omega.{arith}
 use lib.IntN.{ℤ}
@@ -13,7 +13,6 @@ use Rattle.words.specs.Answer.{got}
 use Rattle.words.proofs.AnswerLaws.{got-inj, step, step-on, tested}
 use Rattle.tables.specs.declared.Value.{Value}
 use Rattle.tables.specs.declared.Value.TheVariants.{Bool as Truth, Int}
-use Rattle.tables.specs.declared.Slot.{Slot}
 use Rattle.tables.specs.declared.Sort.{Sort}
 use Rattle.tables.specs.declared.Sort.TheVariants.{Values, Identities}
 use Rattle.tables.specs.Cells.{Cells}
@@ -39,7 +38,7 @@ use Rattle.rules.proofs.KeepLaws.{each-head, each_tail, kept-length, kept-other,
 
 -- ---- an identity after a proposal
 
-node_stays : {s z : Slot} {v : Value} → AlikeSlot s z → present s ≡ got v → is_node v ≡ true → present z ≡ got v
+node_stays : {s z : Option Value} {v : Value} → AlikeSlot s z → present s ≡ got v → is_node v ≡ true → present z ≡ got v
 unfolding is_node
 node_stays absents e n = e
 node_stays (held nils) e n = e
@@ -126,7 +125,7 @@ module _ (program kept : List ℤ) (asked : Asked) (word : List ℤ) (S : Cells)
       step (kept_parts program Z (positions kept Values)) _ k1 λ others e2 k2.
       values-hold program Z (positions kept Values) others e2 (each_left others mine (rw (got-inj k2) s.met))
 
-  pub settle-own : (p : List ℤ) → asked.own ≡ some p → ConstraintHolds Z p
+  pub settle-own : (p : List ℤ) → asked.own ≡ Some p → ConstraintHolds Z p
   unfolding counted own_parts
   settle-own p q =
       step (own_parts Z asked.own) _ still λ mine e1 k1.

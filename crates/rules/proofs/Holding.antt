@@ -10,7 +10,9 @@ use Rattle.words.specs.Answer.{got}
 use Rattle.words.proofs.AnswerLaws.{stop≢got, got-inj}
 use Rattle.tables.specs.declared.Sort.{Sort}
 use Rattle.tables.specs.declared.Sort.TheVariants.{Values, Identities}
-use Rattle.program.specs.Forms.{Verb, skip, assign, new, always, once, always_same, once_same, branch, loop, no_verb, verb_of}
+use Rattle.program.specs.Forms.{verb_of}
+use Rattle.program.specs.declared.Verb.{Verb}
+use Rattle.program.specs.declared.Verb.TheVariants.{Skip as skip, Assign as assign, New as new, Always as always, Once as once, AlwaysSame as always_same, OnceSame as once_same, If as branch, While as loop, Unknown as no_verb}
 use Rattle.program.specs.Where.{always_of}
 use Rattle.program.proofs.FormLaws.{verb-number}
 use Rattle.program.proofs.GrammarSound.{statement-sound}

@@ -1,4 +1,5 @@
 -- Kept identities hold after the identity phase. Assumes nothing.
+use Rattle.std.specs.Prelude.{None, Option, Some}
 use mathlib.Core.Path.{◌≡◌, refl, sym, ap, ◌∙◌}
 use mathlib.Core.Logic.{◌⊎◌, inl, inr}
 use mathlib.Core.Bool.{Bool, true, false}
@@ -10,8 +11,6 @@ use lib.ListN.{drop}
 use Rattle.words.specs.Answer.{got, want}
 use Rattle.words.proofs.AnswerLaws.{step, tested, either, got-inj, stop≢got}
 use Rattle.tables.specs.declared.Value.{Value}
-use Rattle.tables.specs.declared.Slot.{Slot}
-use Rattle.tables.specs.declared.Slot.TheVariants.{Absent, Has}
 use Rattle.tables.specs.declared.Sort.TheVariants.{Identities}
 use Rattle.tables.specs.Values.{Sound}
 use Rattle.tables.specs.Cells.{Cells}
@@ -39,25 +38,25 @@ pub record HoldsAt (S : Cells) (p : List ℤ) : Type 0 where
   pub value : Value
   pub left-way : way_at S p ≡ got left
   pub right-way : way_at S left.rest ≡ got right
-  pub left-has : slot_at S left.cell ≡ Has value
-  pub right-has : slot_at S right.cell ≡ Has value
+  pub left-has : slot_at S left.cell ≡ Some value
+  pub right-has : slot_at S right.cell ≡ Some value
   pub node : is_node value ≡ true
 
-present-is : (s : Slot) (v : Value) → present s ≡ got v → s ≡ Has v
-present-is (Has w) v e = ap Has (got-inj e)
-present-is Absent v e = stop≢got e
+present-is : (s : Option Value) (v : Value) → present s ≡ got v → s ≡ Some v
+present-is (Some w) v e = ap Some (got-inj e)
+present-is None v e = stop≢got e
 
 -- the value of an L is what the cell that it names holds
-pub value_of {ℓ} : {X : Type ℓ} (S : Cells) (p : List ℤ) (x : Value × List ℤ) → value_at S p ≡ got x → ((w : Way) → way_at S p ≡ got w → slot_at S w.cell ≡ Has x.0 → x.1 ≡ w.rest → X) → X
+pub value_of {ℓ} : {X : Type ℓ} (S : Cells) (p : List ℤ) (x : Value × List ℤ) → value_at S p ≡ got x → ((w : Way) → way_at S p ≡ got w → slot_at S w.cell ≡ Some x.0 → x.1 ≡ w.rest → X) → X
 unfolding value_at
 value_of S p x e k =
     step (way_at S p) _ e λ w e1 k1.
     step (or_refuse 7 p (present (slot_at S w.cell))) _ k1 λ v e2 k2.
     k w e1
-    (present-is (slot_at S w.cell) v (or-refuse-is 7 p (present (slot_at S w.cell)) v e2) ∙ ap Has (ap (λ (y : Value × List ℤ). y.0) (got-inj k2)))
+    (present-is (slot_at S w.cell) v (or-refuse-is 7 p (present (slot_at S w.cell)) v e2) ∙ ap Some (ap (λ (y : Value × List ℤ). y.0) (got-inj k2)))
     (sym (ap (λ (y : Value × List ℤ). y.1) (got-inj k2)))
 
-pub value-from : (S : Cells) (p : List ℤ) (w : Way) (v : Value) → way_at S p ≡ got w → slot_at S w.cell ≡ Has v → value_at S p ≡ got (v, w.rest)
+pub value-from : (S : Cells) (p : List ℤ) (w : Way) (v : Value) → way_at S p ≡ got w → slot_at S w.cell ≡ Some v → value_at S p ≡ got (v, w.rest)
 unfolding value_at
 value-from S p w v e h = rw (e, h)
 
@@ -155,7 +154,7 @@ module _ (program kept : List ℤ) (before now : Cells) (word : List ℤ) (targe
       let q : a.0 ≡ t = got-inj (sym a.1.1 ∙ e) in
       rw q at a.1.0
 
-  in_class : (l : ℕ) → Relevant facts.tied target l → slot_at Z l ≡ Has v
+  in_class : (l : ℕ) → Relevant facts.tied target l → slot_at Z l ≡ Some v
   in_class = class-slot program kept before now word target prefix v facts.tied fit ready reached sound facts.followed Z answered
 
   out-of-class : (l : ℕ) → (Relevant facts.tied target l → ⊥) → slot_at Z l ≡ slot_at now l

@@ -1,4 +1,5 @@
 -- L == L in the paper's own words: in fit tables it is true exactly where both sides hold one value. Assumes nothing.
+use Rattle.std.specs.Prelude.{Some}
 use mathlib.Core.Path.{◌≡◌, refl, sym, ap, ◌∙◌}
 use mathlib.Core.Logic.{◌↔◌}
 use mathlib.Core.Bool.{Bool, true, false}
@@ -10,12 +11,11 @@ use Rattle.words.specs.Answer.{got}
 use Rattle.words.proofs.AnswerLaws.{got-inj, step}
 use Rattle.tables.specs.declared.Value.{Value}
 use Rattle.tables.specs.declared.Value.TheVariants.{Nil, Bool as Truth, Int, Ref}
-use Rattle.tables.specs.declared.Slot.TheVariants.{Has}
 use Rattle.tables.specs.Values.{cell_of, Sound}
 use Rattle.tables.specs.Cells.{Cells}
 use Rattle.fit.specs.Fit.{Fit}
 use Rattle.fit.proofs.FitLaws.{fit_count, fit-ref}
-use Rattle.program.specs.Forms.{an_identity}
+use Rattle.program.specs.declared.Form.TheVariants.{Identity as an_identity}
 use Rattle.rules.specs.State.{slot_at}
 use Rattle.rules.specs.Paths.{value_at}
 use Rattle.rules.specs.Evaluation.{same, evaluate_form, evaluate}
@@ -28,7 +28,7 @@ use Rattle.rules.proofs.EvaluationLaws.{evaluate-opens, evaluate-complete}
 
 module _ (S : Cells) (fit : Fit S) where
   -- what a cell of fit tables holds is a value that a cell can hold
-  pub slot-sound : (l : ℕ) (v : Value) → slot_at S l ≡ Has v → Sound v
+  pub slot-sound : (l : ℕ) (v : Value) → slot_at S l ≡ Some v → Sound v
   unfolding slot_at
   slot-sound l Nil e = tt
   slot-sound l (Truth b) e = tt

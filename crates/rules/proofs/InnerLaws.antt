@@ -9,6 +9,7 @@ use lib.ListN.{length}
 use Rattle.words.specs.Answer.{got}
 use Rattle.words.proofs.AnswerLaws.{got-inj, step}
 use Rattle.tables.specs.declared.Value.{Value}
+use Rattle.tables.specs.declared.Kind.{Kind}
 use Rattle.tables.specs.Cells.{Cells}
 use Rattle.fit.specs.Fit.{Fit}
 use Rattle.program.specs.Forms.{expression_depth}
@@ -16,7 +17,6 @@ use Rattle.program.specs.Reading.{read_path, read_paths, read_expression, read_p
 use Rattle.program.proofs.LengthLaws.{Part, part-refl, part-drop, part-trans, path-uses, expression-uses, parts-keep, fields_keep}
 use Rattle.program.proofs.OpenLaws.{path-opens, operation-opens, paths-open, identity-opens, parts-open, constraint-opens, fields_open}
 use Rattle.rules.specs.State.{Fault, refused}
-use Rattle.rules.specs.Evaluation.{Kind}
 use Rattle.rules.specs.Rules.Expressions.{Holds, holds, Lost, Comes, typed, valued, Meets, m_path, m_left, m_right, m_here, m_one, m_other, Untested, meets, no_boolean}
 use Rattle.rules.specs.Rules.Constraints.{PartIs, PartMeets, PartsMeet, ConstraintMeets}
 use Rattle.rules.specs.Rules.Identities.{Unsame}

@@ -14,7 +14,8 @@ use Rattle.tables.specs.Sizes.{variables, most_fields}
 use Rattle.tables.specs.Cells.{Cells}
 use Rattle.tables.specs.Kept.{kept_count, position_at}
 use Rattle.program.specs.Forms.{expression_depth}
-use Rattle.program.specs.Forms.{Verb, skip, assign, new, always, once, always_same, once_same, branch, loop, no_verb}
+use Rattle.program.specs.declared.Verb.{Verb}
+use Rattle.program.specs.declared.Verb.TheVariants.{Skip as skip, Assign as assign, New as new, Always as always, Once as once, AlwaysSame as always_same, OnceSame as once_same, If as branch, While as loop, Unknown as no_verb}
 use Rattle.program.specs.Grammar.{statement_of, Yields, Expression}
 use Rattle.program.specs.Reading.{number, read_path, after}
 use Rattle.program.proofs.FormLaws.{number_of_verb}

@@ -11,15 +11,19 @@ use Rattle.words.specs.Answer.{got, stop, ◌>>=◌, ◌>>◌, want}
 use Rattle.words.proofs.AnswerLaws.{step, step-on, got-inj, stop≢got}
 use Rattle.tables.specs.declared.Value.{Value}
 use Rattle.tables.specs.declared.Value.TheVariants.{Int}
+use Rattle.tables.specs.declared.Kind.{Kind}
+use Rattle.tables.specs.declared.Kind.TheVariants.{Bool as is_bool, Int as is_int}
 use Rattle.tables.specs.Cells.{Cells}
-use Rattle.program.specs.Forms.{Form, a_nil, a_false, a_true, an_integer, a_path, an_operation, an_identity, no_form, form_of}
+use Rattle.program.specs.Forms.{form_of}
+use Rattle.program.specs.declared.Form.{Form}
+use Rattle.program.specs.declared.Form.TheVariants.{Nil as a_nil, False as a_false, True as a_true, Integer as an_integer, Path as a_path, Operation as an_operation, Identity as an_identity, Unknown as no_form}
 use Rattle.program.specs.Reading.{Reading, number, any_word}
 use Rattle.program.proofs.NumberLaws.{number_read, any-read}
 use Rattle.program.proofs.FormLaws.{number_of_form, form-number}
 use Rattle.program.proofs.LengthLaws.{Part, part-drop, part-trans}
 use Rattle.rules.specs.State.{Res, refuse, reads}
 use Rattle.rules.specs.Paths.{value_at}
-use Rattle.rules.specs.Evaluation.{Kind, is_bool, is_int, kind_of, op_of, takes, gives, at, evaluate_form, evaluate, kind_form, kind}
+use Rattle.rules.specs.Evaluation.{kind_of, op_of, takes, gives, at, evaluate_form, evaluate, kind_form, kind}
 use Rattle.rules.proofs.WordSteps.{reads-got, form-is, apart}
 use Rattle.rules.proofs.EvaluateClauses.{value-part}
 

@@ -13,13 +13,19 @@ use Rattle.words.specs.Answer.{got, stop, want}
 use Rattle.words.proofs.AnswerLaws.{got-inj, stop≢got, step, step-on, tested}
 use Rattle.tables.specs.declared.Value.{Value}
 use Rattle.tables.specs.declared.Value.TheVariants.{Nil, Bool as Truth, Int, Ref}
+use Rattle.tables.specs.declared.Kind.{Kind}
+use Rattle.tables.specs.declared.Kind.TheVariants.{Bool as is_bool, Int as is_int}
 use Rattle.tables.specs.Cells.{Cells}
 use Rattle.program.specs.Forms.{operators}
-use Rattle.program.specs.Forms.{Form, a_nil, a_false, a_true, an_integer, a_path, an_operation, an_identity, no_form, form_of}
+use Rattle.program.specs.Forms.{form_of}
+use Rattle.program.specs.declared.Form.{Form}
+use Rattle.program.specs.declared.Form.TheVariants.{Nil as a_nil, False as a_false, True as a_true, Integer as an_integer, Path as a_path, Operation as an_operation, Identity as an_identity, Unknown as no_form}
 use Rattle.program.specs.Reading.{number, any_word}
+use Rattle.program.specs.declared.Operator.{Operator}
+use Rattle.program.specs.declared.Operator.TheVariants.{Plus, Minus, Times, Below, AtMost, Equal, Unequal, AtLeast, Above, And, Or, Unknown}
 use Rattle.rules.specs.State.{Res, reads}
 use Rattle.rules.specs.Paths.{value_at}
-use Rattle.rules.specs.Evaluation.{Kind, is_bool, is_int, kind_of, bool_of, int_of, Op, add, sub, mul, lt, le, eq, ne, ge, gt, and, or, no_op, op_of}
+use Rattle.rules.specs.Evaluation.{kind_of, bool_of, int_of, op_of}
 use Rattle.rules.specs.Evaluation.{takes, gives, at, ranged, made, apply, evaluate_form, evaluate, kind_form, kind}
 use Rattle.rules.specs.Constraints.{satisfies}
 use Rattle.rules.specs.Steps.Evaluation.{ComesTo, value, range}
@@ -35,29 +41,29 @@ unfolding ranged
 ranged-kind z e = tested 9 (fits z) _ e λ c k. ap kind_of (sym (got-inj k))
 
 -- a value that an operator makes is of the kind that it gives
-made-kind : (o : Op) (a b : Value) {v : Value} → made o a b ≡ got v → kind_of v ≡ gives o
+made-kind : (o : Operator) (a b : Value) {v : Value} → made o a b ≡ got v → kind_of v ≡ gives o
 unfolding made gives
-made-kind add a b e = ranged-kind (int_of a +ℤ int_of b) e
-made-kind sub a b e = ranged-kind (int_of a -ℤ int_of b) e
-made-kind mul a b e = ranged-kind (int_of a *ℤ int_of b) e
-made-kind lt a b e = ap kind_of (sym (got-inj e))
-made-kind le a b e = ap kind_of (sym (got-inj e))
-made-kind eq a b e = ap kind_of (sym (got-inj e))
-made-kind ne a b e = ap kind_of (sym (got-inj e))
-made-kind ge a b e = ap kind_of (sym (got-inj e))
-made-kind gt a b e = ap kind_of (sym (got-inj e))
-made-kind and a b e = ap kind_of (sym (got-inj e))
-made-kind or a b e = ap kind_of (sym (got-inj e))
-made-kind no_op a b e = stop≢got e
+made-kind Plus a b e = ranged-kind (int_of a +ℤ int_of b) e
+made-kind Minus a b e = ranged-kind (int_of a -ℤ int_of b) e
+made-kind Times a b e = ranged-kind (int_of a *ℤ int_of b) e
+made-kind Below a b e = ap kind_of (sym (got-inj e))
+made-kind AtMost a b e = ap kind_of (sym (got-inj e))
+made-kind Equal a b e = ap kind_of (sym (got-inj e))
+made-kind Unequal a b e = ap kind_of (sym (got-inj e))
+made-kind AtLeast a b e = ap kind_of (sym (got-inj e))
+made-kind Above a b e = ap kind_of (sym (got-inj e))
+made-kind And a b e = ap kind_of (sym (got-inj e))
+made-kind Or a b e = ap kind_of (sym (got-inj e))
+made-kind Unknown a b e = stop≢got e
 
-some-op : (o : Op) (a b : Kind) → takes o a b ≡ true → o ≡ no_op → ◌≡◌ {A = ℕ} 8 9
+some-op : (o : Operator) (a b : Kind) → takes o a b ≡ true → o ≡ Unknown → ◌≡◌ {A = ℕ} 8 9
 unfolding takes
 some-op o a b t q =
     let c : false ≡ true = rw q at t in
     let z : ◌≡◌ {A = ℕ} 0 1 = cc in
     omega arith
 
-module _ (o : Op) (a b : Value) (t : takes o (kind_of a) (kind_of b) ≡ true) where
+module _ (o : Operator) (a b : Value) (t : takes o (kind_of a) (kind_of b) ≡ true) where
   apply-kind : {v : Value} → apply o a b ≡ got v → kind_of v ≡ gives o
   unfolding apply
   apply-kind e = made-kind o a b (rw t at e)

@@ -10,14 +10,17 @@ use Rattle.words.specs.Words.{number_at}
 use Rattle.words.specs.Answer.{got, stop, want}
 use Rattle.words.proofs.AnswerLaws.{stop-inj, stop≢got}
 use Rattle.tables.specs.Cells.{Cells}
+use Rattle.tables.specs.declared.Kind.{Kind}
 use Rattle.tables.proofs.SearchLaws.{cases}
-use Rattle.program.specs.Forms.{operators, Form, a_nil, a_false, a_true, an_integer, a_path, an_operation, an_identity, no_form, form_of}
+use Rattle.program.specs.Forms.{operators, form_of}
+use Rattle.program.specs.declared.Form.{Form}
+use Rattle.program.specs.declared.Form.TheVariants.{Nil as a_nil, False as a_false, True as a_true, Integer as an_integer, Path as a_path, Operation as an_operation, Identity as an_identity, Unknown as no_form}
 use Rattle.program.specs.Reading.{any_word}
 use Rattle.program.proofs.NumberLaws.{number-of}
 use Rattle.program.proofs.FormLaws.{number_of_form}
 use Rattle.rules.specs.State.{Fault, Res, reads}
 use Rattle.rules.specs.Paths.{value_at}
-use Rattle.rules.specs.Evaluation.{Kind, op_of, takes, at, kind_form, kind}
+use Rattle.rules.specs.Evaluation.{op_of, takes, at, kind_form, kind}
 use Rattle.rules.specs.Rules.Operators.{Gives}
 use Rattle.rules.specs.Rules.Expressions.{KindWithin, typed, Meets, m_path, m_left, m_right, m_here, kinds}
 use Rattle.rules.proofs.WordSteps.{form-words, apart}

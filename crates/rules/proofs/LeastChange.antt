@@ -1,4 +1,5 @@
 -- The identity phase changes least. Assumes nothing.
+use Rattle.std.specs.Prelude.{Some}
 use mathlib.Core.Path.{◌≡◌, sym, ap, ◌∙◌}
 use mathlib.Core.Bool.{Bool, true, false, not, ◌||◌}
 use mathlib.Core.List.{List, ◌++◌}
@@ -8,7 +9,6 @@ use lib.IntN.{ℤ}
 use Rattle.words.specs.Answer.{got, ◌>>◌, want}
 use Rattle.words.proofs.AnswerLaws.{got-inj, stop-inj, stop≢got}
 use Rattle.tables.specs.declared.Value.{Value}
-use Rattle.tables.specs.declared.Slot.TheVariants.{Has}
 use Rattle.tables.specs.Values.{cell_of, Sound}
 use Rattle.tables.specs.Cells.{Cells, cell_at}
 use Rattle.fit.specs.Fit.{Fit}
@@ -24,8 +24,8 @@ use Rattle.rules.proofs.PhaseLaws.{phase-iff, frozen-iff, names-iff, clash-iff, 
 use Rattle.rules.proofs.ReadyLaws.{target_below, ends-below, tie-inside, frozen-inside, ready-sized, ready-slot}
 
 -- any table that satisfies the identities and has the value at the target has it at every cell of the class
-pub forced : (ts : List Tie) (target : ℕ) (v : Value) (Y : Cells) → Satisfies Y ts → slot_at Y target ≡ Has v → (l : ℕ) → Relevant ts target l → slot_at Y l ≡ Has v
-forced ts target v Y s h l r = (tied-carries (λ k. slot_at Y k ≡ Has v) ts (λ t m. (λ a. sym (s t m) ∙ a, λ b. s t m ∙ b)) r).0 h
+pub forced : (ts : List Tie) (target : ℕ) (v : Value) (Y : Cells) → Satisfies Y ts → slot_at Y target ≡ Some v → (l : ℕ) → Relevant ts target l → slot_at Y l ≡ Some v
+forced ts target v Y s h l r = (tied-carries (λ k. slot_at Y k ≡ Some v) ts (λ t m. (λ a. sym (s t m) ∙ a, λ b. s t m ∙ b)) r).0 h
 
 module _ (program kept : List ℤ) (before now : Cells) (word : List ℤ) (target : ℕ) (prefix : List ℕ) (v : Value) (ts : List Tie)
     (fit : Fit before) (ready : Ready before now) (reached : Target before target prefix) (sound : Sound v) (followed : ties program kept before ≡ got ts) where
@@ -39,7 +39,7 @@ module _ (program kept : List ℤ) (before now : Cells) (word : List ℤ) (targe
 
   -- the plain facts of an answer, with these ties
   record Facts (Z : Cells) : Type 0 where
-    free : (l : ℕ) → Relevant ts target l → Frozen prefix ts l → slot_at before l ≡ Has v
+    free : (l : ℕ) → Relevant ts target l → Frozen prefix ts l → slot_at before l ≡ Some v
     written : Z ≡ put_all now (class_of ts target) v
 
   facts : (Z : Cells) → phase ≡ got Z → Facts Z
@@ -52,7 +52,7 @@ module _ (program kept : List ℤ) (before now : Cells) (word : List ℤ) (targe
   phase-written Z e = (facts Z e).written
 
   -- where the phase answers: every cell, by whether it is in the class
-  pub class-slot : (Z : Cells) → identity_phase program kept before now word target prefix v ≡ got Z → (l : ℕ) → Relevant ts target l → slot_at Z l ≡ Has v
+  pub class-slot : (Z : Cells) → identity_phase program kept before now word target prefix v ≡ got Z → (l : ℕ) → Relevant ts target l → slot_at Z l ≡ Some v
   class-slot Z e l r = rw (facts Z e).written
       (put-all-slot v now (class_of ts target) l sound (ready-sized before fit ready) (tied_below ts (ends-below program kept before ts followed) r (target_below before reached)) ((class-iff ts target l).1 r))
 

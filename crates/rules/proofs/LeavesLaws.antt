@@ -15,7 +15,8 @@ use Rattle.tables.specs.Sizes.{variables, most_fields, most_records}
 use Rattle.tables.specs.Cells.{Cells, cells}
 use Rattle.tables.specs.Records.{record_count, with_record}
 use Rattle.program.specs.Forms.{expression_depth}
-use Rattle.program.specs.Forms.{Verb, skip, assign, new, always, once, always_same, once_same, branch, loop, no_verb}
+use Rattle.program.specs.declared.Verb.{Verb}
+use Rattle.program.specs.declared.Verb.TheVariants.{Skip as skip, Assign as assign, New as new, Always as always, Once as once, AlwaysSame as always_same, OnceSame as once_same, If as branch, While as loop, Unknown as no_verb}
 use Rattle.program.specs.Reading.{number, read_path, after}
 use Rattle.program.proofs.LengthLaws.{Part, part-refl, part-trans, part-drop}
 use Rattle.rules.specs.State.{State, refused, reads}

@@ -1,4 +1,5 @@
 -- Paths that lead nowhere: `way_at` and `value_at` stop with 7 exactly where the rules say so. Assumes nothing.
+use Rattle.std.specs.Prelude.{None, Option, Some}
 use mathlib.Core.Path.{◌≡◌, refl, sym, ◌∙◌}
 use mathlib.Core.List.{List, ◌∷◌}
 use Prim.Native.Nat.{◌-◌}
@@ -6,8 +7,6 @@ use native.Mathlib.Omega.{arith}
 use lib.IntN.{ℤ, pos}
 use Rattle.words.specs.Answer.{stop}
 use Rattle.words.proofs.AnswerLaws.{stop≢got, either}
-use Rattle.tables.specs.declared.Slot.{Slot}
-use Rattle.tables.specs.declared.Slot.TheVariants.{Absent, Has}
 use Rattle.tables.specs.Sizes.{variables}
 use Rattle.tables.specs.Cells.{Cells}
 use Rattle.program.specs.Forms.{most_steps}
@@ -17,10 +16,11 @@ use Rattle.rules.specs.Paths.{follow, way_at, value_at}
 use Rattle.rules.specs.Rules.Expressions.{Astray, astray, Lost, nowhere, absent}
 use Rattle.rules.proofs.NameLaws.{follow-sound, leads-complete, names-iff}
 use Rattle.rules.proofs.StopLaws.{stops_then, stopped, missed, stopped-number}
+use Rattle.tables.specs.declared.Value.{Value}
 
-present-stop : {u : Unit {0}} (s : Slot) → present s ≡ stop u → s ≡ Absent
-present-stop (Has v) e = stop≢got (sym e)
-present-stop Absent e = refl
+present-stop : {u : Unit {0}} (s : Option Value) → present s ≡ stop u → s ≡ None
+present-stop (Some v) e = stop≢got (sym e)
+present-stop None e = refl
 
 module _ (S : Cells) where
   pub astray-sound : (p : List ℤ) (f : Fault) → way_at S p ≡ stop f → (f.number ≡ 2 → ⊥) → (refused 7 p ≡ f) × Astray S p

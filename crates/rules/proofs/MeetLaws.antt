@@ -10,15 +10,18 @@ use Rattle.words.specs.Words.{number_at}
 use Rattle.words.specs.Answer.{got, stop}
 use Rattle.words.proofs.AnswerLaws.{stop-inj, stop≢got, either}
 use Rattle.tables.specs.declared.Value.{Value}
+use Rattle.tables.specs.declared.Kind.{Kind}
 use Rattle.tables.specs.Cells.{Cells}
 use Rattle.tables.proofs.SearchLaws.{cases}
-use Rattle.program.specs.Forms.{operators, Form, a_nil, a_false, a_true, an_integer, a_path, an_operation, an_identity, no_form, form_of}
+use Rattle.program.specs.Forms.{operators, form_of}
+use Rattle.program.specs.declared.Form.{Form}
+use Rattle.program.specs.declared.Form.TheVariants.{Nil as a_nil, False as a_false, True as a_true, Integer as an_integer, Path as a_path, Operation as an_operation, Identity as an_identity, Unknown as no_form}
 use Rattle.program.specs.Reading.{any_word}
 use Rattle.program.proofs.NumberLaws.{number-of}
 use Rattle.program.proofs.FormLaws.{number_of_form}
 use Rattle.rules.specs.State.{Fault, Res, reads}
 use Rattle.rules.specs.Paths.{value_at}
-use Rattle.rules.specs.Evaluation.{Kind, kind_of, op_of, takes, apply, at, evaluate_form, evaluate}
+use Rattle.rules.specs.Evaluation.{kind_of, op_of, takes, apply, at, evaluate_form, evaluate}
 use Rattle.rules.specs.Rules.Operators.{Gives, Makes}
 use Rattle.rules.specs.Rules.Expressions.{Within, valued, Meets, m_path, m_left, m_right, m_here, m_one, m_other, kinds, range}
 use Rattle.rules.proofs.WordSteps.{form-words, apart}

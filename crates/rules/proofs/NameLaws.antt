@@ -1,4 +1,5 @@
 -- Paths: the definitions `follow`, `way_at` and `value_at` say the same as the rules `Leads`, `Names` and `Holds`. Assumes nothing.
+use Rattle.std.specs.Prelude.{None, Option, Some}
 use mathlib.Core.Path.{◌≡◌, refl, sym, ap, ◌∙◌}
 use mathlib.Core.Logic.{◌≢◌, ◌↔◌}
 use mathlib.Core.Bool.{Bool}
@@ -15,10 +16,6 @@ use Rattle.words.specs.Answer.{got}
 use Rattle.words.proofs.AnswerLaws.{got-inj, stop≢got, step}
 use Rattle.tables.specs.declared.Value.{Value}
 use Rattle.tables.specs.declared.Value.TheVariants.{Nil, Bool as Truth, Int, Ref}
-use Rattle.tables.specs.declared.Slot.{Slot}
-use Rattle.tables.specs.declared.Slot.TheVariants.{Absent, Has}
-use Rattle.tables.specs.declared.Found.{Found}
-use Rattle.tables.specs.declared.Found.TheVariants.{At, Nothing}
 use Rattle.tables.specs.Sizes.{variables, field_location}
 use Rattle.tables.specs.Cells.{Cells}
 use Rattle.tables.specs.Records.{field_count, label_at, field_with}
@@ -44,19 +41,19 @@ module _ (heap : List ℤ) (r label : ℕ) where
       let e : f + 1 ≡ suc f = omega arith in
       rw e at (seeking-goes-on (seeking-at f (omega arith) (λ g m. h g (omega arith))) (omega arith) (ne_eqb (label_at heap r f) label (h f (omega arith))))
 
-  pub field-complete : {l : ℕ} → HasField heap r label l → field_with heap r label ≡ At l
+  pub field-complete : {l : ℕ} → HasField heap r label l → field_with heap r label ≡ Some l
   field-complete (HasField.field f used is first) = sym (find-hits heap r label f (seeking-at f (omega arith) first) used is)
 
   -- the search from f on, with `left` places to go
-  search-sound : (left f : ℕ) {l : ℕ} → left + f ≡ field_count heap r → ((g : ℕ) → g < f → label_at heap r g ≢ label) → field_with heap r label ≡ At l → HasField heap r label l
+  search-sound : (left f : ℕ) {l : ℕ} → left + f ≡ field_count heap r → ((g : ℕ) → g < f → label_at heap r g ≢ label) → field_with heap r label ≡ Some l → HasField heap r label l
   search-sound zero f {l} s h e =
-      let c : Nothing ≡ At l = find-ends heap r label f (seeking-at f (omega arith) h) (omega arith) ∙ e in
+      let c : None ≡ Some l = find-ends heap r label f (seeking-at f (omega arith) h) (omega arith) ∙ e in
       absurd (let z : ◌≡◌ {A = ℕ} 0 1 = cc in omega arith)
   search-sound (suc left) f {l} s h e = go (ℕ_discrete (label_at heap r f) label) (λ k. search-sound left (suc f) (omega arith) k e)
     where
       go : Dec (label_at heap r f ≡ label) → (((g : ℕ) → g < suc f → label_at heap r g ≢ label) → HasField heap r label l) → HasField heap r label l
       go (yes y) ih =
-          let c : At (field_location r f) ≡ At l = find-hits heap r label f (seeking-at f (omega arith) h) (omega arith) y ∙ e in
+          let c : Some (field_location r f) ≡ Some l = find-hits heap r label f (seeking-at f (omega arith) h) (omega arith) y ∙ e in
           let i : field_location r f ≡ l = cc in
           rw (← i) (HasField.field f (omega arith) y h)
       go (no n) ih = ih (λ g m q. last g m q (ℕ_discrete g f))
@@ -66,21 +63,21 @@ module _ (heap : List ℤ) (r label : ℕ) where
           last g m q (no i) = h g (omega arith) q
 
   -- the field that is found is the first with the label
-  pub field-iff : (l : ℕ) → (field_with heap r label ≡ At l) ↔ HasField heap r label l
+  pub field-iff : (l : ℕ) → (field_with heap r label ≡ Some l) ↔ HasField heap r label l
   field-iff l = (search-sound (field_count heap r) 0 (omega arith) (λ g m. absurd (omega arith)), field-complete)
 
 -- ---- paths
 
-a-record : {r : ℕ} (s : Slot) → a_record s ≡ got r → s ≡ Has (Ref r)
-a-record (Has (Ref r)) e = ap (λ (q : ℕ). Has (Ref q)) (got-inj e)
-a-record (Has Nil) e = stop≢got e
-a-record (Has (Truth b)) e = stop≢got e
-a-record (Has (Int n)) e = stop≢got e
-a-record Absent e = stop≢got e
+a-record : {r : ℕ} (s : Option Value) → a_record s ≡ got r → s ≡ Some (Ref r)
+a-record (Some (Ref r)) e = ap (λ (q : ℕ). Some (Ref q)) (got-inj e)
+a-record (Some Nil) e = stop≢got e
+a-record (Some (Truth b)) e = stop≢got e
+a-record (Some (Int n)) e = stop≢got e
+a-record None e = stop≢got e
 
-a-field : {l : ℕ} (f : Found) → a_field f ≡ got l → f ≡ At l
-a-field (At l) e = ap At (got-inj e)
-a-field Nothing e = stop≢got e
+a-field : {l : ℕ} (f : Option ℕ) → a_field f ≡ got l → f ≡ Some l
+a-field (Some l) e = ap Some (got-inj e)
+a-field None e = stop≢got e
 
 module _ (S : Cells) where
   pub follow-sound : (n l : ℕ) (p : List ℤ) (x : ℕ × List ℕ) → follow S n l p ≡ got x → Leads S l n p x.0 x.1

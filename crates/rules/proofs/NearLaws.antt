@@ -2,7 +2,7 @@
 -- Assumes nothing.
 use mathlib.Core.Path.{◌≡◌, refl, sym, ap}
 use mathlib.Core.List.{List, [], ◌∷◌, ◌++◌}
-use mathlib.Core.Option.{Option, none, some}
+use Rattle.std.specs.Prelude.{Option, None, Some}
 use Prim.Native.Nat.{ℕ, zero, suc, ◌+◌}
 use lib.IntN.{ℤ}
 use lib.ListN.{drop}
@@ -78,8 +78,8 @@ module _ (asked : Asked) (S Z : Cells) (near : Near asked S Z) where
 
   own-again : (own : Option (List ℤ)) (ps : List Part) → own_parts S own ≡ got ps → Reads (own_parts Z own)
   unfolding own_parts
-  own-again none ps e = record { parts = []; is = refl }
-  own-again (some p) ps e = constraint-again p ps e
+  own-again None ps e = record { parts = []; is = refl }
+  own-again (Some p) ps e = constraint-again p ps e
 
   -- the constraints that count read after the proposal as before it
   pub counted-again : (program kept : List ℤ) (own : Option (List ℤ)) (ps : List Part) → counted program kept own S ≡ got ps → Reads (counted program kept own Z)

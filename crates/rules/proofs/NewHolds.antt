@@ -10,6 +10,7 @@ use lib.Dec.{ltb}
 use lib.IntN.{ℤ, pos}
 use lib.ListN.{length, get_or, set, replicate, drop}
 use lib.Seq.{get_or-set_same, get_or-set_other}
+use Rattle.std.specs.Prelude.{is_ok}
 use Rattle.words.specs.Words.{word_at, number_of, number_at}
 use Rattle.words.specs.Answer.{got}
 use Rattle.words.proofs.Laws.{number-first}
@@ -116,7 +117,7 @@ module _ (S : Cells) (fit : Fit S) (N : ℕ) (p q : List ℤ) (reads : read_fiel
   unmarked : {i : ℕ} {u : List ℤ} {marks : List Bool} (inv : InFields N p i (length u) marks) → i < N → Part p u → number_at u 0 < 32 → get_or marks (number_at u 0) false ≡ false
   unmarked {u = u} {marks = marks} inv more part small = cases (get_or marks (number_at u 0) false)
       (λ e. let t = label-twice inv more (sym part.is) small e in
-      let z : ◌≡◌ {A = Bool} false true = ap (λ x. x.fits) (t ∙ ap told reads) in
+      let z : ◌≡◌ {A = Bool} false true = ap is_ok (t ∙ ap told reads) in
       let y : ◌≡◌ {A = ℕ} 0 1 = cc in absurd (let x : ⊥ = omega arith in x))
       (λ e. e)
 
@@ -133,7 +134,7 @@ module _ (S : Cells) (fit : Fit S) (N : ℕ) (p q : List ℤ) (reads : read_fiel
       let r : read_expression 16 false (x ++ (ys ++ q)) ≡ got (ys ++ q) = expression-complete c (ys ++ q) in
       let small : number_at (pos l ∷ (x ++ (ys ++ q))) 0 < 32 = rw w a in
       let fresh = unmarked inv' (omega arith) part' small in
-      let next = field-goes-on inv' (omega arith) (sym part'.is) small fresh {r = told (got (ys ++ q))} (rw r) refl (rw (after-got r) (append-part x (ys ++ q))) in
+      let next = field-goes-on inv' (omega arith) (sym part'.is) small fresh {k = length (ys ++ q)} (rw r) (rw (after-got r) (append-part x (ys ++ q))) in
       let here : number 0 31 (pos l ∷ (x ++ (ys ++ q))) ≡ got (l, x ++ (ys ++ q)) = number-of 0 31 l (x ++ (ys ++ q)) (omega arith) (omega arith) in
       step (evaluate expression_depth S (x ++ (ys ++ q))) _ (rw here at k) λ v e1 k1.
       step (field_words n S v.1) _ k1 λ more e2 k2.

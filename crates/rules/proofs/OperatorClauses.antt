@@ -11,12 +11,15 @@ use Rattle.words.specs.Range.{fits}
 use Rattle.words.specs.Answer.{got, stop, ◌>>◌, want}
 use Rattle.tables.specs.declared.Value.{Value}
 use Rattle.tables.specs.declared.Value.TheVariants.{Bool as Truth, Int}
+use Rattle.tables.specs.declared.Kind.{Kind}
 use Rattle.tables.specs.Values.{cell_of}
-use Rattle.rules.specs.Evaluation.{Kind, kind_of, Op, no_op, ops, op_of, an_int, a_bool, the_nil, comparable, takes, same, int_of, bool_of, ranged, made, apply}
+use Rattle.program.specs.declared.Operator.{Operator}
+use Rattle.program.specs.declared.Operator.TheVariants.{Unknown}
+use Rattle.rules.specs.Evaluation.{kind_of, ops, op_of, an_int, a_bool, the_nil, comparable, takes, same, int_of, bool_of, ranged, made, apply}
 
-pub no-op : (o : ℕ) → 11 < o → op_of o ≡ no_op
+pub no-op : (o : ℕ) → 11 < o → op_of o ≡ Unknown
 unfolding op_of
-no-op o h = get_or-eq_default ops no_op {n = o} (omega arith)
+no-op o h = get_or-eq_default ops Unknown {n = o} (omega arith)
 
 -- which kinds an operator takes
 module _ (a b : Kind) where
@@ -124,7 +127,7 @@ module _ (a b : Value) where
   unfolding same
   same-is = refl
 
-  pub apply-is : (o : Op) → apply o a b ≡ (want 8 (takes o (kind_of a) (kind_of b)) >> made o a b)
+  pub apply-is : (o : Operator) → apply o a b ≡ (want 8 (takes o (kind_of a) (kind_of b)) >> made o a b)
   unfolding apply
   apply-is o = refl
 

@@ -1,4 +1,5 @@
 -- The definitions of the operators and the operators' table say the same (T-OP, E-OP). Assumes nothing.
+use Rattle.std.specs.Prelude.{Some}
 use mathlib.Core.Path.{◌≡◌, refl, sym, ap, ◌∙◌}
 use mathlib.Core.Logic.{◌≢◌, ◌↔◌}
 use mathlib.Core.Bool.{Bool, true, false, not, ◌&&◌, ◌||◌, true≢false}
@@ -14,12 +15,13 @@ use Rattle.words.proofs.AnswerLaws.{got-inj, stop≢got, tested}
 use Rattle.words.proofs.Laws.{eq_z-refl, eq_z-true}
 use Rattle.tables.specs.declared.Value.{Value}
 use Rattle.tables.specs.declared.Value.TheVariants.{Nil, Bool as Truth, Int, Ref}
-use Rattle.tables.specs.declared.Slot.TheVariants.{Has}
+use Rattle.tables.specs.declared.Kind.{Kind}
+use Rattle.tables.specs.declared.Kind.TheVariants.{Nil as is_nil, Bool as is_bool, Int as is_int, Ref as is_ref}
 use Rattle.tables.specs.Values.{cell, cell_of, slot_of, Sound}
 use Rattle.tables.proofs.SearchLaws.{cases, and_left, and_right, and-true}
 use Rattle.tables.proofs.ValueLaws.{slot-of-cell}
 use Rattle.program.specs.Forms.{operators}
-use Rattle.rules.specs.Evaluation.{Kind, is_nil, is_bool, is_int, is_ref, kind_of, op_of, an_int, a_bool, comparable, takes, gives, same, int_of, bool_of, ranged, made, apply}
+use Rattle.rules.specs.Evaluation.{kind_of, op_of, an_int, a_bool, comparable, takes, gives, same, int_of, bool_of, ranged, made, apply}
 use Rattle.rules.specs.Rules.Operators.{Gives, Makes}
 
 -- ---- kind and payload
@@ -50,7 +52,7 @@ module _ (a b : Value) where
   -- of values that a cell can hold: kind and payload are the same exactly where the value is
   pub same-value : Sound a → Sound b → cell_of a ≡ cell_of b → a ≡ b
   same-value x y e =
-      let q : Has a ≡ Has b = sym (slot-of-cell a x) ∙ ap slot_of e ∙ slot-of-cell b y in
+      let q : Some a ≡ Some b = sym (slot-of-cell a x) ∙ ap slot_of e ∙ slot-of-cell b y in
       cc
 
 -- a value that is no reference

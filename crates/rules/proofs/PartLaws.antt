@@ -9,12 +9,14 @@ use lib.IntN.{ℤ, pos}
 use Rattle.words.specs.Answer.{got}
 use Rattle.words.proofs.AnswerLaws.{got-inj, step, tested}
 use Rattle.tables.specs.declared.Value.TheVariants.{Bool as Truth}
+use Rattle.tables.specs.declared.Kind.{Kind}
+use Rattle.tables.specs.declared.Kind.TheVariants.{Nil as is_nil, Bool as is_bool, Int as is_int, Ref as is_ref}
 use Rattle.tables.specs.Cells.{Cells}
 use Rattle.tables.proofs.ClearLaws.{agree}
 use Rattle.program.specs.Forms.{expression_depth, most_parts, required}
 use Rattle.program.proofs.NumberLaws.{number-of}
 use Rattle.rules.specs.State.{refused}
-use Rattle.rules.specs.Evaluation.{Kind, is_nil, is_bool, is_int, is_ref, a_bool, evaluate, kind}
+use Rattle.rules.specs.Evaluation.{a_bool, evaluate, kind}
 use Rattle.rules.specs.Constraints.{Part, satisfies, part_at, parts_at, constraint_at}
 use Rattle.rules.specs.Rules.Expressions.{Within}
 use Rattle.rules.specs.Rules.Constraints.{PartIs, PartsAre, ConstraintIs}

@@ -3,7 +3,7 @@ use mathlib.Core.Path.{◌≡◌, refl, sym, ap, ◌∙◌}
 use mathlib.Core.Logic.{◌≢◌}
 use mathlib.Core.Bool.{false, true≢false}
 use mathlib.Core.List.{List, [], ◌∷◌}
-use mathlib.Core.Option.{Option, none, some}
+use Rattle.std.specs.Prelude.{Option, None, Some}
 use Prim.Native.Nat.{ℕ, zero, suc, ◌+◌}
 use native.Mathlib.Omega.{arith}
 use lib.IntN.{ℤ}
@@ -11,11 +11,13 @@ use lib.ListN.{drop}
 use Rattle.words.specs.Answer.{got, stop}
 use Rattle.words.proofs.AnswerLaws.{stop-inj, stop≢got}
 use Rattle.tables.specs.declared.Sort.TheVariants.{Values}
+use Rattle.tables.specs.declared.Kind.{Kind}
+use Rattle.tables.specs.declared.Kind.TheVariants.{Nil as is_nil, Bool as is_bool, Int as is_int, Ref as is_ref}
 use Rattle.tables.specs.Cells.{Cells}
 use Rattle.program.specs.Forms.{expression_depth, most_parts, required}
 use Rattle.program.proofs.NumberLaws.{number-of}
 use Rattle.rules.specs.State.{Fault, Res, refused, positions}
-use Rattle.rules.specs.Evaluation.{Kind, is_nil, is_bool, is_int, is_ref, a_bool, kind}
+use Rattle.rules.specs.Evaluation.{a_bool, kind}
 use Rattle.rules.specs.Constraints.{Part, part_at, parts_at, constraint_at, fifteen, kept_at, kept_parts, own_parts, counted}
 use Rattle.rules.specs.Rules.Expressions.{typed, meets, no_boolean}
 use Rattle.rules.specs.Rules.Constraints.{Reads, FirstNot, PartMeets, PartsMeet, ConstraintMeets, Uncounted}
@@ -124,24 +126,24 @@ module _ (program : List ℤ) (S : Cells) where
     pub uncounted-sound : (own : Option (List ℤ)) (f : Fault) → Worded program S (positions kept Values) → counted program kept own S ≡ stop f → (f.number ≡ 2 → ⊥)
         → Uncounted program kept S own f
     unfolding counted own_parts
-    uncounted-sound none f w e two =
+    uncounted-sound None f w e two =
         stopped (kept_parts program S (positions kept Values)) _ e
         (λ e1.
         let k = kept-sound (positions kept Values) f w e1 in
-        rw k.is (Uncounted.kept {own = none} (λ p q. absurd (let z : ◌≡◌ {A = ℕ} 0 1 = cc in omega arith)) k.first k.meets))
+        rw k.is (Uncounted.kept {own = None} (λ p q. absurd (let z : ◌≡◌ {A = ℕ} 0 1 = cc in omega arith)) k.first k.meets))
         (λ ys e1 k1. stop≢got (sym k1))
-    uncounted-sound (some p) f w e two =
+    uncounted-sound (Some p) f w e two =
         stopped (constraint_at S p) _ e (λ e1. Uncounted.own (constraint-meets-sound S p f e1 two)) λ xs e1 k1.
         stopped (kept_parts program S (positions kept Values)) _ k1
         (λ e2.
         let k = kept-sound (positions kept Values) f w e2 in
-        rw k.is (Uncounted.kept {own = some p} (λ q i. let j : p ≡ q = cc in (xs, rw (← j) ((constraint-iff S p xs).0 e1))) k.first k.meets))
+        rw k.is (Uncounted.kept {own = Some p} (λ q i. let j : p ≡ q = cc in (xs, rw (← j) ((constraint-iff S p xs).0 e1))) k.first k.meets))
         (λ ys e2 k2. stop≢got (sym k2))
 
     pub uncounted-complete : {own : Option (List ℤ)} {f : Fault} → Uncounted program kept S own f → counted program kept own S ≡ stop f
     unfolding counted own_parts
     uncounted-complete (Uncounted.own m) = stops_then _ (constraint-meets-complete S m)
-    uncounted-complete (Uncounted.kept {own = none} reads first m) = stops_then _ (kept-complete first m)
-    uncounted-complete (Uncounted.kept {own = some p} reads first m) =
+    uncounted-complete (Uncounted.kept {own = None} reads first m) = stops_then _ (kept-complete first m)
+    uncounted-complete (Uncounted.kept {own = Some p} reads first m) =
         let r = reads p refl in
         rw ((constraint-iff S p r.0).1 r.1) (stops_then _ (kept-complete first m))

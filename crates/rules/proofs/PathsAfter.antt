@@ -1,4 +1,5 @@
 -- After the identity phase the same L leads to the same cell. Assumes nothing.
+use Rattle.std.specs.Prelude.{Some}
 use mathlib.Core.Path.{◌≡◌, refl, sym, ◌∙◌}
 use mathlib.Core.List.Memᴰ
 use mathlib.Core.List.{List, [], ◌∷◌, Memᴰ as OneOf}
@@ -9,7 +10,6 @@ use Rattle.words.specs.Answer.{got}
 use Rattle.words.proofs.AnswerLaws.{step, got-inj}
 use Rattle.tables.specs.declared.Value.{Value}
 use Rattle.tables.specs.declared.Value.TheVariants.{Ref}
-use Rattle.tables.specs.declared.Slot.TheVariants.{Has}
 use Rattle.tables.specs.declared.Sort.TheVariants.{Identities}
 use Rattle.tables.specs.Values.{Sound}
 use Rattle.tables.specs.Cells.{Cells}
@@ -55,7 +55,7 @@ module _ (program kept : List ℤ) (before now : Cells) (word : List ℤ) (targe
     (fit : Fit before) (ready : Ready before now) (reached : Target before target prefix) (sound : Sound v) (followed : ties program kept before ≡ got ts)
     (answered : identity_phase program kept before now word target prefix v ≡ got Z) where
   -- the records that were referred to have the same fields
-  found : (k r label : ℕ) → slot_at before k ≡ Has (Ref r) → field_with Z.heap r label ≡ field_with before.heap r label
+  found : (k r label : ℕ) → slot_at before k ≡ Some (Ref r) → field_with Z.heap r label ≡ field_with before.heap r label
   found k r label e =
       rw (phase-written program kept before now word target prefix v ts fit ready reached sound followed Z answered)
       (put-all-found v now (class_of ts target) r label ∙ ready-found before fit ready k r label e)

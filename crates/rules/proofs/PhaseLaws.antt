@@ -1,4 +1,5 @@
 -- The identity phase by plain facts: what is frozen, what is named, when there is no clash, and what is left. Assumes nothing.
+use Rattle.std.specs.Prelude.{None, Option, Some}
 use mathlib.Core.Path.{◌≡◌, refl, sym, ap, ◌∙◌}
 use mathlib.Core.Logic.{◌↔◌, inl, inr}
 use mathlib.Core.Bool.{Bool, true, false, not, ◌||◌}
@@ -15,8 +16,6 @@ use Rattle.words.proofs.AnswerLaws.{step, tested, got-inj}
 use Rattle.tables.specs.declared.Cell.{Cell}
 use Rattle.tables.specs.declared.Value.{Value}
 use Rattle.tables.specs.declared.Value.TheVariants.{Nil, Bool as Truth, Int, Ref}
-use Rattle.tables.specs.declared.Slot.{Slot}
-use Rattle.tables.specs.declared.Slot.TheVariants.{Absent, Has}
 use Rattle.tables.specs.Values.{cell, cell_of, slot_of, Sound}
 use Rattle.tables.specs.Cells.{Cells}
 use Rattle.fit.specs.Fit.{Fit}
@@ -116,7 +115,7 @@ same-is v w a b e =
     let k : (cell_of v).kind ≡ (cell_of w).kind = eq_z-true (cell_of v).kind (cell_of w).kind (and_left (eq_z (cell_of v).kind (cell_of w).kind) (eq_z (cell_of v).payload (cell_of w).payload) e) in
     let p : (cell_of v).payload ≡ (cell_of w).payload = eq_z-true (cell_of v).payload (cell_of w).payload (and_right (eq_z (cell_of v).kind (cell_of w).kind) (eq_z (cell_of v).payload (cell_of w).payload) e) in
     let q = cell_same (cell_of v) (cell_of w) k p in
-    let x : Has v ≡ Has w = sym (slot-of-cell v a) ∙ ap slot_of q ∙ slot-of-cell w b in
+    let x : Some v ≡ Some w = sym (slot-of-cell v a) ∙ ap slot_of q ∙ slot-of-cell w b in
     cc
 
 -- a value that is no reference, or one to a record that is there, is one that a cell can hold
@@ -127,18 +126,18 @@ small-sound (Int z) n b h = tt
 small-sound (Ref r) n b h = omega (arith, h r refl)
 
 -- what a fit table holds, a cell can hold
-pub slot-sound : (S : Cells) → Fit S → (l : ℕ) (v : Value) → slot_at S l ≡ Has v → Sound v
+pub slot-sound : (S : Cells) → Fit S → (l : ℕ) (v : Value) → slot_at S l ≡ Some v → Sound v
 unfolding slot_at
 slot-sound S fit l Nil e = tt
 slot-sound S fit l (Truth b) e = tt
 slot-sound S fit l (Int n) e = tt
 slot-sound S fit l (Ref r) e = omega (arith, fit-ref S fit l r e, fit_count S fit)
 
-is-slot : (s : Slot) (v : Value) → ((w : Value) → s ≡ Has w → Sound w) → Sound v → (is s v ≡ true) ↔ (s ≡ Has v)
-is-slot (Has w) v h d = (λ e. ap Has (same-is w v (h w refl) d e), λ e. let q : w ≡ v = cc in rw q (same_self v))
-is-slot Absent v h d = (λ e. false≢true e, λ e. cc)
+is-slot : (s : Option Value) (v : Value) → ((w : Value) → s ≡ Some w → Sound w) → Sound v → (is s v ≡ true) ↔ (s ≡ Some v)
+is-slot (Some w) v h d = (λ e. ap Some (same-is w v (h w refl) d e), λ e. let q : w ≡ v = cc in rw q (same_self v))
+is-slot None v h d = (λ e. false≢true e, λ e. cc)
 
-pub is-has : (S : Cells) → Fit S → (l : ℕ) (v : Value) → Sound v → (is (slot_at S l) v ≡ true) ↔ (slot_at S l ≡ Has v)
+pub is-has : (S : Cells) → Fit S → (l : ℕ) (v : Value) → Sound v → (is (slot_at S l) v ≡ true) ↔ (slot_at S l ≡ Some v)
 is-has S fit l v d = is-slot (slot_at S l) v (slot-sound S fit l) d
 
 -- ---- the phase

@@ -1,4 +1,5 @@
 -- The identity phase is the relevant update of the rules: it answers with it where there is one, and is refused where the rules say so. Assumes nothing.
+use Rattle.std.specs.Prelude.{Some}
 use mathlib.Core.Path.{◌≡◌, refl, sym, ap, ◌∙◌}
 use mathlib.Core.Logic.{◌↔◌, ◌⊎◌, inl, inr}
 use mathlib.Core.Bool.{Bool, true, false, not, ◌||◌}
@@ -8,7 +9,6 @@ use lib.IntN.{ℤ}
 use Rattle.words.specs.Answer.{got, stop, ◌>>◌, want}
 use Rattle.words.proofs.AnswerLaws.{stop-inj, stop≢got}
 use Rattle.tables.specs.declared.Value.{Value}
-use Rattle.tables.specs.declared.Slot.TheVariants.{Has}
 use Rattle.tables.specs.Values.{slot_of, Sound}
 use Rattle.tables.specs.Cells.{Cells}
 use Rattle.tables.proofs.ValueLaws.{slot-of-cell}
@@ -48,7 +48,7 @@ module _ (program kept : List ℤ) (before now : Cells) (word : List ℤ) (targe
       }
 
   -- a frozen cell of the class holds the value in an update, so it held it before
-  free : {Z : Cells} (h : Phase program kept before now target prefix v Z) (l : ℕ) → Relevant h.ties target l → Frozen prefix h.ties l → slot_at before l ≡ Has v
+  free : {Z : Cells} (h : Phase program kept before now target prefix v Z) (l : ℕ) → Relevant h.ties target l → Frozen prefix h.ties l → slot_at before l ≡ Some v
   unfolding slot_at
   free h l r f = sym (h.frozen l f) ∙ ap slot_of (h.update.class l r) ∙ slot-of-cell v sound
 

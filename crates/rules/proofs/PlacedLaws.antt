@@ -6,7 +6,7 @@ use native.Mathlib.Omega.{arith}
 use native.Mathlib.Decide.{ℕ_discrete}
 use mathlib.Core.Bool.{Bool, true, false, not, ◌&&◌, true≢false}
 use mathlib.Core.List.{List, [], ◌∷◌, Memᴰ as OneOf}
-use mathlib.Core.Option.{Option, none, some}
+use Rattle.std.specs.Prelude.{Option, None, Some}
 use borrow.Author.Tests.{eqb-true, leb-true}
 use lib.Dec.{eqb, leb}
 use lib.IntN.{ℤ, pos}
@@ -24,8 +24,7 @@ use Rattle.fit.specs.Fit.{Fit}
 use Rattle.program.specs.Forms.{expression_depth}
 use Rattle.program.specs.Reading.{Reading, read_path, read_expression, read_constraint, read_statement}
 use Rattle.program.specs.declared.Spot.{Spot}
-use Rattle.program.specs.declared.Spot.TheVariants.{At, Nowhere}
-use Rattle.program.specs.Where.{statement_at, has_verb, is_always}
+use Rattle.program.specs.Where.{spot_of, statement_at, has_verb, is_always}
 use Rattle.program.specs.Grammar.{Program}
 use Rattle.program.proofs.LengthLaws.{part-refl, part-drop, part-trans, after-got, path-uses, expression-uses}
 use Rattle.program.proofs.GrammarSound.{expression-sound, statement-sound}
@@ -156,12 +155,12 @@ module _ (program : List ℤ) (g : Program program) (S : State) (hold : Holds pr
   kept-reads = each_map (λ k h. (h.parts, (constraint-iff S.cells (drop (k + 1) program) h.parts).0 h.reads)) (positions S.kept Values) hold.values
 
   -- a kept position is that of an always-statement
-  always-there : (k : ℕ) → is_always program Values k ≡ true → (nest : ℕ) × (statement_at program k ≡ At 3 nest)
+  always-there : (k : ℕ) → is_always program Values k ≡ true → (nest : ℕ) × (statement_at program k ≡ spot_of 3 nest)
   always-there k e = go (statement_at program k) refl (sym (always-is program Values k) ∙ e)
     where
-      go : (s : Spot) → statement_at program k ≡ s → has_verb 3 s ≡ true → (nest : ℕ) × (statement_at program k ≡ At 3 nest)
-      go (At verb nest) i h = let z : verb ≡ 3 = eqb-true verb 3 h in (nest, rw z at i)
-      go Nowhere i h = absurd (true≢false (sym h))
+      go : (s : Option Spot) → statement_at program k ≡ s → has_verb 3 s ≡ true → (nest : ℕ) × (statement_at program k ≡ spot_of 3 nest)
+      go (Some spot) i h = let z : spot.verb ≡ 3 = eqb-true spot.verb 3 h in (spot.nest, i ∙ rw z refl)
+      go None i h = absurd (true≢false (sym h))
 
   kept-found : {Y : Cells} {k : ℕ} {f : Fault} → Fit Y → FirstNot (Reads program Y) (positions S.kept Values) k → ConstraintMeets Y (drop (k + 1) program) f
       → Found program Y f.number (place_of program f) true (drop k program)
@@ -191,13 +190,13 @@ module _ (program : List ℤ) (g : Program program) (S : State) (hold : Holds pr
   unsettled-placed (no_room c r) k = plain refl refl
   unsettled-placed (turned-down c r x) k = plain refl (turned-outer x)
 
-  given-placed : {target : ℕ} {prefix : List ℕ} {v : Value} {N Y : Cells} {f : Fault} {p : List ℤ} {o : Option (List ℤ)} → o ≡ none → StatementThere program p
+  given-placed : {target : ℕ} {prefix : List ℕ} {v : Value} {N Y : Cells} {f : Fault} {p : List ℤ} {o : Option (List ℤ)} → o ≡ None → StatementThere program p
       → Gives S.cells p target prefix v N → Phase program S.kept S.cells N target prefix v Y → Uncounted program S.kept Y o f → Placed program S p f.number (place_of program f)
   given-placed e here gives phase (Uncounted.own m) = absurd (let z : ◌≡◌ {A = ℕ} 0 1 = cc in omega arith)
   given-placed e here gives phase (Uncounted.kept reads first m) =
       in_kept refl (of_kept gives phase first (kept-found (gives-fit program S hold gives here.statement phase) first m))
 
-  own-placed : {f : Fault} {p c : List ℤ} {o : Option (List ℤ)} → o ≡ some c → (ConstraintMeets S.cells c f → Placed program S p f.number (place_of program f))
+  own-placed : {f : Fault} {p c : List ℤ} {o : Option (List ℤ)} → o ≡ Some c → (ConstraintMeets S.cells c f → Placed program S p f.number (place_of program f))
       → Uncounted program S.kept S.cells o f → Placed program S p f.number (place_of program f)
   own-placed {c = c} e k (Uncounted.own {p = q} m) = let i : q ≡ c = cc in k (rw i at m)
   own-placed e k (Uncounted.kept reads first m) = absurd (first-none kept-reads first)

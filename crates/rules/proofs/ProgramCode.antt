@@ -10,11 +10,12 @@ use native.Mathlib.Decide.{dec_lt}
 use lib.IntN.{ℤ, pos}
 use lib.ListN.{length, drop, length-append, length-drop}
 use Rattle.words.specs.Words.{number_at}
-use Rattle.program.specs.declared.Spot.TheVariants.{At}
 use Rattle.program.specs.Forms.{most_words, most_statements, block_depth, expression_depth}
-use Rattle.program.specs.Forms.{Verb, skip, assign, new, always, once, always_same, once_same, branch, loop, no_verb, verb_of}
+use Rattle.program.specs.Forms.{verb_of}
+use Rattle.program.specs.declared.Verb.{Verb}
+use Rattle.program.specs.declared.Verb.TheVariants.{Skip as skip, Assign as assign, New as new, Always as always, Once as once, AlwaysSame as always_same, OnceSame as once_same, If as branch, While as loop, Unknown as no_verb}
 use Rattle.program.specs.Reading.{read_expression, read_block, read_statement, after}
-use Rattle.program.specs.Where.{spot_statement, spot_block, statement_at}
+use Rattle.program.specs.Where.{spot_of, spot_statement, spot_block, statement_at}
 use Rattle.program.specs.Grammar.{block_of, statements_of, statement_of, Yields, Expression, Takes, Program}
 use Rattle.program.proofs.FormLaws.{number_of_verb}
 use Rattle.program.proofs.NumberLaws.{number-of}
@@ -48,7 +49,7 @@ takes ws q x = record { words = ws; piece = x; split = refl }
 module _ (program : List ℤ) (short : length program ≤ most_words) where
   -- what is found in the block b, before the rest r, is found in the program
   abbrev FoundToo : ℕ → List ℤ → List ℤ → Type 0
-  FoundToo d b r = (left v k : ℕ) → length r < left → left ≤ length b → At v k ≡ spot_block d left b → At v k ≡ spot_block block_depth left program
+  FoundToo d b r = (left v k : ℕ) → length r < left → left ≤ length b → spot_of v k ≡ spot_block d left b → spot_of v k ≡ spot_block block_depth left program
 
   -- every block of this nesting is of the program
   abbrev Blocks : ℕ → Type 0
@@ -60,8 +61,8 @@ module _ (program : List ℤ) (short : length program ≤ most_words) where
     At-row p = (left : ℕ) → left ≤ length p → Looking (suc d) left n b i (length p)
 
     -- what is found in the statement is found in the program
-    found_in : (p : List ℤ) → Part b p → At-row p → (left v k : ℕ) → length q < left → left ≤ length p → At v k ≡ spot_statement (λ u. spot_block d left u) d left p
-        → At v k ≡ spot_block block_depth left program
+    found_in : (p : List ℤ) → Part b p → At-row p → (left v k : ℕ) → length q < left → left ≤ length p → spot_of v k ≡ spot_statement (λ u. spot_block d left u) d left p
+        → spot_of v k ≡ spot_block block_depth left program
     found_in p part look left v k x y e = found left v k (omega arith) (omega (arith, part.short)) (row-finds (look left y) more part e)
 
     statement-here : {s : List ℤ} → Yields (statement_of d) s → Part b (s ++ q) → At-row (s ++ q) → StatementThere program (s ++ q)
@@ -144,7 +145,7 @@ record FoundAt (program : List ℤ) (k verb nest : ℕ) : Type 0 where
   found : Found program [] (length program - k) verb nest
   is : drop k program ≡ found.words
 
-found_at : {program : List ℤ} (k : ℕ) {verb nest : ℕ} → Program program → statement_at program k ≡ At verb nest → FoundAt program k verb nest
+found_at : {program : List ℤ} (k : ℕ) {verb nest : ℕ} → Program program → statement_at program k ≡ spot_of verb nest → FoundAt program k verb nest
 found_at {program} k {verb} {nest} g e = go (dec_lt k (length program))
   where
     go : Dec (k < length program) → FoundAt program k verb nest
@@ -167,7 +168,7 @@ statement-there {program} g (at k {verb} {nest} e) =
     }
 
 -- its first word is its verb's number
-pub there-verb : {program : List ℤ} (k : ℕ) {verb nest : ℕ} → Program program → statement_at program k ≡ At verb nest → number_at (drop k program) 0 ≡ verb
+pub there-verb : {program : List ℤ} (k : ℕ) {verb nest : ℕ} → Program program → statement_at program k ≡ spot_of verb nest → number_at (drop k program) 0 ≡ verb
 there-verb k g e = let x = found_at k g e in rw x.is x.found.verb
 
 -- every statement of the program stands there

@@ -1,4 +1,5 @@
 -- Laws of giving all cells of a class one value. Assumes nothing.
+use Rattle.std.specs.Prelude.{Some}
 use mathlib.Core.Path.{◌≡◌, refl, sym, ap, ◌∙◌}
 use mathlib.Core.Bool.{true, false}
 use mathlib.Core.List.{List, [], ◌∷◌}
@@ -8,7 +9,6 @@ use native.Mathlib.Decide.{dec_lt, ℕ_discrete}
 use lib.ListN.{length}
 use Rattle.words.specs.Words.{word_at, number_of}
 use Rattle.tables.specs.declared.Value.{Value}
-use Rattle.tables.specs.declared.Slot.TheVariants.{Has}
 use Rattle.tables.specs.Values.{cell_of, slot_of, Sound}
 use Rattle.tables.specs.Cells.{Cells, cell_at, put_cell, Sized}
 use Rattle.tables.specs.Records.{record_count, count_at, field_count, label_at, field_with}
@@ -50,7 +50,7 @@ module _ (v : Value) where
       (λ q. keeps-value (put_cell S k (cell_of v)) ls l (put-sized S k (cell_of v) s) h (rw q (read_same S k (cell_of v) s (omega arith))))
       (λ m. put-all-same (put_cell S k (cell_of v)) ls l (put-sized S k (cell_of v) s) h m)
 
-  pub put-all-slot : (S : Cells) (ls : List ℕ) (l : ℕ) → Sound v → Sized S → l < 576 → member l ls ≡ true → slot_at (put_all S ls v) l ≡ Has v
+  pub put-all-slot : (S : Cells) (ls : List ℕ) (l : ℕ) → Sound v → Sized S → l < 576 → member l ls ≡ true → slot_at (put_all S ls v) l ≡ Some v
   unfolding slot_at
   put-all-slot S ls l d s h e = rw (put-all-same S ls l s h e) (slot-of-cell v d)
 

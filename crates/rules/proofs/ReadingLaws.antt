@@ -15,7 +15,9 @@ use Rattle.tables.specs.declared.Value.{Value}
 use Rattle.tables.specs.Sizes.{variables, labels}
 use Rattle.tables.specs.Cells.{Cells}
 use Rattle.program.specs.Forms.{expression_depth, most_steps, most_parts, required, operators}
-use Rattle.program.specs.Forms.{Form, a_nil, a_false, a_true, an_integer, a_path, an_operation, an_identity, no_form, forms, form_of}
+use Rattle.program.specs.Forms.{forms, form_of}
+use Rattle.program.specs.declared.Form.{Form}
+use Rattle.program.specs.declared.Form.TheVariants.{Nil as a_nil, False as a_false, True as a_true, Integer as an_integer, Path as a_path, Operation as an_operation, Identity as an_identity, Unknown as no_form}
 use Rattle.program.specs.Grammar.{Labels, Path, Expression, Parts, Constraint, Fields}
 use Rattle.program.specs.Reading.{number}
 use Rattle.program.specs.Told.{told}

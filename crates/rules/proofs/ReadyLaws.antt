@@ -1,5 +1,6 @@
 -- What paths and kept identities of the state before a statement reach is the same in the tables that the identity phase writes.
 -- Assumes nothing.
+use Rattle.std.specs.Prelude.{Some}
 use mathlib.Core.Path.{◌≡◌, refl, sym, ap, ◌∙◌}
 use mathlib.Core.List.Memᴰ
 use mathlib.Core.List.{List, [], ◌∷◌, ◌++◌, Memᴰ as OneOf}
@@ -13,7 +14,6 @@ use Rattle.words.specs.Answer.{got}
 use Rattle.words.proofs.AnswerLaws.{step, got-inj}
 use Rattle.tables.specs.declared.Value.{Value}
 use Rattle.tables.specs.declared.Value.TheVariants.{Ref}
-use Rattle.tables.specs.declared.Slot.TheVariants.{Has}
 use Rattle.tables.specs.declared.Sort.TheVariants.{Identities}
 use Rattle.tables.specs.Sizes.{field_location}
 use Rattle.tables.specs.Values.{slot_of, cell_of}
@@ -182,7 +182,7 @@ module _ (before : Cells) (fit : Fit before) where
   ready-slot y l h = ap slot_of (ready-cell y l h)
 
   -- a record that a cell refers to has the same fields
-  pub ready-found : {now : Cells} → Ready before now → (k r label : ℕ) → slot_at before k ≡ Has (Ref r) → field_with now.heap r label ≡ field_with before.heap r label
+  pub ready-found : {now : Cells} → Ready before now → (k r label : ℕ) → slot_at before k ≡ Some (Ref r) → field_with now.heap r label ≡ field_with before.heap r label
   unfolding slot_at
   ready-found as_before k r label e = refl
   ready-found (with-record fs n room few) k r label e =

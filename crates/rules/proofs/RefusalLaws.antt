@@ -9,15 +9,19 @@ use lib.ListN.{drop}
 use Rattle.words.specs.Words.{number_at}
 use Rattle.words.specs.Answer.{want}
 use Rattle.tables.specs.declared.Value.{Value}
+use Rattle.tables.specs.declared.Kind.{Kind}
 use Rattle.tables.specs.Sizes.{variables, labels, most_fields}
 use Rattle.tables.specs.Cells.{Cells}
 use Rattle.program.specs.Forms.{expression_depth, most_steps, most_parts, required, operators}
-use Rattle.program.specs.Forms.{Form, a_nil, a_false, a_true, an_integer, a_path, an_operation, an_identity, no_form, form_of}
-use Rattle.program.specs.Forms.{Verb, skip, assign, new, always, once, always_same, once_same, branch, loop, no_verb}
+use Rattle.program.specs.Forms.{form_of}
+use Rattle.program.specs.declared.Form.{Form}
+use Rattle.program.specs.declared.Form.TheVariants.{Nil as a_nil, False as a_false, True as a_true, Integer as an_integer, Path as a_path, Operation as an_operation, Identity as an_identity, Unknown as no_form}
+use Rattle.program.specs.declared.Verb.{Verb}
+use Rattle.program.specs.declared.Verb.TheVariants.{Skip as skip, Assign as assign, New as new, Always as always, Once as once, AlwaysSame as always_same, OnceSame as once_same, If as branch, While as loop, Unknown as no_verb}
 use Rattle.program.specs.Reading.{number, any_word}
 use Rattle.rules.specs.State.{State, Res, refused, reads, or_refuse, slot_at, present}
 use Rattle.rules.specs.Paths.{follow, way_at, value_at}
-use Rattle.rules.specs.Evaluation.{Kind, op_of, kind_of, takes, a_bool, same, apply, at}
+use Rattle.rules.specs.Evaluation.{op_of, kind_of, takes, a_bool, same, apply, at}
 use Rattle.rules.specs.Evaluation.{evaluate_form, evaluate, kind_form, kind}
 use Rattle.rules.specs.Constraints.{part_at, parts_at, constraint_at}
 use Rattle.rules.specs.Identities.{is_node, same_now, tie_at, ties_of, ties}

@@ -6,7 +6,7 @@ use native.Mathlib.Omega.{arith}
 use native.Mathlib.Decide.{ℕ_discrete}
 use mathlib.Core.Bool.{true, false}
 use mathlib.Core.List.{List, ◌∷◌, ◌++◌}
-use mathlib.Core.Option.{none, some}
+use Rattle.std.specs.Prelude.{None, Some}
 use borrow.Author.Tests.{le-ltb}
 use lib.IntN.{ℤ, pos}
 use lib.ListN.{drop}
@@ -20,7 +20,9 @@ use Rattle.tables.specs.Sizes.{variables, most_fields, most_records}
 use Rattle.tables.specs.Cells.{Cells, Sized}
 use Rattle.tables.specs.Records.{record_count}
 use Rattle.program.specs.Forms.{expression_depth}
-use Rattle.program.specs.Forms.{Verb, skip, assign, new, always, once, always_same, once_same, branch, loop, no_verb, verb_of}
+use Rattle.program.specs.Forms.{verb_of}
+use Rattle.program.specs.declared.Verb.{Verb}
+use Rattle.program.specs.declared.Verb.TheVariants.{Skip as skip, Assign as assign, New as new, Always as always, Once as once, AlwaysSame as always_same, OnceSame as once_same, If as branch, While as loop, Unknown as no_verb}
 use Rattle.program.specs.Grammar.{statement_of, Yields}
 use Rattle.program.proofs.FormLaws.{number_of_verb, verb-word}
 use Rattle.program.proofs.NumberLaws.{number-of}
@@ -72,16 +74,16 @@ module _ (program : List ℤ) (S : State) (ws : List ℤ) (holds : Holds program
       (positions S.kept Values) holds.values
 
   module _ (p : List ℤ) (target : ℕ) (Y : Cells) (sized : Sized Y) where
-    value-refused : (f : Fault) → value_phase program S.kept p target Y ws ≡ stop f → (f.number ≡ 2 → ⊥) → Unsettled program S.kept (asking none (some target) true) p Y ws f
+    value-refused : (f : Fault) → value_phase program S.kept p target Y ws ≡ stop f → (f.number ≡ 2 → ⊥) → Unsettled program S.kept (asking None (Some target) true) p Y ws f
     unfolding value_phase
     value-refused f e two =
-        stopped (settle program S.kept (asking none (some target) true) p Y ws) _ e
-        (λ e1. unsettled-sound program S.kept (asking none (some target) true) p Y ws sized (kept-worded Y) f e1 two)
+        stopped (settle program S.kept (asking None (Some target) true) p Y ws) _ e
+        (λ e1. unsettled-sound program S.kept (asking None (Some target) true) p Y ws sized (kept-worded Y) f e1 two)
         (λ x e1 k1. stop≢got (sym k1))
 
-    value-stops : {f : Fault} → Unsettled program S.kept (asking none (some target) true) p Y ws f → value_phase program S.kept p target Y ws ≡ stop f
+    value-stops : {f : Fault} → Unsettled program S.kept (asking None (Some target) true) p Y ws f → value_phase program S.kept p target Y ws ≡ stop f
     unfolding value_phase
-    value-stops u = stops_then _ (unsettled-complete program S.kept (asking none (some target) true) p Y ws u)
+    value-stops u = stops_then _ (unsettled-complete program S.kept (asking None (Some target) true) p Y ws u)
 
   -- ---- what stops is refused by the rules
 
@@ -101,16 +103,16 @@ module _ (program : List ℤ) (S : State) (ws : List ℤ) (holds : Holds program
     unfolding do_constraint
     always-refused e =
         let room = has_room S.kept Values (position_of program (pos 3 ∷ p)) in
-        stopped (settle program S.kept (asking (some p) none room) (pos 3 ∷ p) S.cells ws) _ e
+        stopped (settle program S.kept (asking (Some p) None room) (pos 3 ∷ p) S.cells ws) _ e
         (λ e1. f_always (room-iff S.kept Values (position_of program (pos 3 ∷ p)))
-        (unsettled-sound program S.kept (asking (some p) none room) (pos 3 ∷ p) S.cells ws holds.fit.sized (kept-worded S.cells) f e1 two))
+        (unsettled-sound program S.kept (asking (Some p) None room) (pos 3 ∷ p) S.cells ws holds.fit.sized (kept-worded S.cells) f e1 two))
         (λ x e1 k1. stop≢got (sym k1))
 
     once-refused : do_constraint false program (pos 4 ∷ p) S ws ≡ stop f → Refused program S ws (pos 4 ∷ p) f
     unfolding do_constraint
     once-refused e =
-        stopped (settle program S.kept (asking (some p) none true) (pos 4 ∷ p) S.cells ws) _ e
-        (λ e1. f_once (unsettled-sound program S.kept (asking (some p) none true) (pos 4 ∷ p) S.cells ws holds.fit.sized (kept-worded S.cells) f e1 two))
+        stopped (settle program S.kept (asking (Some p) None true) (pos 4 ∷ p) S.cells ws) _ e
+        (λ e1. f_once (unsettled-sound program S.kept (asking (Some p) None true) (pos 4 ∷ p) S.cells ws holds.fit.sized (kept-worded S.cells) f e1 two))
         (λ x e1 k1. stop≢got (sym k1))
 
     always-identity-refused : do_identity true program (pos 5 ∷ p) S ws ≡ stop f → Refused program S ws (pos 5 ∷ p) f
@@ -176,10 +178,10 @@ module _ (program : List ℤ) (S : State) (ws : List ℤ) (holds : Holds program
       (value-stops p target Y (phase-sized (gives-sized program S holds g here) phase) u)
   refused-stops (f_always {b = b} {p = p} r u) here =
       rw (statement-verb (pos 3 ∷ p) here always (number-first (pos 3) p), agree (has_room S.kept Values (position_of program (pos 3 ∷ p))) b (room-iff S.kept Values (position_of program (pos 3 ∷ p))) r)
-      (stops_then _ (unsettled-complete program S.kept (asking (some p) none b) (pos 3 ∷ p) S.cells ws u))
+      (stops_then _ (unsettled-complete program S.kept (asking (Some p) None b) (pos 3 ∷ p) S.cells ws u))
   refused-stops (f_once {p = p} u) here =
       rw (statement-verb (pos 4 ∷ p) here once (number-first (pos 4) p))
-      (stops_then _ (unsettled-complete program S.kept (asking (some p) none true) (pos 4 ∷ p) S.cells ws u))
+      (stops_then _ (unsettled-complete program S.kept (asking (Some p) None true) (pos 4 ∷ p) S.cells ws u))
   refused-stops (f_identity {verb = verb} {f = f} {p = p} a b u) here = identity-stops (ℕ_discrete verb 5)
     where
       identity-stops : Dec (verb ≡ 5) → do_simple program (pos verb ∷ p) S ws (verb_of (number_at (pos verb ∷ p) 0)) ≡ stop f

@@ -6,12 +6,12 @@ use native.Mathlib.Decide.{dec_lt}
 use mathlib.Core.List.{List}
 use lib.IntN.{ℤ}
 use lib.ListN.{length}
+use Rattle.std.specs.Prelude.{None}
 use Rattle.words.specs.Words.{number_of}
 use Rattle.words.specs.Answer.{stop}
 use Rattle.words.proofs.AnswerLaws.{stop-inj}
 use Rattle.program.specs.Forms.{most_words, block_depth}
 use Rattle.program.specs.Reading.{read_program}
-use Rattle.program.specs.declared.Spot.TheVariants.{Nowhere}
 use Rattle.program.specs.Where.{statement_at}
 use Rattle.program.proofs.LengthLaws.{part-refl}
 use Rattle.program.proofs.JudgeLaws.{first-unfit, over-long}
@@ -36,7 +36,7 @@ use Rattle.rules.proofs.StandRules.{stands-iff}
 use Rattle.rules.proofs.AnswerRules.{whole-rule}
 
 -- a statement stands at its word
-not-nowhere : {program p : List ℤ} → StatementThere program p → statement_at program (position_of program p) ≡ Nowhere → ⊥
+not-nowhere : {program p : List ℤ} → StatementThere program p → statement_at program (position_of program p) ≡ None → ⊥
 not-nowhere here z = at-nowhere (sym here.there ∙ z)
 
 -- the place of a program that does not read

@@ -17,7 +17,8 @@ use Rattle.tables.specs.declared.Value.{Value}
 use Rattle.tables.specs.declared.Value.TheVariants.{Bool as Truth}
 use Rattle.tables.specs.Cells.{Cells}
 use Rattle.program.specs.Forms.{expression_depth}
-use Rattle.program.specs.Forms.{branch, loop, verb_of}
+use Rattle.program.specs.Forms.{verb_of}
+use Rattle.program.specs.declared.Verb.TheVariants.{If as branch, While as loop}
 use Rattle.program.specs.Reading.{read_expression, after}
 use Rattle.program.specs.Grammar.{block_of, statement_of, Yields, Expression, Takes}
 use Rattle.program.proofs.FormLaws.{number_of_verb, verb-number}

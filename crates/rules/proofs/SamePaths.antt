@@ -1,5 +1,6 @@
 -- Ways, kinds, ties and what a path names depend on the structure only.
 -- Assumes nothing.
+use Rattle.std.specs.Prelude.{Option}
 use mathlib.Core.Path.{◌≡◌, refl}
 use mathlib.Core.List.{List, [], ◌∷◌}
 use Prim.Native.Nat.{ℕ, zero, suc, ◌+◌, ◌-◌}
@@ -9,15 +10,17 @@ use Rattle.words.specs.Words.{number_at}
 use Rattle.words.specs.Answer.{got, stop, ◌>>=◌}
 use Rattle.words.proofs.AnswerLaws.{either, bind-cong}
 use Rattle.tables.specs.declared.Value.{Value}
-use Rattle.tables.specs.declared.Slot.{Slot}
+use Rattle.tables.specs.declared.Kind.{Kind}
 use Rattle.tables.specs.Sizes.{variables}
 use Rattle.tables.specs.Cells.{Cells, cell_at}
 use Rattle.tables.specs.Records.{field_with}
-use Rattle.program.specs.Forms.{operators, most_steps, Form, a_nil, a_false, a_true, an_integer, a_path, an_operation, an_identity, no_form, form_of}
+use Rattle.program.specs.Forms.{operators, most_steps, form_of}
+use Rattle.program.specs.declared.Form.{Form}
+use Rattle.program.specs.declared.Form.TheVariants.{Nil as a_nil, False as a_false, True as a_true, Integer as an_integer, Path as a_path, Operation as an_operation, Identity as an_identity, Unknown as no_form}
 use Rattle.program.specs.Reading.{number}
 use Rattle.rules.specs.State.{Fault, Res, or_refuse, reads, slot_at, present}
 use Rattle.rules.specs.Paths.{a_record, a_field, follow, way_at, value_at}
-use Rattle.rules.specs.Evaluation.{Kind, kind_of, kind_form, kind}
+use Rattle.rules.specs.Evaluation.{kind_of, kind_form, kind}
 use Rattle.rules.specs.Identities.{tie_at, ties_of, ties}
 use Rattle.rules.specs.Structure.{Same}
 use Rattle.rules.proofs.Structure.{Alike, nils, truths, ints, refs, AlikeSlot, absents, held, alike_at, slots-alike, field-same}
@@ -27,14 +30,14 @@ pub data Both : Res (Value × List ℤ) → Res (Value × List ℤ) → Type 0 w
   answers : {v w : Value} {q : List ℤ} → Alike v w → Both (got (v, q)) (got (w, q))
   refuses : {f : Fault} → Both (stop f) (stop f)
 
-record_same : {x y : Slot} → AlikeSlot x y → a_record x ≡ a_record y
+record_same : {x y : Option Value} → AlikeSlot x y → a_record x ≡ a_record y
 record_same absents = refl
 record_same (held nils) = refl
 record_same (held truths) = refl
 record_same (held ints) = refl
 record_same (held refs) = refl
 
-present-both : (p q : List ℤ) {x y : Slot} → AlikeSlot x y → Both (or_refuse 7 p (present x) >>= λ v. got (v, q)) (or_refuse 7 p (present y) >>= λ v. got (v, q))
+present-both : (p q : List ℤ) {x y : Option Value} → AlikeSlot x y → Both (or_refuse 7 p (present x) >>= λ v. got (v, q)) (or_refuse 7 p (present y) >>= λ v. got (v, q))
 present-both p q absents = refuses
 present-both p q (held a) = answers a
 

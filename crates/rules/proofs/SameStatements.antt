@@ -3,7 +3,7 @@
 use mathlib.Core.Path.{◌≡◌, refl, sym, ◌∙◌}
 use mathlib.Core.Bool.{Bool, true, false, cond}
 use mathlib.Core.List.{List, []}
-use mathlib.Core.Option.{none, some}
+use Rattle.std.specs.Prelude.{None, Some}
 use Prim.Native.Nat.{ℕ, ◌-◌, ◌<◌, ◌≤◌}
 use borrow.Author.Tests.{ltb-true}
 use lib.Dec.{ltb}
@@ -16,7 +16,9 @@ use Rattle.tables.specs.declared.Sort.TheVariants.{Values, Identities}
 use Rattle.tables.specs.Sizes.{variables, most_fields, most_records}
 use Rattle.tables.specs.Cells.{Cells, cells, Sized}
 use Rattle.tables.specs.Records.{record_count, with_record}
-use Rattle.program.specs.Forms.{expression_depth, Verb, skip, assign, new, always, once, always_same, once_same, branch, loop, no_verb}
+use Rattle.program.specs.Forms.{expression_depth}
+use Rattle.program.specs.declared.Verb.{Verb}
+use Rattle.program.specs.declared.Verb.TheVariants.{Skip as skip, Assign as assign, New as new, Always as always, Once as once, AlwaysSame as always_same, OnceSame as once_same, If as branch, While as loop, Unknown as no_verb}
 use Rattle.program.specs.Reading.{number, read_path, after}
 use Rattle.program.proofs.NumberLaws.{number_read}
 use Rattle.rules.specs.State.{State, Res, refused, reads}
@@ -42,7 +44,7 @@ record Valued (kept : List ℤ) (S : Cells) (l : Left) : Type 0 where
 valued : (program kept p : List ℤ) (target : ℕ) (S : Cells) (ws : List ℤ) (l : Left) → Sized S → value_phase program kept p target S ws ≡ got l → Valued kept S l
 unfolding value_phase
 valued program kept p target S ws l z e =
-    step (settle program kept (record { own = none; target = some target; room = true }) p S ws) _ e λ x e1 k1.
+    step (settle program kept (record { own = None; target = Some target; room = true }) p S ws) _ e λ x e1 k1.
     rw (← got-inj k1) (record { settled = settle-same program kept _ p S ws z e1; kept-is = refl })
 
 -- two states of one structure after the identity phase, and what the value phase leaves of each
@@ -98,7 +100,7 @@ constraint-simple keeps program p = record {
 }
   where
     asked : List ℤ → Asked
-    asked kept = record { own = some (drop 1 p); target = none; room = cond keeps (has_room kept Values (position_of program p)) true }
+    asked kept = record { own = Some (drop 1 p); target = None; room = cond keeps (has_room kept Values (position_of program p)) true }
 
 -- the tables with one record more
 abbrev grown : State → List ℤ → ℕ → Cells

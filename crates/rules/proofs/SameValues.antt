@@ -13,11 +13,15 @@ use Rattle.words.proofs.AnswerLaws.{stop≢got, got-inj, step, tested}
 use Rattle.tables.specs.declared.Value.{Value}
 use Rattle.tables.specs.declared.Value.TheVariants.{Bool as Truth}
 use Rattle.tables.specs.Cells.{Cells}
-use Rattle.program.specs.Forms.{operators, Form, a_nil, a_false, a_true, an_integer, a_path, an_operation, an_identity, no_form, form_of}
+use Rattle.program.specs.Forms.{operators, form_of}
+use Rattle.program.specs.declared.Form.{Form}
+use Rattle.program.specs.declared.Form.TheVariants.{Nil as a_nil, False as a_false, True as a_true, Integer as an_integer, Path as a_path, Operation as an_operation, Identity as an_identity, Unknown as no_form}
 use Rattle.program.specs.Reading.{number, any_word}
+use Rattle.program.specs.declared.Operator.{Operator}
+use Rattle.program.specs.declared.Operator.TheVariants.{Plus, Minus, Times, Below, AtMost, Equal, Unequal, AtLeast, Above, And, Or, Unknown}
 use Rattle.rules.specs.State.{Res, reads}
 use Rattle.rules.specs.Paths.{value_at}
-use Rattle.rules.specs.Evaluation.{Op, add, sub, mul, lt, le, eq, ne, ge, gt, and, or, no_op, op_of, takes, kind_of, ranged, made, apply, at, evaluate_form, evaluate}
+use Rattle.rules.specs.Evaluation.{op_of, takes, kind_of, ranged, made, apply, at, evaluate_form, evaluate}
 use Rattle.rules.specs.Structure.{Same}
 use Rattle.rules.proofs.Structure.{Alike, nils, truths, ints}
 use Rattle.rules.proofs.WordSteps.{at-got}
@@ -44,22 +48,22 @@ truth-both : (y z : Bool) {v w : Value} → ◌≡◌ {A = Answer ℕ Value} (go
 truth-both y z e g = rw (← got-inj e, ← got-inj g) truths
 
 -- the kind of an operator's result is its own
-made-both : (o : Op) (a b c d : Value) {v w : Value} → made o a b ≡ got v → made o c d ≡ got w → Alike v w
+made-both : (o : Operator) (a b c d : Value) {v w : Value} → made o a b ≡ got v → made o c d ≡ got w → Alike v w
 unfolding made
-made-both add a b c d e g = ranged-both _ _ e g
-made-both sub a b c d e g = ranged-both _ _ e g
-made-both mul a b c d e g = ranged-both _ _ e g
-made-both lt a b c d e g = truth-both _ _ e g
-made-both le a b c d e g = truth-both _ _ e g
-made-both eq a b c d e g = truth-both _ _ e g
-made-both ne a b c d e g = truth-both _ _ e g
-made-both ge a b c d e g = truth-both _ _ e g
-made-both gt a b c d e g = truth-both _ _ e g
-made-both and a b c d e g = truth-both _ _ e g
-made-both or a b c d e g = truth-both _ _ e g
-made-both no_op a b c d e g = stop≢got e
+made-both Plus a b c d e g = ranged-both _ _ e g
+made-both Minus a b c d e g = ranged-both _ _ e g
+made-both Times a b c d e g = ranged-both _ _ e g
+made-both Below a b c d e g = truth-both _ _ e g
+made-both AtMost a b c d e g = truth-both _ _ e g
+made-both Equal a b c d e g = truth-both _ _ e g
+made-both Unequal a b c d e g = truth-both _ _ e g
+made-both AtLeast a b c d e g = truth-both _ _ e g
+made-both Above a b c d e g = truth-both _ _ e g
+made-both And a b c d e g = truth-both _ _ e g
+made-both Or a b c d e g = truth-both _ _ e g
+made-both Unknown a b c d e g = stop≢got e
 
-apply-both : (o : Op) (a b c d : Value) {v w : Value} → apply o a b ≡ got v → apply o c d ≡ got w → Alike v w
+apply-both : (o : Operator) (a b c d : Value) {v w : Value} → apply o a b ≡ got v → apply o c d ≡ got w → Alike v w
 unfolding apply
 apply-both o a b c d e g =
     tested 8 (takes o (kind_of a) (kind_of b)) _ e λ x k.

@@ -11,7 +11,9 @@ use lib.Seq.{take_all}
 use Rattle.words.specs.Words.{number_at}
 use Rattle.words.proofs.Laws.{number-first}
 use Rattle.tables.proofs.SearchLaws.{and_left, and_right}
-use Rattle.program.specs.Forms.{Verb, skip, assign, new, always, once, always_same, once_same, branch, loop, no_verb, verb_of}
+use Rattle.program.specs.Forms.{verb_of}
+use Rattle.program.specs.declared.Verb.{Verb}
+use Rattle.program.specs.declared.Verb.TheVariants.{Skip as skip, Assign as assign, New as new, Always as always, Once as once, AlwaysSame as always_same, OnceSame as once_same, If as branch, While as loop, Unknown as no_verb}
 use Rattle.program.proofs.FormLaws.{number_of_verb}
 use Rattle.rules.specs.State.{State, Fault}
 use Rattle.rules.specs.Identities.{member}

@@ -9,6 +9,7 @@ use borrow.Author.Tests.{leb-true, le-leb}
 use lib.Dec.{leb}
 use lib.IntN.{ℤ, pos, negsuc}
 use lib.ListN.{length, drop}
+use Rattle.std.specs.Prelude.{Option, Some, None}
 use Rattle.words.specs.Words.{number_of, number_at}
 use Rattle.words.specs.Answer.{got, stop}
 use Rattle.words.proofs.AnswerLaws.{stop-inj, either}
@@ -19,7 +20,6 @@ use Rattle.program.specs.Reading.{read_program}
 use Rattle.program.specs.Grammar.{Program}
 use Rattle.program.specs.Where.{statement_at}
 use Rattle.program.specs.declared.Spot.{Spot}
-use Rattle.program.specs.declared.Spot.TheVariants.{At, Nowhere}
 use Rattle.program.proofs.FormLaws.{number_of_verb}
 use Rattle.program.proofs.WhereLaws.{statement-past}
 use Rattle.program.proofs.GrammarLaws.{program-sound, program-complete}
@@ -224,10 +224,10 @@ module _ (program : List ℤ) (word : ℤ) (S : State) (p : List ℤ) (pass : Pa
 pub named-sound : {program : List ℤ} {word : ℤ} → Program program → is_named program word ≡ true → (p : List ℤ) × Named program word p
 named-sound {program} {word} g e = go word (statement_at program (number_of word)) refl (sym (named-is program word) ∙ e)
   where
-    go : (w : ℤ) (s : Spot) → statement_at program (number_of w) ≡ s → one_to_four s ≡ true → (p : List ℤ) × Named program w p
-    go w Nowhere i h = absurd (true≢false (sym h))
-    go (pos k) (At verb nest) i h = (drop k program, named (leb-true 1 verb (and_left (leb 1 verb) (leb verb 4) h)) (leb-true verb 4 (and_right (leb 1 verb) (leb verb 4) h)) i)
-    go (negsuc k) (At verb nest) i h = at-nowhere (sym i ∙ sym (statement-past program 2147483648 (omega (arith, g.short))))
+    go : (w : ℤ) (s : Option Spot) → statement_at program (number_of w) ≡ s → one_to_four s ≡ true → (p : List ℤ) × Named program w p
+    go w None i h = absurd (true≢false (sym h))
+    go (pos k) (Some spot) i h = (drop k program, named {verb = spot.verb} {nest = spot.nest} (leb-true 1 spot.verb (and_left (leb 1 spot.verb) (leb spot.verb 4) h)) (leb-true spot.verb 4 (and_right (leb 1 spot.verb) (leb spot.verb 4) h)) i)
+    go (negsuc k) (Some spot) i h = at-nowhere (sym i ∙ sym (statement-past program 2147483648 (omega (arith, g.short))))
 
 pub named-complete : {program p : List ℤ} {word : ℤ} → Named program word p → is_named program word ≡ true
 named-complete {program} (named {k = k} {verb = verb} a b e) = named-is program (pos k) ∙ rw e (and-true (leb 1 verb) (leb verb 4) (le-leb 1 verb a) (le-leb verb 4 b))

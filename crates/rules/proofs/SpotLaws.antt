@@ -1,5 +1,5 @@
 -- Where a statement of a program that reads is found: what is found reads, and no other statement begins at its word. Assumes nothing.
-use mathlib.Core.Path.{◌≡◌, refl, sym, ◌∙◌}
+use mathlib.Core.Path.{◌≡◌, refl, sym, ap, ◌∙◌}
 use mathlib.Core.Bool.{false}
 use mathlib.Core.List.{List, ◌∷◌, ◌++◌, append_assoc}
 use Prim.Native.Nat.{ℕ, zero, suc, ◌+◌, ◌-◌, ◌≤◌, ◌<◌}
@@ -8,15 +8,15 @@ use native.Mathlib.Decide.{ℕ_discrete}
 use lib.IntN.{ℤ, pos}
 use lib.ListN.{length, length-append}
 use lib.Seq.{drop-append_seam}
+use Rattle.std.specs.Prelude.{Option, Some, None}
 use Rattle.words.specs.Words.{number_at}
 use Rattle.words.specs.Answer.{got}
 use Rattle.words.proofs.Laws.{number-first}
 use Rattle.program.specs.declared.Spot.{Spot}
-use Rattle.program.specs.declared.Spot.TheVariants.{At, Nowhere}
 use Rattle.program.specs.Told.{told}
 use Rattle.program.specs.Reading.{read_expression, read_block, read_statement, after}
 use Rattle.program.specs.Forms.{most_statements, expression_depth}
-use Rattle.program.specs.Where.{or_else, spot_statement, spot_block}
+use Rattle.program.specs.Where.{spot_of, or_else, spot_statement, spot_block}
 use Rattle.program.specs.Grammar.{block_of, statements_of, statement_of, Yields, Expression}
 use Rattle.program.proofs.FormLaws.{number_of_verb}
 use Rattle.program.proofs.LengthLaws.{Part, part-refl, part-trans, part-drop, after-got}
@@ -32,11 +32,11 @@ append-part xs ys = record {
 }
 
 module _ {d left n i : ℕ} {b p : List ℤ} (inv : Looking (suc d) left n b i (length p)) (more : i < n) (part : Part b p) where
-  pub row-finds : {v k : ℕ} → At v k ≡ spot_statement (λ r. spot_block d left r) d left p → At v k ≡ spot_block (suc d) left b
+  pub row-finds : {v k : ℕ} → spot_of v k ≡ spot_statement (λ r. spot_block d left r) d left p → spot_of v k ≡ spot_block (suc d) left b
   row-finds e = let s : suc d - 1 ≡ d = omega arith in looking-finds inv more (sym part.is) (rw s e) refl
 
-  pub row-goes-on : {q : List ℤ} → Nowhere ≡ spot_statement (λ r. spot_block d left r) d left p → read_statement d p ≡ got q → Looking (suc d) left n b (i + 1) (length q)
-  row-goes-on {q} e r = let s : suc d - 1 ≡ d = omega arith in looking-goes-on inv more (sym part.is) {r = told (got q)} (rw s e) refl (rw (s, r))
+  pub row-goes-on : {q : List ℤ} → None ≡ spot_statement (λ r. spot_block d left r) d left p → read_statement d p ≡ got q → Looking (suc d) left n b (i + 1) (length q)
+  row-goes-on {q} e r = let s : suc d - 1 ≡ d = omega arith in looking-goes-on inv more (sym part.is) {r = told (got q)} (rw s e) refl (rw (s, r)) refl
 
 -- a statement takes at least one word
 pub long : {d : ℕ} {ws : List ℤ} → Yields (statement_of d) ws → 0 < length ws
@@ -72,20 +72,29 @@ found_in w h f = record {
   before = omega (arith, f.before);
 }
 
-pub at-nowhere : {X : Type 0} {v k : ℕ} → At v k ≡ Nowhere → X
+pub at-nowhere : {X : Type 0} {v k : ℕ} → spot_of v k ≡ None → X
 at-nowhere {v = v} {k = k} e = absurd (let w : ◌≡◌ {A = ℕ} 0 1 = cc in omega arith)
 
-spotted : {X : Type 0} (s : Spot) → ((v k : ℕ) → At v k ≡ s → X) → (Nowhere ≡ s → X) → X
-spotted (At v k) f g = f v k refl
-spotted Nowhere f g = g refl
+-- two that are the same have the same verb, and blocks that nest as deep
+abbrev verb_of_spot : Option Spot → ℕ
+verb_of_spot (Some s) = s.verb
+verb_of_spot None = 0
+
+abbrev nest_of_spot : Option Spot → ℕ
+nest_of_spot (Some s) = s.nest
+nest_of_spot None = 0
+
+spotted : {X : Type 0} (s : Option Spot) → ((v k : ℕ) → spot_of v k ≡ s → X) → (None ≡ s → X) → X
+spotted (Some s) f g = f s.verb s.nest refl
+spotted None f g = g refl
 
 -- the place is in the one or in the other
-or-else : {X : Type 0} {v k : ℕ} (one other : Spot) → At v k ≡ or_else one other → (At v k ≡ one → X) → (At v k ≡ other → X) → X
-or-else (At w l) other e f g = f e
-or-else Nowhere other e f g = g e
+or-else : {X : Type 0} {v k : ℕ} (one other : Option Spot) → spot_of v k ≡ or_else one other → (spot_of v k ≡ one → X) → (spot_of v k ≡ other → X) → X
+or-else (Some s) other e f g = f e
+or-else None other e f g = g e
 
 module _ (d left : ℕ) where
-  abbrev pub spot : List ℤ → Spot
+  abbrev pub spot : List ℤ → Option Spot
   spot p = spot_statement (λ r. spot_block d left r) d left p
 
   -- in a statement that begins elsewhere, only its blocks count
@@ -103,14 +112,14 @@ module _ (d left : ℕ) where
       let two : after (read_block d (a ++ (b ++ q))) ≡ b ++ q = after-got (yields-complete y (b ++ q)) in
       rw (one, two) at (spot-branch d left (pos 7 ∷ ((e ++ (a ++ b)) ++ q)) ne (number-first (pos 7) ((e ++ (a ++ b)) ++ q)))
 
-  module _ (block : (ws : List ℤ) → Yields (block_of d) ws → (q : List ℤ) (v k : ℕ) → At v k ≡ spot_block d left (ws ++ q) → Found (ws ++ q) q left v k) where
+  module _ (block : (ws : List ℤ) → Yields (block_of d) ws → (q : List ℤ) (v k : ℕ) → spot_of v k ≡ spot_block d left (ws ++ q) → Found (ws ++ q) q left v k) where
     -- a statement that holds no block
-    flat : {X : Type 0} {s : List ℤ} (y : Yields (statement_of d) s) (q : List ℤ) {v k : ℕ} → number_of_verb (verb_in y) < 7 → (length (s ++ q) ≡ left → ⊥) → At v k ≡ spot (s ++ q) → X
+    flat : {X : Type 0} {s : List ℤ} (y : Yields (statement_of d) s) (q : List ℤ) {v k : ℕ} → number_of_verb (verb_in y) < 7 → (length (s ++ q) ≡ left → ⊥) → spot_of v k ≡ spot (s ++ q) → X
     flat {s = s} y q h ne e =
         let i : number_at (s ++ q) 0 ≡ number_of_verb (verb_in y) = verb-first y q in
         at-nowhere (e ∙ sym (spot-none d left (s ++ q) ne (λ z. omega arith) (λ z. omega arith)))
 
-    inside : {s : List ℤ} → Yields (statement_of d) s → (q : List ℤ) (v k : ℕ) → (length (s ++ q) ≡ left → ⊥) → At v k ≡ spot (s ++ q) → Found (s ++ q) q left v k
+    inside : {s : List ℤ} → Yields (statement_of d) s → (q : List ℤ) (v k : ℕ) → (length (s ++ q) ≡ left → ⊥) → spot_of v k ≡ spot (s ++ q) → Found (s ++ q) q left v k
     inside Yields.skip q v k ne e = flat Yields.skip q (omega arith) ne e
     inside (Yields.assign x y) q v k ne e = flat (Yields.assign x y) q (omega arith) ne e
     inside (Yields.new x y f) q v k ne e = flat (Yields.new x y f) q (omega arith) ne e
@@ -127,18 +136,18 @@ module _ (d left : ℕ) where
         (λ f. found_in w (append-part b q).short (block a y (b ++ q) v k f))
         (λ f. found_in (part-trans w (append-part a (b ++ q))) (omega arith) (block b z q v k f))
 
-    statement-found : {s : List ℤ} → Yields (statement_of d) s → (q : List ℤ) (v k : ℕ) → At v k ≡ spot (s ++ q) → Found (s ++ q) q left v k
+    statement-found : {s : List ℤ} → Yields (statement_of d) s → (q : List ℤ) (v k : ℕ) → spot_of v k ≡ spot (s ++ q) → Found (s ++ q) q left v k
     statement-found {s} y q v k e = go (ℕ_discrete (length (s ++ q)) left)
       where
         go : Dec (length (s ++ q) ≡ left) → Found (s ++ q) q left v k
         go (yes h) =
-            let i : At v k ≡ At (number_at (s ++ q) 0) d = e ∙ sym (spot-here d left (s ++ q) h) in
-            let n : k ≡ d = cc in
+            let i : spot_of v k ≡ spot_of (number_at (s ++ q) 0) d = e ∙ sym (spot-here d left (s ++ q) h) in
+            let n : k ≡ d = ap nest_of_spot i in
             record {
               words = s ++ q;
               part = part-refl (s ++ q);
               long = h;
-              verb = cc;
+              verb = sym (ap verb_of_spot i);
               rest = q;
               reads = rw n (yields-complete y q);
               before = omega (arith, long y, length-append s q);
@@ -147,7 +156,7 @@ module _ (d left : ℕ) where
 
     -- the statements of a block b, from number i on
     row-found : {m : ℕ} {ws : List ℤ} (n i : ℕ) (b : List ℤ) → Yields (statements_of d m) ws → (q : List ℤ) (v k : ℕ) → i + m ≡ n → Part b (ws ++ q)
-        → Looking (suc d) left n b i (length (ws ++ q)) → At v k ≡ spot_block (suc d) left b → Found b q left v k
+        → Looking (suc d) left n b i (length (ws ++ q)) → spot_of v k ≡ spot_block (suc d) left b → Found b q left v k
     row-found n i b Yields.none q v k h part inv e = at-nowhere (e ∙ sym (looking-ends inv (omega arith)))
     row-found n i b (Yields.one {n = m} {s = s} {ss = ss} x y) q v k h part inv e =
         let part' : Part b (s ++ (ss ++ q)) = rw append_assoc at part in
@@ -163,17 +172,17 @@ row-starts d left n p h =
     let z : suc (length p) - 1 ≡ length p = omega arith in
     rw (i, z) at (looking-starts (suc d) left (pos n ∷ p) (λ e. omega arith) (rw i h))
 
-pub block-found : (d left : ℕ) (ws : List ℤ) → Yields (block_of d) ws → (q : List ℤ) (v k : ℕ) → At v k ≡ spot_block d left (ws ++ q) → Found (ws ++ q) q left v k
+pub block-found : (d left : ℕ) (ws : List ℤ) → Yields (block_of d) ws → (q : List ℤ) (v k : ℕ) → spot_of v k ≡ spot_block d left (ws ++ q) → Found (ws ++ q) q left v k
 block-found zero left ws y q v k e = elim y [ ]
 block-found (suc d) left ws (Yields.block {n = n} {ss = ss} a y) q v k e =
     row-found d left (block-found d left) n 0 (pos n ∷ (ss ++ q)) y q v k (omega arith) (part-drop 1 (pos n ∷ (ss ++ q))) (row-starts d left n (ss ++ q) a) e
 
 -- the words that are left after a piece begin no statement inside it
-out : {b q : List ℤ} {left : ℕ} (s : Spot) → left ≤ length q → ((v k : ℕ) → At v k ≡ s → Found b q left v k) → Nowhere ≡ s
+out : {b q : List ℤ} {left : ℕ} (s : Option Spot) → left ≤ length q → ((v k : ℕ) → spot_of v k ≡ s → Found b q left v k) → None ≡ s
 out s h f = spotted s (λ v k e. absurd (omega (arith, (f v k e).before))) (λ e. e)
 
-pub out-statement : (d left : ℕ) {s : List ℤ} → Yields (statement_of d) s → (q : List ℤ) → left ≤ length q → Nowhere ≡ spot d left (s ++ q)
+pub out-statement : (d left : ℕ) {s : List ℤ} → Yields (statement_of d) s → (q : List ℤ) → left ≤ length q → None ≡ spot d left (s ++ q)
 out-statement d left y q h = out _ h (statement-found d left (block-found d left) y q)
 
-pub out-block : (d left : ℕ) {ws : List ℤ} → Yields (block_of d) ws → (q : List ℤ) → left ≤ length q → Nowhere ≡ spot_block d left (ws ++ q)
+pub out-block : (d left : ℕ) {ws : List ℤ} → Yields (block_of d) ws → (q : List ℤ) → left ≤ length q → None ≡ spot_block d left (ws ++ q)
 out-block d left y q h = out _ h (block-found d left _ y q)

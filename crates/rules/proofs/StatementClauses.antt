@@ -2,7 +2,7 @@
 use mathlib.Core.Path.{◌≡◌, refl}
 use mathlib.Core.Bool.{Bool, true, false, cond, ◌||◌}
 use mathlib.Core.List.{List, [], ◌∷◌}
-use mathlib.Core.Option.{none, some}
+use Rattle.std.specs.Prelude.{None, Some}
 use Prim.Native.Nat.{ℕ, suc}
 use lib.Dec.{ltb}
 use lib.IntN.{ℤ, pos}
@@ -15,7 +15,7 @@ use Rattle.tables.specs.Values.{cell_of}
 use Rattle.tables.specs.Cells.{Cells, cells}
 use Rattle.tables.specs.Records.{record_count, with_record}
 use Rattle.tables.specs.Kept.{most_kept, kept_count, is_kept, with_position}
-use Rattle.program.specs.Forms.{skip, assign, new, always, once, always_same, once_same, branch, loop, no_verb}
+use Rattle.program.specs.declared.Verb.TheVariants.{Skip as skip, Assign as assign, New as new, Always as always, Once as once, AlwaysSame as always_same, OnceSame as once_same, If as branch, While as loop, Unknown as no_verb}
 use Rattle.program.specs.Reading.{number, read_path, after}
 use Rattle.rules.specs.State.{State, refused, refuse, reads}
 use Rattle.rules.specs.Paths.{way_at}
@@ -34,7 +34,7 @@ keep-is kept s position = refl
 
 pub value-phase-is : (program kept p : List ℤ) (target : ℕ) (S : Cells) (ws : List ℤ)
     → value_phase program kept p target S ws
-    ≡ (settle program kept (record { own = none; target = some target; room = true }) p S ws >>= λ x. got (record { state = record { cells = x.0; kept = kept }; unread = x.1; accepted = 1 }))
+    ≡ (settle program kept (record { own = None; target = Some target; room = true }) p S ws >>= λ x. got (record { state = record { cells = x.0; kept = kept }; unread = x.1; accepted = 1 }))
 unfolding value_phase
 value-phase-is program kept p target S ws = refl
 
@@ -61,7 +61,7 @@ module _ (program p : List ℤ) (S : State) (ws : List ℤ) where
   new_is = refl
 
   pub constrain-is : (keeps : Bool) → do_constraint keeps program p S ws
-      ≡ (settle program S.kept (record { own = some (drop 1 p); target = none; room = cond keeps (has_room S.kept Values (position_of program p)) true }) p S.cells ws >>= λ x. got (record { state = record { cells = x.0; kept = cond keeps (keep S.kept Values (position_of program p)) S.kept }; unread = x.1; accepted = 1 }))
+      ≡ (settle program S.kept (record { own = Some (drop 1 p); target = None; room = cond keeps (has_room S.kept Values (position_of program p)) true }) p S.cells ws >>= λ x. got (record { state = record { cells = x.0; kept = cond keeps (keep S.kept Values (position_of program p)) S.kept }; unread = x.1; accepted = 1 }))
   unfolding do_constraint
   constrain-is keeps = refl
 

@@ -9,7 +9,9 @@ use lib.ListN.{length, get_or}
 use lib.Seq.{drop-append_seam}
 use Rattle.words.specs.Words.{number_at}
 use Rattle.words.proofs.Laws.{number-first, number-drop}
-use Rattle.program.specs.Forms.{Verb, no_verb, verbs, verb_of}
+use Rattle.program.specs.Forms.{verbs, verb_of}
+use Rattle.program.specs.declared.Verb.{Verb}
+use Rattle.program.specs.declared.Verb.TheVariants.{Unknown as no_verb}
 use Rattle.program.specs.Grammar.{Labels, Path, statement_of, Yields}
 use Rattle.program.specs.Reading.{read_path, after}
 use Rattle.program.specs.Told.{told}

@@ -5,7 +5,7 @@ use Prim.Native.Nat.{ℕ, ◌<◌}
 use native.Mathlib.Omega.{arith}
 use mathlib.Core.Bool.{true, false}
 use mathlib.Core.List.{List, ◌∷◌}
-use mathlib.Core.Option.{none, some}
+use Rattle.std.specs.Prelude.{None, Some}
 use lib.IntN.{ℤ, pos}
 use Rattle.words.specs.Words.{number_at}
 use Rattle.words.specs.Answer.{got}
@@ -13,7 +13,9 @@ use Rattle.words.proofs.Laws.{number-first}
 use Rattle.words.proofs.AnswerLaws.{stop≢got, got-inj, step, step-on, tested}
 use Rattle.tables.specs.declared.Sort.TheVariants.{Values, Identities}
 use Rattle.tables.specs.Cells.{Cells}
-use Rattle.program.specs.Forms.{Verb, skip, assign, new, always, once, always_same, once_same, branch, loop, no_verb, verb_of}
+use Rattle.program.specs.Forms.{verb_of}
+use Rattle.program.specs.declared.Verb.{Verb}
+use Rattle.program.specs.declared.Verb.TheVariants.{Skip as skip, Assign as assign, New as new, Always as always, Once as once, AlwaysSame as always_same, OnceSame as once_same, If as branch, While as loop, Unknown as no_verb}
 use Rattle.program.proofs.FormLaws.{number_of_verb, verb-word}
 use Rattle.rules.specs.State.{State, refused}
 use Rattle.rules.specs.Identities.{same_now, identity_phase}
@@ -33,16 +35,16 @@ module _ (program : List ℤ) (S : State) (ws : List ℤ) (holds : Holds program
   -- ---- the value phase
 
   value-sound : (p : List ℤ) (target : ℕ) (Y : Cells) (l : Left) {X : Type 0} → value_phase program S.kept p target Y ws ≡ got l
-      → ((Z : Cells) (rest : List ℤ) → Settles program S.kept (asking none (some target) true) Y ws Z rest → leaves Z S.kept rest 1 ≡ l → X) → X
+      → ((Z : Cells) (rest : List ℤ) → Settles program S.kept (asking None (Some target) true) Y ws Z rest → leaves Z S.kept rest 1 ≡ l → X) → X
   unfolding value_phase
   value-sound p target Y l e k =
-      step (settle program S.kept (asking none (some target) true) p Y ws) _ e λ x s k1.
-      k x.0 x.1 ((settle-iff program S.kept (asking none (some target) true) p Y ws x.0 x.1).0 s) (got-inj k1)
+      step (settle program S.kept (asking None (Some target) true) p Y ws) _ e λ x s k1.
+      k x.0 x.1 ((settle-iff program S.kept (asking None (Some target) true) p Y ws x.0 x.1).0 s) (got-inj k1)
 
-  value-complete : (p : List ℤ) (target : ℕ) (Y : Cells) (Z : Cells) (rest : List ℤ) → Settles program S.kept (asking none (some target) true) Y ws Z rest
+  value-complete : (p : List ℤ) (target : ℕ) (Y : Cells) (Z : Cells) (rest : List ℤ) → Settles program S.kept (asking None (Some target) true) Y ws Z rest
       → value_phase program S.kept p target Y ws ≡ got (leaves Z S.kept rest 1)
   unfolding value_phase
-  value-complete p target Y Z rest s = rw ((settle-iff program S.kept (asking none (some target) true) p Y ws Z rest).1 s)
+  value-complete p target Y Z rest s = rw ((settle-iff program S.kept (asking None (Some target) true) p Y ws Z rest).1 s)
 
   -- ---- what is accepted followed the rules
 
@@ -60,16 +62,16 @@ module _ (program : List ℤ) (S : State) (ws : List ℤ) (holds : Holds program
     unfolding do_constraint
     always-sound e =
         let room = has_room S.kept Values (position_of program (pos 3 ∷ p)) in
-        step (settle program S.kept (asking (some p) none room) (pos 3 ∷ p) S.cells ws) _ e λ x s k.
-        let y = (settle-iff program S.kept (asking (some p) none room) (pos 3 ∷ p) S.cells ws x.0 x.1).0 s in
-        rw (← got-inj k) (s_always (subst (λ b. Settles program S.kept (asking (some p) none b) S.cells ws x.0 x.1) y.room y)
+        step (settle program S.kept (asking (Some p) None room) (pos 3 ∷ p) S.cells ws) _ e λ x s k.
+        let y = (settle-iff program S.kept (asking (Some p) None room) (pos 3 ∷ p) S.cells ws x.0 x.1).0 s in
+        rw (← got-inj k) (s_always (subst (λ b. Settles program S.kept (asking (Some p) None b) S.cells ws x.0 x.1) y.room y)
         (keeps-sound S.kept Values (position_of program (pos 3 ∷ p)) y.room))
 
     once-sound : do_constraint false program (pos 4 ∷ p) S ws ≡ got l → Steps program S ws (pos 4 ∷ p) l
     unfolding do_constraint
     once-sound e =
-        step (settle program S.kept (asking (some p) none true) (pos 4 ∷ p) S.cells ws) _ e λ x s k.
-        rw (← got-inj k) (s_once ((settle-iff program S.kept (asking (some p) none true) (pos 4 ∷ p) S.cells ws x.0 x.1).0 s))
+        step (settle program S.kept (asking (Some p) None true) (pos 4 ∷ p) S.cells ws) _ e λ x s k.
+        rw (← got-inj k) (s_once ((settle-iff program S.kept (asking (Some p) None true) (pos 4 ∷ p) S.cells ws x.0 x.1).0 s))
 
     always-identity-sound : do_identity true program (pos 5 ∷ p) S ws ≡ got l → Steps program S ws (pos 5 ∷ p) l
     unfolding do_identity
@@ -113,13 +115,13 @@ module _ (program : List ℤ) (S : State) (ws : List ℤ) (holds : Holds program
       rw (
         statement-verb (pos 3 ∷ p) here always (number-first (pos 3) p),
         keeps-room S.kept Values (position_of program (pos 3 ∷ p)) k,
-        (settle-iff program S.kept (asking (some p) none true) (pos 3 ∷ p) S.cells ws Z rest).1 s,
+        (settle-iff program S.kept (asking (Some p) None true) (pos 3 ∷ p) S.cells ws Z rest).1 s,
         keeps-is S.kept Values (position_of program (pos 3 ∷ p)) k,
       )
   steps-complete (s_once {Z = Z} {p = p} {rest = rest} s) here =
       rw (
         statement-verb (pos 4 ∷ p) here once (number-first (pos 4) p),
-        (settle-iff program S.kept (asking (some p) none true) (pos 4 ∷ p) S.cells ws Z rest).1 s,
+        (settle-iff program S.kept (asking (Some p) None true) (pos 4 ∷ p) S.cells ws Z rest).1 s,
       )
   steps-complete (s_always_identity {p = p} s k) here =
       rw (

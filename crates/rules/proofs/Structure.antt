@@ -1,5 +1,6 @@
 -- One structure: an equivalence; what cells hold, and which field has a label, depend on it only.
 -- Assumes nothing.
+use Rattle.std.specs.Prelude.{None, Option, Some}
 use mathlib.Core.Path.{◌≡◌, refl, sym, ◌∙◌}
 use mathlib.Core.Bool.{Bool}
 use Prim.Native.Nat.{ℕ, zero, suc, ◌+◌, ◌<◌}
@@ -12,8 +13,6 @@ use Rattle.words.specs.Words.{number_of}
 use Rattle.tables.specs.declared.Cell.{Cell}
 use Rattle.tables.specs.declared.Value.{Value}
 use Rattle.tables.specs.declared.Value.TheVariants.{Nil, Bool as Truth, Int, Ref}
-use Rattle.tables.specs.declared.Slot.{Slot}
-use Rattle.tables.specs.declared.Slot.TheVariants.{Absent, Has}
 use Rattle.tables.specs.Values.{cell, cell_of, slot_of}
 use Rattle.tables.specs.Cells.{Cells, cell_at, put_cell, Sized}
 use Rattle.tables.specs.Records.{field_count, label_at, field_with}
@@ -84,13 +83,13 @@ value-refl (Int n) = ints
 value-refl (Ref r) = refs
 
 -- both absent, or alike values
-pub data AlikeSlot : Slot → Slot → Type 0 where
-  absents : AlikeSlot Absent Absent
-  held : {v w : Value} → Alike v w → AlikeSlot (Has v) (Has w)
+pub data AlikeSlot : Option Value → Option Value → Type 0 where
+  absents : AlikeSlot None None
+  held : {v w : Value} → Alike v w → AlikeSlot (Some v) (Some w)
 
-slot-refl : (x : Slot) → AlikeSlot x x
-slot-refl Absent = absents
-slot-refl (Has v) = held (value-refl v)
+slot-refl : (x : Option Value) → AlikeSlot x x
+slot-refl None = absents
+slot-refl (Some v) = held (value-refl v)
 
 same-cell : (a b : Cell) → a.kind ≡ b.kind → a.payload ≡ b.payload → a ≡ b
 same-cell a b e f = rw (e, f)

@@ -12,14 +12,17 @@ use Rattle.words.specs.Answer.{got, want}
 use Rattle.words.proofs.AnswerLaws.{got-inj, stop≢got, step, step-on}
 use Rattle.words.proofs.Laws.{number-first}
 use Rattle.tables.specs.Cells.{Cells}
+use Rattle.tables.specs.declared.Kind.{Kind}
 use Rattle.program.specs.Forms.{operators}
-use Rattle.program.specs.Forms.{Form, a_nil, a_false, a_true, an_integer, a_path, an_operation, an_identity, no_form, form_of}
+use Rattle.program.specs.Forms.{form_of}
+use Rattle.program.specs.declared.Form.{Form}
+use Rattle.program.specs.declared.Form.TheVariants.{Nil as a_nil, False as a_false, True as a_true, Integer as an_integer, Path as a_path, Operation as an_operation, Identity as an_identity, Unknown as no_form}
 use Rattle.program.specs.Reading.{any_word}
 use Rattle.program.proofs.NumberLaws.{number-of, any-fits}
 use Rattle.program.proofs.FormLaws.{number_of_form}
 use Rattle.rules.specs.State.{Res, reads}
 use Rattle.rules.specs.Paths.{value_at}
-use Rattle.rules.specs.Evaluation.{Kind, op_of, takes, gives, at, kind_form, kind}
+use Rattle.rules.specs.Evaluation.{op_of, takes, gives, at, kind_form, kind}
 use Rattle.rules.specs.Rules.Operators.{Gives}
 use Rattle.rules.specs.Rules.Expressions.{Literal, t_literal, t_path, t_operation, KindWithin}
 use Rattle.rules.proofs.WordSteps.{at-got, by_number, by_word, form-words, form-is, apart}

@@ -7,10 +7,13 @@ use mathlib.Core.Bool.{true, false}
 use mathlib.Core.List.{List, ◌++◌}
 use lib.IntN.{ℤ}
 use lib.ListN.{get_or}
+use Rattle.std.specs.Prelude.{is_ok}
 use Rattle.words.specs.Words.{number_at}
 use Rattle.words.specs.Answer.{got, stop}
 use Rattle.words.proofs.Laws.{number-first}
-use Rattle.program.specs.Forms.{Verb, skip, assign, new, always, once, always_same, once_same, branch, loop, no_verb, verbs, verb_of}
+use Rattle.program.specs.Forms.{verbs, verb_of}
+use Rattle.program.specs.declared.Verb.{Verb}
+use Rattle.program.specs.declared.Verb.TheVariants.{Skip as skip, Assign as assign, New as new, Always as always, Once as once, AlwaysSame as always_same, OnceSame as once_same, If as branch, While as loop, Unknown as no_verb}
 use Rattle.program.specs.Grammar.{statement_of, Yields}
 use Rattle.program.specs.Told.{told}
 use Rattle.program.proofs.FormLaws.{number_of_verb, verb-number}
@@ -42,7 +45,7 @@ verb-none loop h = absurd (h (omega arith))
 verb-none no_verb h = refl
 
 pub told-apart : (p q : List ℤ) → told (stop p) ≡ told (got q) → ⊥
-told-apart p q e = let z : false ≡ true = ap (λ r. r.fits) e in absurd (let w : ◌≡◌ {A = ℕ} 0 1 = cc in omega arith)
+told-apart p q e = let z : false ≡ true = ap is_ok e in absurd (let w : ◌≡◌ {A = ℕ} 0 1 = cc in omega arith)
 
 -- the statement's own word stands for its verb
 abbrev pub verb_in : {d : ℕ} {s : List ℤ} → Yields (statement_of d) s → Verb

@@ -1,4 +1,5 @@
 -- Laws of paths: what an L goes through, and that it leads to the same cell where its prefix cells are the same. Assumes nothing.
+use Rattle.std.specs.Prelude.{None, Option, Some}
 use mathlib.Core.Path.{◌≡◌, refl, sym, ap, ◌∙◌}
 use mathlib.Core.Bool.{Bool}
 use mathlib.Core.List.Memᴰ
@@ -14,11 +15,8 @@ use lib.ListN.{drop}
 use Rattle.words.specs.Words.{number_at}
 use Rattle.words.specs.Answer.{Answer, got, stop}
 use Rattle.words.proofs.AnswerLaws.{step, got-inj, stop≢got}
+use Rattle.tables.specs.declared.Value.{Value}
 use Rattle.tables.specs.declared.Value.TheVariants.{Nil, Bool as Truth, Int, Ref}
-use Rattle.tables.specs.declared.Slot.{Slot}
-use Rattle.tables.specs.declared.Slot.TheVariants.{Absent, Has}
-use Rattle.tables.specs.declared.Found.{Found}
-use Rattle.tables.specs.declared.Found.TheVariants.{At, Nothing}
 use Rattle.tables.specs.Sizes.{variables, field_location}
 use Rattle.tables.specs.Search.{first}
 use Rattle.tables.specs.Cells.{Cells}
@@ -54,10 +52,10 @@ module _ (h : List ℤ) (r label : ℕ) where
   named : place < field_count h r → label_at h r place ≡ label
   named y = eqb-true (label_at h r place) label (first_passes labelled 0 (field_count h r) (omega arith))
 
-  found-hits : place < field_count h r → At (field_location r place) ≡ field_with h r label
+  found-hits : place < field_count h r → Some (field_location r place) ≡ field_with h r label
   found-hits y = find-hits h r label place (seeks labelled (field_count h r)) y (named y)
 
-  found-ends : field_count h r ≤ place → Nothing ≡ field_with h r label
+  found-ends : field_count h r ≤ place → None ≡ field_with h r label
   found-ends y = find-ends h r label place (seeks labelled (field_count h r)) y
 
 -- the field that a label leads to: a used place of the record, which has the label
@@ -67,7 +65,7 @@ pub record FoundAt (h : List ℤ) (r label l : ℕ) : Type 0 where
   pub is : l ≡ field_location r at_place
   pub has : label_at h r at_place ≡ label
 
-pub found_at : (h : List ℤ) (r label l : ℕ) → field_with h r label ≡ At l → FoundAt h r label l
+pub found_at : (h : List ℤ) (r label l : ℕ) → field_with h r label ≡ Some l → FoundAt h r label l
 found_at h r label l e = go (dec_lt (place h r label) (field_count h r))
   where
     never : ◌≡◌ {A = ℕ} 0 1 → FoundAt h r label l
@@ -90,21 +88,21 @@ found-same h k r label c l = go (dec_lt (place h r label) (field_count h r))
 
 -- ---- following labels
 
-pub record_is : (s : Slot) (r : ℕ) → a_record s ≡ got r → s ≡ Has (Ref r)
-record_is (Has Nil) r e = stop≢got e
-record_is (Has (Truth b)) r e = stop≢got e
-record_is (Has (Int n)) r e = stop≢got e
-record_is (Has (Ref q)) r e = rw (got-inj e)
-record_is Absent r e = stop≢got e
+pub record_is : (s : Option Value) (r : ℕ) → a_record s ≡ got r → s ≡ Some (Ref r)
+record_is (Some Nil) r e = stop≢got e
+record_is (Some (Truth b)) r e = stop≢got e
+record_is (Some (Int n)) r e = stop≢got e
+record_is (Some (Ref q)) r e = rw (got-inj e)
+record_is None r e = stop≢got e
 
-pub field_is : (f : Found) (l : ℕ) → a_field f ≡ got l → f ≡ At l
-field_is (At k) l e = rw (got-inj e)
-field_is Nothing l e = stop≢got e
+pub field_is : (f : Option ℕ) (l : ℕ) → a_field f ≡ got l → f ≡ Some l
+field_is (Some k) l e = rw (got-inj e)
+field_is None l e = stop≢got e
 
 -- a path that leads somewhere: its first label leads from a reference to a used field, and the others lead on
 module _ (S : Cells) where
   pub follow-step {ℓ} : {X : Type ℓ} (n l : ℕ) (p : List ℤ) (x : ℕ × List ℕ) → follow S (suc n) l p ≡ got x
-      → ((r next : ℕ) (y : ℕ × List ℕ) → slot_at S l ≡ Has (Ref r) → field_with S.heap r (number_at p 0) ≡ At next → follow S n next (drop 1 p) ≡ got y → x ≡ (y.0, l ∷ y.1) → X) → X
+      → ((r next : ℕ) (y : ℕ × List ℕ) → slot_at S l ≡ Some (Ref r) → field_with S.heap r (number_at p 0) ≡ Some next → follow S n next (drop 1 p) ≡ got y → x ≡ (y.0, l ∷ y.1) → X) → X
   unfolding follow
   follow-step n l p x e k =
       step (a_record (slot_at S l)) _ e λ r e1 k1.
@@ -123,12 +121,12 @@ module _ (S : Cells) where
       rw q (follow-below n next (drop 1 p) y (find-below S.heap r (number_at p 0) next e2) e3)
 
 -- where the prefix cells hold the same and records met have the same fields, labels lead to the same cell through the same cells
-pub follow-same : (S Z : Cells) (n l : ℕ) (p : List ℤ) (x : ℕ × List ℕ) → ((k r label : ℕ) → slot_at S k ≡ Has (Ref r) → field_with Z.heap r label ≡ field_with S.heap r label) → follow S n l p ≡ got x → ((k : ℕ) → OneOf k x.1 → slot_at Z k ≡ slot_at S k) → follow Z n l p ≡ got x
+pub follow-same : (S Z : Cells) (n l : ℕ) (p : List ℤ) (x : ℕ × List ℕ) → ((k r label : ℕ) → slot_at S k ≡ Some (Ref r) → field_with Z.heap r label ≡ field_with S.heap r label) → follow S n l p ≡ got x → ((k : ℕ) → OneOf k x.1 → slot_at Z k ≡ slot_at S k) → follow Z n l p ≡ got x
 unfolding follow
 follow-same S Z zero l p x f e h = e
 follow-same S Z (suc n) l p x f e h = follow-step S n l p x e λ r next y e1 e2 e3 q.
-    let a : slot_at Z l ≡ Has (Ref r) = h l (rw q (OneOf.head refl)) ∙ e1 in
-    let b : field_with Z.heap r (number_at p 0) ≡ At next = f l r (number_at p 0) e1 ∙ e2 in
+    let a : slot_at Z l ≡ Some (Ref r) = h l (rw q (OneOf.head refl)) ∙ e1 in
+    let b : field_with Z.heap r (number_at p 0) ≡ Some next = f l r (number_at p 0) e1 ∙ e2 in
     rw (a, b, follow-same S Z n next (drop 1 p) y f e3 (λ k m. h k (rw q (OneOf.tail m))), q)
 
 -- ---- an L
@@ -182,7 +180,7 @@ module _ (S : Cells) (p : List ℤ) (w : Way) (e : way_at S p ≡ got w) where
       follow-below S o.steps o.variable o.labels (w.cell, w.prefix) (omega arith) o.leads
 
   -- it names the same cell in another table where its prefix cells hold the same, and the records have the same fields
-  pub way_same : (Z : Cells) → ((k r label : ℕ) → slot_at S k ≡ Has (Ref r) → field_with Z.heap r label ≡ field_with S.heap r label) → ((k : ℕ) → OneOf k w.prefix → slot_at Z k ≡ slot_at S k) → way_at Z p ≡ got w
+  pub way_same : (Z : Cells) → ((k r label : ℕ) → slot_at S k ≡ Some (Ref r) → field_with Z.heap r label ≡ field_with S.heap r label) → ((k : ℕ) → OneOf k w.prefix → slot_at Z k ≡ slot_at S k) → way_at Z p ≡ got w
   way_same Z f h =
       let o = way_of S p w e in
       way-from Z p w (record {

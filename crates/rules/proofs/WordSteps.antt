@@ -1,4 +1,5 @@
 -- Steps of a `do` that read words: what was read, where one answered, and the forms by their numbers. Assumes nothing.
+use Rattle.std.specs.Prelude.{None, Option, Some, is_ok}
 use mathlib.Core.Path.{◌≡◌, refl, sym, ap, ◌∙◌}
 use mathlib.Core.Bool.{true, false}
 use mathlib.Core.List.{List, [], ◌∷◌, ◌++◌}
@@ -11,13 +12,12 @@ use Rattle.words.specs.Answer.{Answer, got, stop, ◌>>=◌}
 use Rattle.words.proofs.AnswerLaws.{got-inj, stop≢got, step}
 use Rattle.words.proofs.Laws.{number-first}
 use Rattle.tables.specs.declared.Value.{Value}
-use Rattle.tables.specs.declared.Slot.{Slot}
-use Rattle.tables.specs.declared.Slot.TheVariants.{Absent, Has}
-use Rattle.program.specs.Forms.{Form, a_nil, a_false, a_true, an_integer, a_path, an_operation, an_identity, no_form, forms, form_of}
+use Rattle.program.specs.Forms.{forms, form_of}
+use Rattle.program.specs.declared.Form.{Form}
+use Rattle.program.specs.declared.Form.TheVariants.{Nil as a_nil, False as a_false, True as a_true, Integer as an_integer, Path as a_path, Operation as an_operation, Identity as an_identity, Unknown as no_form}
 use Rattle.program.specs.Grammar.{Path, Labels, Expression}
 use Rattle.program.specs.Reading.{Reading, number, any_word, read_expression}
 use Rattle.program.specs.Told.{told}
-use Rattle.program.specs.declared.Piece.{Piece}
 use Rattle.program.proofs.NumberLaws.{IsNumber, number_read, number_is, any-read}
 use Rattle.program.proofs.FormLaws.{number_of_form, form-number, form-word}
 use Rattle.program.proofs.GrammarLaws.{expression-complete}
@@ -39,9 +39,9 @@ pub at-got : {A : Type 0} {a : A} (p : List ℤ) (m : Answer ℕ A) → at p m �
 at-got p (got x) e = ap got (got-inj e)
 at-got p (stop q) e = stop≢got e
 
-pub present-got : {v : Value} (s : Slot) → present s ≡ got v → s ≡ Has v
-present-got (Has v) e = ap Has (got-inj e)
-present-got Absent e = stop≢got e
+pub present-got : {v : Value} (s : Option Value) → present s ≡ got v → s ≡ Some v
+present-got (Some v) e = ap Some (got-inj e)
+present-got None e = stop≢got e
 
 -- a number was read, and then the rest
 pub by_number {ℓ} : {B : Type 0} {X : Type ℓ} {b : B} (low high : ℕ) (p : List ℤ) (f : ℕ × List ℤ → Res B) → high < 2147483648
@@ -100,7 +100,7 @@ form-begins f ws x =
     never q =
         let e : read_expression 2 false (pos (number_of_form f) ∷ ws ++ []) ≡ got [] = expression-complete x [] in
         let i : number_at (pos (number_of_form f) ∷ ws ++ []) 0 ≡ number_of_form f = number-first (pos (number_of_form f)) (ws ++ []) in
-        let t : false ≡ true = ap (λ (r : Piece). r.fits) (expression-none 2 false (pos (number_of_form f) ∷ ws ++ []) (λ z. omega arith) (rw i q) ∙ ap told e) in
+        let t : false ≡ true = ap is_ok (expression-none 2 false (pos (number_of_form f) ∷ ws ++ []) (λ z. omega arith) (rw i q) ∙ ap told e) in
         let z : ◌≡◌ {A = ℕ} 0 1 = cc in
         omega arith
 

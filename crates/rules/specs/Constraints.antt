@@ -1,6 +1,5 @@
 -- Constraints and their parts (01, "The program's words": C; "Always C, once C"; "Proposal"). Assumes nothing: these are definitions.
-use Rattle.std.specs.Prelude.{ℕ, zero, suc, ◌+◌, Bool, true, false, not, ◌&&◌, ◌||◌, List, [], ◌∷◌, ◌++◌, eqb, ℤ, drop}
-use Rattle.std.proofs.Math.Option.{Option, none, some}
+use Rattle.std.specs.Prelude.{ℕ, zero, suc, ◌+◌, Bool, true, false, not, ◌&&◌, ◌||◌, List, [], ◌∷◌, ◌++◌, eqb, ℤ, drop, Option, None, Some}
 use Rattle.words.specs.Answer.{got, stop, ◌>>=◌, ◌>>◌, want}
 use Rattle.tables.specs.declared.Value.{Value}
 use Rattle.tables.specs.declared.Sort.TheVariants.{Values}
@@ -60,8 +59,8 @@ kept_parts program S (position ∷ more) = do
 
 -- the parts that count for a statement: its own C, if it has one, and all kept value constraints
 unfoldable pub own_parts : Cells → Option (List ℤ) → Res (List Part)
-own_parts S none = got []
-own_parts S (some p) = constraint_at S p
+own_parts S None = got []
+own_parts S (Some p) = constraint_at S p
 
 unfoldable pub counted : List ℤ → List ℤ → Option (List ℤ) → Cells → Res (List Part)
 counted program kept own S = do

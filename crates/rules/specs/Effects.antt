@@ -1,6 +1,5 @@
 -- What a proposal may do to the tables (01, "Proposal"). Assumes nothing: these are definitions.
-use Rattle.std.specs.Prelude.{ℕ, ◌≡◌, ◌⊎◌, Bool, cond, ℤ, pos, length}
-use Rattle.std.proofs.Math.Option.{some}
+use Rattle.std.specs.Prelude.{ℕ, ◌≡◌, ◌⊎◌, Bool, cond, ℤ, pos, length, Some}
 use Rattle.tables.specs.declared.Cell.{Cell}
 use Rattle.tables.specs.Values.{cell}
 use Rattle.tables.specs.Cells.{Cells, cell_at}
@@ -17,7 +16,7 @@ pub data OfKind : Cell → ℤ → Type 0 where
 -- "the target cell itself may not be changed by it"
 pub record Effect (asked : Asked) (S Z : Cells) : Type 0 where
   pub cells : (l : ℕ) → (cell_at Z l ≡ cell_at S l) ⊎ ((n : ℤ) × (OfKind (cell_at S l) n × (cell_at Z l ≡ cell (cell_at S l).kind n)))
-  pub target : (l : ℕ) → asked.target ≡ some l → cell_at Z l ≡ cell_at S l
+  pub target : (l : ℕ) → asked.target ≡ Some l → cell_at Z l ≡ cell_at S l
   pub records : record_count Z.heap ≡ record_count S.heap
   pub fields : (r : ℕ) → field_count Z.heap r ≡ field_count S.heap r
   pub labels : (r f : ℕ) → label_at Z.heap r f ≡ label_at S.heap r f

@@ -6,15 +6,18 @@ use Rattle.words.specs.Range.{fits}
 use Rattle.words.specs.Answer.{Answer, got, stop, ◌>>=◌, ◌>>◌, want}
 use Rattle.tables.specs.declared.Value.{Value}
 use Rattle.tables.specs.declared.Value.TheVariants.{Nil, Bool as Truth, Int, Ref}
+use Rattle.tables.specs.declared.Kind.{Kind}
+use Rattle.tables.specs.declared.Kind.TheVariants.{Nil as is_nil, Bool as is_bool, Int as is_int, Ref as is_ref}
+use Rattle.program.specs.declared.Operator.{Operator}
+use Rattle.program.specs.declared.Operator.TheVariants.{Plus, Minus, Times, Below, AtMost, Equal, Unequal, AtLeast, Above, And, Or, Unknown}
 use Rattle.tables.specs.Values.{cell_of}
 use Rattle.tables.specs.Cells.{Cells}
-use Rattle.program.specs.Forms.{operators, Form, a_nil, a_false, a_true, an_integer, a_path, an_operation, an_identity, no_form, form_of}
+use Rattle.program.specs.Forms.{operators, form_of}
+use Rattle.program.specs.declared.Form.{Form}
+use Rattle.program.specs.declared.Form.TheVariants.{Nil as a_nil, False as a_false, True as a_true, Integer as an_integer, Path as a_path, Operation as an_operation, Identity as an_identity, Unknown as no_form}
 use Rattle.program.specs.Reading.{number, any_word}
 use Rattle.rules.specs.State.{Res, refuse, reads}
 use Rattle.rules.specs.Paths.{value_at}
-
-pub data Kind : Type 0 where
-  is_nil is_bool is_int is_ref : Kind
 
 abbrev pub kind_of : Value → Kind
 kind_of Nil = is_nil
@@ -23,14 +26,11 @@ kind_of (Int n) = is_int
 kind_of (Ref r) = is_ref
 
 -- "Operators: 1 +, 2 -, 3 ×, 4 <, 5 ≤, 6 =, 7 ≠, 8 ≥, 9 >, 10 and, 11 or."
-pub data Op : Type 0 where
-  add sub mul lt le eq ne ge gt and or no_op : Op
+abbrev pub ops : List Operator
+ops = Unknown ∷ Plus ∷ Minus ∷ Times ∷ Below ∷ AtMost ∷ Equal ∷ Unequal ∷ AtLeast ∷ Above ∷ And ∷ Or ∷ []
 
-abbrev pub ops : List Op
-ops = no_op ∷ add ∷ sub ∷ mul ∷ lt ∷ le ∷ eq ∷ ne ∷ ge ∷ gt ∷ and ∷ or ∷ []
-
-unfoldable pub op_of : ℕ → Op
-op_of n = get_or ops n no_op
+unfoldable pub op_of : ℕ → Operator
+op_of n = get_or ops n Unknown
 
 -- ---- kinds: "Operators 1 to 5, 8 and 9 want integers, 10 and 11 booleans" (T-OP)
 
@@ -60,33 +60,33 @@ unfoldable pub comparable : Kind → Kind → Bool
 comparable a b = two an_int a b || two a_bool a b || two the_nil a b
 
 -- whether an operator takes these kinds, and the kind of its result
-unfoldable pub takes : Op → Kind → Kind → Bool
-takes add = two an_int
-takes sub = two an_int
-takes mul = two an_int
-takes lt = two an_int
-takes le = two an_int
-takes eq = comparable
-takes ne = comparable
-takes ge = two an_int
-takes gt = two an_int
-takes and = two a_bool
-takes or = two a_bool
-takes no_op = λ a b. false
+unfoldable pub takes : Operator → Kind → Kind → Bool
+takes Plus = two an_int
+takes Minus = two an_int
+takes Times = two an_int
+takes Below = two an_int
+takes AtMost = two an_int
+takes Equal = comparable
+takes Unequal = comparable
+takes AtLeast = two an_int
+takes Above = two an_int
+takes And = two a_bool
+takes Or = two a_bool
+takes Unknown = λ a b. false
 
-unfoldable pub gives : Op → Kind
-gives add = is_int
-gives sub = is_int
-gives mul = is_int
-gives lt = is_bool
-gives le = is_bool
-gives eq = is_bool
-gives ne = is_bool
-gives ge = is_bool
-gives gt = is_bool
-gives and = is_bool
-gives or = is_bool
-gives no_op = is_nil
+unfoldable pub gives : Operator → Kind
+gives Plus = is_int
+gives Minus = is_int
+gives Times = is_int
+gives Below = is_bool
+gives AtMost = is_bool
+gives Equal = is_bool
+gives Unequal = is_bool
+gives AtLeast = is_bool
+gives Above = is_bool
+gives And = is_bool
+gives Or = is_bool
+gives Unknown = is_nil
 
 -- ---- values
 
@@ -111,22 +111,22 @@ unfoldable pub ranged : ℤ → Answer ℕ Value
 ranged z = want 9 (fits z) >> got (Int z)
 
 -- what an operator makes of two values whose kinds it takes
-unfoldable pub made : Op → Value → Value → Answer ℕ Value
-made add a b = ranged (int_of a +ℤ int_of b)
-made sub a b = ranged (int_of a -ℤ int_of b)
-made mul a b = ranged (int_of a *ℤ int_of b)
-made lt a b = got (Truth (lt_z (int_of a) (int_of b)))
-made le a b = got (Truth (le_z (int_of a) (int_of b)))
-made eq a b = got (Truth (same a b))
-made ne a b = got (Truth (not (same a b)))
-made ge a b = got (Truth (le_z (int_of b) (int_of a)))
-made gt a b = got (Truth (lt_z (int_of b) (int_of a)))
-made and a b = got (Truth (bool_of a && bool_of b))
-made or a b = got (Truth (bool_of a || bool_of b))
-made no_op a b = stop 8
+unfoldable pub made : Operator → Value → Value → Answer ℕ Value
+made Plus a b = ranged (int_of a +ℤ int_of b)
+made Minus a b = ranged (int_of a -ℤ int_of b)
+made Times a b = ranged (int_of a *ℤ int_of b)
+made Below a b = got (Truth (lt_z (int_of a) (int_of b)))
+made AtMost a b = got (Truth (le_z (int_of a) (int_of b)))
+made Equal a b = got (Truth (same a b))
+made Unequal a b = got (Truth (not (same a b)))
+made AtLeast a b = got (Truth (le_z (int_of b) (int_of a)))
+made Above a b = got (Truth (lt_z (int_of b) (int_of a)))
+made And a b = got (Truth (bool_of a && bool_of b))
+made Or a b = got (Truth (bool_of a || bool_of b))
+made Unknown a b = stop 8
 
 -- "then kinds are tested, then range"
-unfoldable pub apply : Op → Value → Value → Answer ℕ Value
+unfoldable pub apply : Operator → Value → Value → Answer ℕ Value
 apply o a b = want 8 (takes o (kind_of a) (kind_of b)) >> made o a b
 
 -- a refusal by its number, at p

@@ -1,10 +1,8 @@
 -- Kept identities, and the identity phase (01, "What a statement does"; 000, stay_prefix). Assumes nothing: these are definitions.
-use Rattle.std.specs.Prelude.{ℕ, ◌+◌, Bool, true, false, not, cond, ◌&&◌, ◌||◌, List, [], ◌∷◌, ◌++◌, eqb, ℤ, drop}
+use Rattle.std.specs.Prelude.{ℕ, ◌+◌, Bool, true, false, not, cond, ◌&&◌, ◌||◌, List, [], ◌∷◌, ◌++◌, eqb, ℤ, drop, None, Option, Some}
 use Rattle.words.specs.Answer.{got, ◌>>=◌, ◌>>◌, want}
 use Rattle.tables.specs.declared.Value.{Value}
 use Rattle.tables.specs.declared.Value.TheVariants.{Nil, Bool as Truth, Int, Ref}
-use Rattle.tables.specs.declared.Slot.{Slot}
-use Rattle.tables.specs.declared.Slot.TheVariants.{Absent, Has}
 use Rattle.tables.specs.declared.Sort.TheVariants.{Identities}
 use Rattle.tables.specs.Values.{cell_of}
 use Rattle.tables.specs.Cells.{Cells, put_cell}
@@ -78,9 +76,9 @@ unfoldable pub names : List Tie → ℕ → Bool
 names [] l = false
 names (t ∷ ts) l = eqb t.one l || eqb t.two l || names ts l
 
-abbrev pub is : Slot → Value → Bool
-is (Has w) v = same w v
-is Absent v = false
+abbrev pub is : Option Value → Value → Bool
+is (Some w) v = same w v
+is None v = false
 
 -- "If a frozen cell is in the class and now holds something else, the clash refuses the statement."
 unfoldable pub clash_free : Cells → List ℕ → Value → List ℕ → Bool

@@ -1,13 +1,9 @@
 -- Paths (01, "What a statement does": "An L names one cell, reached through its prefix cells"). Assumes nothing: these are definitions.
-use Rattle.std.specs.Prelude.{ℕ, zero, suc, ◌-◌, List, [], ◌∷◌, ℤ, drop}
+use Rattle.std.specs.Prelude.{ℕ, zero, suc, ◌-◌, List, [], ◌∷◌, ℤ, drop, None, Option, Some}
 use Rattle.words.specs.Words.{number_at}
 use Rattle.words.specs.Answer.{Answer, got, stop, ◌>>=◌}
 use Rattle.tables.specs.declared.Value.{Value}
 use Rattle.tables.specs.declared.Value.TheVariants.{Nil, Bool as Truth, Int, Ref}
-use Rattle.tables.specs.declared.Slot.{Slot}
-use Rattle.tables.specs.declared.Slot.TheVariants.{Absent, Has}
-use Rattle.tables.specs.declared.Found.{Found}
-use Rattle.tables.specs.declared.Found.TheVariants.{At, Nothing}
 use Rattle.tables.specs.Sizes.{variables}
 use Rattle.tables.specs.Cells.{Cells}
 use Rattle.tables.specs.Records.{field_with}
@@ -16,16 +12,16 @@ use Rattle.program.specs.Reading.{number}
 use Rattle.rules.specs.State.{Res, or_refuse, reads, slot_at, present}
 
 -- the record that a cell holds a reference to
-abbrev pub a_record : Slot → Answer (Unit {0}) ℕ
-a_record (Has (Ref r)) = got r
-a_record (Has Nil) = stop tt
-a_record (Has (Truth b)) = stop tt
-a_record (Has (Int n)) = stop tt
-a_record Absent = stop tt
+abbrev pub a_record : Option Value → Answer (Unit {0}) ℕ
+a_record (Some (Ref r)) = got r
+a_record (Some Nil) = stop tt
+a_record (Some (Truth b)) = stop tt
+a_record (Some (Int n)) = stop tt
+a_record None = stop tt
 
-abbrev pub a_field : Found → Answer (Unit {0}) ℕ
-a_field (At l) = got l
-a_field Nothing = stop tt
+abbrev pub a_field : Option ℕ → Answer (Unit {0}) ℕ
+a_field (Some l) = got l
+a_field None = stop tt
 
 -- the cell that n labels, at p, lead to from the cell l, and the cells on the way, l first
 unfoldable pub follow : Cells → ℕ → ℕ → List ℤ → Answer (Unit {0}) (ℕ × List ℕ)

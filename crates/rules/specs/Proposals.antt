@@ -1,6 +1,5 @@
 -- A proposal (01, "Proposal"): 6, 16, 17, 18, 19, in this order. Assumes nothing: these are definitions.
-use Rattle.std.specs.Prelude.{ℕ, zero, suc, Bool, true, false, not, cond, ◌&&◌, ◌||◌, List, [], ◌∷◌, eqb, ltb, leb, ℤ, pos}
-use Rattle.std.proofs.Math.Option.{Option, none, some}
+use Rattle.std.specs.Prelude.{ℕ, zero, suc, Bool, true, false, not, cond, ◌&&◌, ◌||◌, List, [], ◌∷◌, eqb, ltb, leb, ℤ, pos, Option, None, Some}
 use Rattle.words.specs.Words.{number_of, eq_z}
 use Rattle.words.specs.Answer.{Answer, got, stop, ◌>>=◌, ◌>>◌, want}
 use Rattle.tables.specs.declared.Cell.{Cell}
@@ -38,8 +37,8 @@ may_take c w =
     && not (eq_z w c.payload)
 
 abbrev pub is_target : Option ℕ → ℕ → Bool
-is_target none l = false
-is_target (some t) l = eqb l t
+is_target None l = false
+is_target (Some t) l = eqb l t
 
 -- 17 "an entry names a cell or payload it may not"; "the target cell itself may not be changed by it"
 unfoldable pub entry_fits : Cells → Option ℕ → Entry → Bool

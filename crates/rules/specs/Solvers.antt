@@ -1,5 +1,5 @@
 -- One statement with two proposals (02, W6), by the statement's own rule (Statements.do_simple). Assumes nothing: these are definitions.
-use Rattle.std.specs.Prelude.{ℕ, ◌+◌, ◌*◌, Bool, false, not, cond, ◌&&◌, ◌||◌, List, [], ◌∷◌, eqb, ltb, leb, ℤ, pos, negsuc, length, drop}
+use Rattle.std.specs.Prelude.{ℕ, ◌+◌, ◌*◌, Bool, false, not, cond, ◌&&◌, ◌||◌, List, [], ◌∷◌, eqb, ltb, leb, ℤ, pos, negsuc, length, drop, Option, Some, None}
 use Rattle.words.specs.Words.{number_of, number_at}
 use Rattle.words.specs.Answer.{Answer, got, stop, want}
 use Rattle.fit.specs.Fit.{sized}
@@ -7,7 +7,6 @@ use Rattle.program.specs.Forms.{verb_of}
 use Rattle.program.specs.Reading.{read_program}
 use Rattle.program.specs.Where.{statement_at}
 use Rattle.program.specs.declared.Spot.{Spot}
-use Rattle.program.specs.declared.Spot.TheVariants.{At, Nowhere}
 use Rattle.rules.specs.State.{State, Fault, Res}
 use Rattle.rules.specs.Proposals.{none?}
 use Rattle.rules.specs.Statements.{Left, place_of, do_simple}
@@ -33,9 +32,9 @@ abbrev pub refused_by : List ℤ → State → Fault → Given
 refused_by program S f = refusing S f.number (pos (place_of program f))
 
 -- "one of statements 1 to 4"
-abbrev pub one_to_four : Spot → Bool
-one_to_four (At verb nest) = leb 1 verb && leb verb 4
-one_to_four Nowhere = false
+abbrev pub one_to_four : Option Spot → Bool
+one_to_four (Some spot) = leb 1 spot.verb && leb spot.verb 4
+one_to_four None = false
 
 unfoldable pub is_named : List ℤ → ℤ → Bool
 is_named program word = one_to_four (statement_at program (number_of word))

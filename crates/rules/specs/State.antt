@@ -1,14 +1,13 @@
 -- The state of a run, and refusals (01, "Lent tables", "What comes back"). Assumes nothing: these are definitions.
-use Rattle.std.specs.Prelude.{ℕ, zero, suc, List, [], ◌∷◌, ℤ, length}
+use Rattle.std.specs.Prelude.{ℕ, zero, suc, List, [], ◌∷◌, ℤ, length, None, Option, Some}
 use Rattle.words.specs.Answer.{Answer, got, stop}
 use Rattle.tables.specs.declared.Value.{Value}
-use Rattle.tables.specs.declared.Slot.{Slot}
-use Rattle.tables.specs.declared.Slot.TheVariants.{Absent, Has}
 use Rattle.tables.specs.declared.Sort.{Sort}
 use Rattle.tables.specs.Values.{slot_of}
 use Rattle.tables.specs.Sizes.{environment_words, heap_words, constraints_words}
 use Rattle.tables.specs.Cells.{Cells, cells, cell_at, fresh}
 use Rattle.tables.specs.Kept.{kept_count, position_at}
+use Rattle.program.specs.declared.Refusal.{Refusal}
 use Rattle.program.specs.Reading.{Reading}
 
 -- the three lent tables: the environment and the heap with their cells, and the constraints
@@ -20,9 +19,8 @@ unfoldable pub fresh_state : State
 fresh_state = record { cells = cells (fresh environment_words) (fresh heap_words); kept = fresh constraints_words }
 
 -- a refusal: its number (01's table), and the word at fault, told by how many words of the program are left from it on
-pub record Fault : Type 0 where
-  pub number : ℕ
-  pub word : ℕ
+abbrev pub Fault : Type 0
+Fault = Refusal
 
 abbrev pub Res : Type 0 → Type 0
 Res A = Answer Fault A
@@ -44,12 +42,12 @@ reads (got a) = got a
 reads (stop q) = refuse 2 q
 
 -- what the cell at a location holds
-unfoldable pub slot_at : Cells → ℕ → Slot
+unfoldable pub slot_at : Cells → ℕ → Option Value
 slot_at S l = slot_of (cell_at S l)
 
-abbrev pub present : Slot → Answer (Unit {0}) Value
-present (Has v) = got v
-present Absent = stop tt
+abbrev pub present : Option Value → Answer (Unit {0}) Value
+present (Some v) = got v
+present None = stop tt
 
 -- f i, f (i + 1), .. : n of them
 unfoldable pub listed : {A : Type 0} → (ℕ → A) → ℕ → ℕ → List A

@@ -1,7 +1,6 @@
 -- The statements that hold no block (01, "What a statement does"). p is the part that begins at the statement's word.
 -- Assumes nothing: these are definitions.
-use Rattle.std.specs.Prelude.{ℕ, zero, suc, ◌-◌, Bool, true, false, cond, ◌||◌, List, [], ◌∷◌, ltb, ℤ, pos, length, drop}
-use Rattle.std.proofs.Math.Option.{none, some}
+use Rattle.std.specs.Prelude.{ℕ, zero, suc, ◌-◌, Bool, true, false, cond, ◌||◌, List, [], ◌∷◌, ltb, ℤ, pos, length, drop, None, Some}
 use Rattle.words.specs.Answer.{got, ◌>>=◌, ◌>>◌, want}
 use Rattle.tables.specs.declared.Value.TheVariants.{Ref}
 use Rattle.tables.specs.declared.Sort.{Sort}
@@ -12,7 +11,8 @@ use Rattle.tables.specs.Cells.{Cells, cells}
 use Rattle.tables.specs.Records.{record_count, with_record}
 use Rattle.tables.specs.Kept.{most_kept, kept_count, is_kept, with_position}
 use Rattle.program.specs.Forms.{expression_depth}
-use Rattle.program.specs.Forms.{Verb, skip, assign, new, always, once, always_same, once_same, branch, loop, no_verb}
+use Rattle.program.specs.declared.Verb.{Verb}
+use Rattle.program.specs.declared.Verb.TheVariants.{Skip as skip, Assign as assign, New as new, Always as always, Once as once, AlwaysSame as always_same, OnceSame as once_same, If as branch, While as loop, Unknown as no_verb}
 use Rattle.program.specs.Reading.{number, read_path, after}
 use Rattle.rules.specs.State.{State, Fault, Res, refused, refuse, reads}
 use Rattle.rules.specs.Paths.{way_at}
@@ -43,7 +43,7 @@ keep kept s position = cond (is_kept kept s position) kept (with_position kept s
 -- the value phase of an assignment or a new
 unfoldable pub value_phase : List ℤ → List ℤ → List ℤ → ℕ → Cells → List ℤ → Res Left
 value_phase program kept p target S ws = do
-  (Z, unread) ← settle program kept (record { own = none; target = some target; room = true }) p S ws
+  (Z, unread) ← settle program kept (record { own = None; target = Some target; room = true }) p S ws
   got (record { state = record { cells = Z; kept = kept }; unread = unread; accepted = 1 })
 
 -- "1 assign L e": the expression, the target path, the identity phase, the value phase
@@ -76,7 +76,7 @@ do_new program p S ws = do
 -- "Always C, once C": C must read, then one proposal is read; always keeps the position
 unfoldable pub do_constraint : Bool → List ℤ → List ℤ → State → List ℤ → Res Left
 do_constraint keeps program p S ws = do
-  (Z, unread) ← settle program S.kept (record { own = some (drop 1 p); target = none; room = cond keeps (has_room S.kept Values (position_of program p)) true }) p S.cells ws
+  (Z, unread) ← settle program S.kept (record { own = Some (drop 1 p); target = None; room = cond keeps (has_room S.kept Values (position_of program p)) true }) p S.cells ws
   got (record { state = record { cells = Z; kept = cond keeps (keep S.kept Values (position_of program p)) S.kept }; unread = unread; accepted = 1 })
 
 -- "Identity (5, 6)": 5 keeps the position, 14 where there is no room; no proposal is read

@@ -1,13 +1,14 @@
 -- What a run hands back is the rules' answer, whole. Assumes nothing.
 use mathlib.Core.Path.{◌≡◌, refl, sym, ap, ◌∙◌}
 use mathlib.Core.List.{List, [], ◌∷◌}
-use Prim.Native.Nat.{ℕ}
 use lib.IntN.{ℤ}
 use lib.ListN.{length}
+use Rattle.std.specs.Prelude.{Result, Ok, Err}
 use Rattle.words.specs.Words.{word_of, last_of}
 use Rattle.words.specs.Answer.{got, stop}
 use Rattle.words.proofs.Laws.{word-is}
 use Rattle.words.proofs.AnswerLaws.{either}
+use Rattle.tables.specs.declared.Tables.{Tables}
 use Rattle.rules.specs.State.{State}
 use Rattle.rules.specs.Running.{Out, on, end}
 use Rattle.rules.specs.Running.{Tally as Carries}
@@ -18,9 +19,8 @@ use Rattle.proposals.proofs.FormLaws.{unlike}
 use Rattle.lent.specs.declared.Tally.{Tally}
 use Rattle.lent.specs.Tallied.{carries, untold, untold_out, Runs}
 use Rattle.lent.proofs.TallyLaws.{ends_by}
-use Rattle.run.specs.declared.Started.{Started}
-use Rattle.run.specs.declared.Started.TheVariants.{Begins}
-use Rattle.run.specs.declared.Started.TheVariants.{Early as Refused}
+use Rattle.phases.specs.Told.{tables, state_in}
+use Rattle.run.specs.declared.Early.{Early as Stopped}
 use Rattle.run.specs.Told.{started_of, answer_of, Meets}
 use Rattle.run.proofs.ExactLaws.{Exact, exact}
 
@@ -34,26 +34,26 @@ pub meets : {e : Ended} → Exact e → (given : Ended) → e ≡ given → {Z :
 meets x given r a z u = rw r (record { answers = a ∙ words_are given (rw r at x); leaves = z; hands_back = u })
 
 -- what the start said
-module _ (program : List ℤ) (budget : ℤ) (S : State) {h : Started} (e : h ≡ started_of (starts program budget S)) where
-  pub begins : h ≡ Begins → starts program budget S ≡ got tt
+module _ (program : List ℤ) (budget : ℤ) (S : State) {h : Result (Unit {0}) Stopped} (e : h ≡ started_of (starts program budget S)) where
+  pub begins : h ≡ Ok tt → starts program budget S ≡ got tt
   begins h = either {X = starts program budget S ≡ got tt} (starts program budget S) (λ u x. x) (λ f x. unlike (let y = sym (rw x at e) ∙ h in cc))
 
-  pub refuses : {outcome place : ℕ} → h ≡ Refused outcome place → starts program budget S ≡ stop (record { number = outcome; place = place })
-  refuses {outcome = n} {place = k} h =
-      either {X = starts program budget S ≡ stop (record { number = n; place = k })} (starts program budget S)
+  pub refuses : {f : Stopped} → h ≡ Err f → starts program budget S ≡ stop (record { number = f.number; place = f.place })
+  refuses {f = k} h =
+      either {X = starts program budget S ≡ stop (record { number = k.number; place = k.place })} (starts program budget S)
       (λ u x. unlike (let y = sym (rw x at e) ∙ h in cc))
       (λ f x.
-      let y = sym (rw x at e) ∙ h in
-      let y1 : f.number ≡ n = cc in
-      let y2 : f.place ≡ k = cc in
+      let y : Err (record { number = f.number; place = f.place }) ≡ Err k = sym (rw x at e) ∙ h in
+      let y1 : f.number ≡ k.number = cc in
+      let y2 : f.place ≡ k.place = cc in
       rw (← y1, ← y2) x)
 
 module _ (program ws : List ℤ) (budget : ℤ) (S : State) where
   -- a run that did not begin
-  pub meets-early : {h : Started} {outcome place : ℕ} {answer : List ℤ} → h ≡ started_of (starts program budget S) → h ≡ Refused outcome place
-      → answer ≡ word_of outcome ∷ word_of place ∷ word_of 0 ∷ word_of 0 ∷ [] → Meets S answer ws (run program ws budget S)
-  meets-early {outcome = n} {place = k} e h a =
-      meets (exact program ws budget S) (gives n k (first_tally S ws)) (run-early program ws budget S (refuses program budget S e h)) a refl refl
+  pub meets-early : {h : Result (Unit {0}) Stopped} {f : Stopped} {answer : List ℤ} → h ≡ started_of (starts program budget S) → h ≡ Err f
+      → answer ≡ word_of f.number ∷ word_of f.place ∷ word_of 0 ∷ word_of 0 ∷ [] → Meets S answer ws (run program ws budget S)
+  meets-early {f = f} e h a =
+      meets (exact program ws budget S) (gives f.number f.place (first_tally S ws)) (run-early program ws budget S (refuses program budget S e h)) a refl refl
 
   -- a run that began
   module _ (x : starts program budget S ≡ got tt) {Z : State} {t : Tally} (ran : Runs ws Z t (whole program ws budget S)) where
@@ -86,3 +86,8 @@ module _ (program ws : List ℤ) (budget : ℤ) (S : State) where
             let y5 : t.outcome ≡ m = cc in
             let y6 : t.place ≡ place = cc in
             meets (exact program ws budget S) (gives m place u) (run_end program ws budget S x w) (rw (← y2, ← y3, ← y5, ← y6) a) y1 y4
+
+-- the tables that were lent have what is lent of them
+pub moved : (T : Tables) {e h k : List ℤ} → e ≡ T.environment.now → h ≡ T.heap.now → k ≡ T.constraints.now → {answer unread : List ℤ} {x : Ended} → Meets (state_in T) answer unread x
+    → Meets (tables e h k) answer unread x
+moved T a b c m = rw (a, b, c) m

@@ -1,8 +1,7 @@
 -- What a host may rely on: the claims of the rules, said of what run leaves and hands back. Assumes nothing: these are statements.
-use Rattle.std.specs.Prelude.{◌≡◌, ◌≤◌, ℤ, length}
+use Rattle.std.specs.Prelude.{◌≡◌, ◌≤◌, ℤ, length, None}
 use mathlib.Core.List.{List, [], ◌∷◌, Memᴰ as OneOf}
 use Rattle.words.specs.Words.{number_of, number_at, last_of}
-use Rattle.program.specs.declared.Spot.TheVariants.{Nowhere}
 use Rattle.program.specs.Where.{statement_at}
 use Rattle.rules.specs.State.{State}
 use Rattle.rules.specs.Start.{Ended, run}
@@ -21,7 +20,7 @@ pub record Keeps (program ws : List ℤ) (budget : ℤ) (S Z : State) (answer un
   pub four : length answer ≡ 4
   pub known : number_at answer 0 ≤ 19
   pub untouched : 1 ≤ number_at answer 0 → number_at answer 0 ≤ 4 → (Z ≡ S) × ((unread ≡ ws) × ((number_at answer 2 ≡ 0) × (number_at answer 3 ≡ 0)))
-  pub at_statement : 5 ≤ number_at answer 0 → (OneOf (number_at answer 0) (7 ∷ 8 ∷ 9 ∷ 15 ∷ []) → ⊥) → statement_at program (number_at answer 1) ≡ Nowhere → ⊥
+  pub at_statement : 5 ≤ number_at answer 0 → (OneOf (number_at answer 0) (7 ∷ 8 ∷ 9 ∷ 15 ∷ []) → ⊥) → statement_at program (number_at answer 1) ≡ None → ⊥
   pub inside : OneOf (number_at answer 0) (7 ∷ 8 ∷ 9 ∷ 15 ∷ []) → (p : List ℤ) × (AtStatement program p × Inside program Z p (number_at answer 1) (number_at answer 0))
   pub steps : number_at answer 2 ≤ number_of budget
   pub accepted : number_at answer 3 ≤ number_at answer 2

@@ -1,23 +1,19 @@
 -- What the code answers of a start and of a run. Assumes nothing: these are definitions.
-use Rattle.std.specs.Prelude.{ℕ, ◌≡◌, List, [], ◌∷◌, ℤ, pos}
+use Rattle.std.specs.Prelude.{ℕ, ◌≡◌, List, [], ◌∷◌, ℤ, pos, Result, Ok, Err}
 use Rattle.words.specs.Answer.{Answer, got, stop}
 use Rattle.rules.specs.State.{State}
 use Rattle.rules.specs.Start.{Early, Ended}
-use Rattle.run.specs.declared.Held.{Held}
-use Rattle.run.specs.declared.Held.TheVariants.{All, Not}
-use Rattle.run.specs.declared.Started.{Started}
-use Rattle.run.specs.declared.Started.TheVariants.{Begins}
-use Rattle.run.specs.declared.Started.TheVariants.{Early as Refused}
+use Rattle.run.specs.declared.Early.{Early as Stopped}
 
 -- all hold; or the position of the first that does not
-abbrev pub held_of : Answer ℕ (Unit {0}) → Held
-held_of (got u) = All
-held_of (stop position) = Not position
+abbrev pub held_of : Answer ℕ (Unit {0}) → Result (Unit {0}) ℕ
+held_of (got u) = Ok tt
+held_of (stop position) = Err position
 
 -- a run may begin; or the refusal's number and place
-abbrev pub started_of : Answer Early (Unit {0}) → Started
-started_of (got u) = Begins
-started_of (stop e) = Refused e.number e.place
+abbrev pub started_of : Answer Early (Unit {0}) → Result (Unit {0}) Stopped
+started_of (got u) = Ok tt
+started_of (stop e) = Err (record { number = e.number; place = e.place })
 
 -- "It gives outcome, place, steps, proposals accepted"
 abbrev pub answer_of : Ended → List ℤ

@@ -12,7 +12,8 @@ use Rattle.rules.specs.State.{State}
 use Rattle.rules.specs.Start.{Ended, run}
 use Rattle.phases.specs.Told.{tables}
 use Rattle.run.specs.Told.{answer_of, Meets}
-use Rattle.lister.specs.declared.Input.TheVariants.{Reads, Unfit}
+use Rattle.std.specs.Prelude.{Ok, Err}
+use Rattle.lister.specs.declared.Input.{Input}
 use Rattle.lister.specs.Reading.{InputRead, input_in}
 use Rattle.lister.specs.Listing.{Listed, listing, unfit_text}
 use Rattle.lister.proofs.StoredLaws.{program-stored, proposals-stored}
@@ -52,14 +53,14 @@ ended-listed {e = e} {before = before} {after = after} {n = n} m ha hb hc hd l =
 -- ---- the numbers of a text
 
 -- an input that reads: its numbers are run
-pub answer-reads : (t : List ℕ) {p p' q q' u v : List ℤ} {n m k : ℕ} {b : ℤ} {before after : List ℕ} → length p ≡ 4096 → length q ≡ 4096
-    → InputRead (input_in t) p p' q q' (Reads n m b) → u ≡ take n p' → v ≡ take m q'
-    → Listed (ended_text (run u v b fresh_tables)) before after k → Listed (answer_to t) before after k
+pub answer-reads : (t : List ℕ) {p p' q q' u v : List ℤ} {input : Input} {k : ℕ} {before after : List ℕ} → length p ≡ 4096 → length q ≡ 4096
+    → InputRead (input_in t) p p' q q' (Ok input) → u ≡ take input.program p' → v ≡ take input.proposals q'
+    → Listed (ended_text (run u v input.budget fresh_tables)) before after k → Listed (answer_to t) before after k
 unfolding answer_to
 answer-reads t lp lq r eu ev l = rw (← r.told, ← (eu ∙ program-stored t r lp), ← (ev ∙ proposals-stored t r lq)) l
 
 -- an unfit input: its line is told
-pub answer-unfit : (t : List ℕ) {p p' q q' : List ℤ} {line k : ℕ} {before after : List ℕ} → InputRead (input_in t) p p' q q' (Unfit line)
+pub answer-unfit : (t : List ℕ) {p p' q q' : List ℤ} {line k : ℕ} {before after : List ℕ} → InputRead (input_in t) p p' q q' (Err line)
     → Listed (unfit_text line) before after k → Listed (answer_to t) before after k
 unfolding answer_to
 answer-unfit t r l = rw (← r.told) l

@@ -5,7 +5,7 @@ use native.Mathlib.Omega.{arith}
 use lib.ListN.{length, drop}
 use lib.Seq.{take-append_seam}
 use Rattle.lister.specs.declared.Input.{Input}
-use Rattle.lister.specs.declared.Input.TheVariants.{Reads, Unfit}
+use Rattle.std.specs.Prelude.{Result, Ok, Err}
 use Rattle.lister.specs.Reading.{Given, input_in}
 use Rattle.lister.specs.Listing.{listing_bytes}
 use Rattle.lister.proofs.SizeLaws.{listing-length, unfit-length, listed-whole}
@@ -13,11 +13,11 @@ use Rattle.rules.specs.Start.{Ended, run}
 use Rattle.sheet.specs.Answering.{fresh_tables, answer_by, answer_to}
 use Rattle.sheet.specs.Claims.{Whole}
 
-answer-length : (g : Given) (a : Input) → length (answer_by g a) ≤ listing_bytes
-answer-length g (Reads n m b) =
-    let e : Ended = run g.program g.proposals b fresh_tables in
+answer-length : (g : Given) (a : Result Input ℕ) → length (answer_by g a) ≤ listing_bytes
+answer-length g (Ok input) =
+    let e : Ended = run g.program g.proposals input.budget fresh_tables in
     listing-length e.outcome e.place e.steps e.accepted e.state.cells e.state.kept
-answer-length g (Unfit line) = unfit-length line
+answer-length g (Err line) = unfit-length line
 
 text-length : (t : List ℕ) → length (answer_to t) ≤ listing_bytes
 unfolding answer_to

@@ -5,8 +5,6 @@ ghost use Rattle.rules.specs.Start.{run as run_by};
 ghost use Rattle.lister.specs.Listing.{Listed};
 ghost use Rattle.sheet.specs.Answering.{fresh_tables, ended_text, answer_to};
 
-use lister::Input;
-
 // The run of a program from fresh tables, and the listing of what it leaves.
 fn run_fresh(program: &[i32], proposals: &[i32], budget: i32, out: &mut [u8]) -> usize
     ensures { Listed (ended_text (run_by program.now proposals.now budget fresh_tables)) out.old out.new result }
@@ -43,12 +41,12 @@ pub fn answer_text(text: &[u8], out: &mut [u8]) -> usize
     let mut program = [0i32; lister::MOST_NUMBERS];
     let mut proposals = [0i32; lister::MOST_NUMBERS];
     match lister::reading::read_input(text, &mut program, &mut proposals) {
-        Input::Unfit(line) => lister::listing::write_unfit(out, line),
-        Input::Reads(n, m, budget) => run_fresh(
-            words::part_to(&program, n),
-            words::part_to(&proposals, m),
-            budget,
+        Ok(input) => run_fresh(
+            words::part_to(&program, input.program),
+            words::part_to(&proposals, input.proposals),
+            input.budget,
             out,
         ),
+        Err(line) => lister::listing::write_unfit(out, line),
     }
 }

@@ -7,10 +7,12 @@ use native.Mathlib.Omega.{arith}
 use lib.IntN.{ℤ, pos}
 use lib.ListN.{length, take, drop}
 use lib.Seq.{take_all}
+use Rattle.std.specs.Prelude.{Result, Ok, Err}
 use Rattle.words.specs.Words.{number_of, number_at, word_of}
 use Rattle.words.specs.Answer.{Answer, got, stop}
 use Rattle.words.proofs.Laws.{word-is, number-first, number-drop}
 use Rattle.words.proofs.AnswerLaws.{either}
+use Rattle.tables.specs.declared.Tables.{Tables}
 use Rattle.tables.proofs.SearchLaws.{cases}
 use Rattle.program.specs.Forms.{verb_of}
 use Rattle.program.specs.Reading.{read_program}
@@ -26,15 +28,13 @@ use Rattle.rules.proofs.RefusalLaws.{Refusal, told, unread, simple-refuses}
 use Rattle.rules.proofs.StartClauses.{early-got, early-stop}
 use Rattle.rules.proofs.SolverClauses.{alone-is, second-takes, second-stops, first-takes, first-turned, first_stops, no_second, ask-is}
 use Rattle.proposals.proofs.FormLaws.{unlike}
+use Rattle.program.specs.declared.Refusal.{Refusal as Fails}
 use Rattle.phases.specs.declared.Done.{Done}
-use Rattle.phases.specs.declared.Done.TheVariants.{Accepted, Refused as Turned}
-use Rattle.phases.specs.Told.{Does}
+use Rattle.phases.specs.Told.{tables, state_in, Does}
 use Rattle.phases.proofs.PhaseLaws.{not_done}
-use Rattle.solvers.specs.declared.Tried.{Tried}
-use Rattle.solvers.specs.declared.Tried.TheVariants.{First, Second, Neither}
-use Rattle.solvers.specs.declared.Opened.{Opened}
-use Rattle.solvers.specs.declared.Opened.TheVariants.{Begins}
-use Rattle.solvers.specs.declared.Opened.TheVariants.{Early as Refused}
+use Rattle.solvers.specs.declared.Solver.{Solver}
+use Rattle.solvers.specs.declared.Solver.TheVariants.{First, Second}
+use Rattle.solvers.specs.declared.Early.{Early as Stopped}
 use Rattle.solvers.specs.Told.{given_by, opened_by, opening, Hands}
 
 -- ---- a slice that is accepted, and the tables that it leaves; one that is empty
@@ -44,7 +44,7 @@ record Taken (Z : State) (m : Res Left) : Type 0 where
   is : m ≡ got left
   leaves : Z ≡ left.state
 
-taken : {S Z : State} {r : Done} {m : Res Left} {unread k : ℕ} → Does S Z r m → r ≡ Accepted unread k → Taken Z m
+taken : {S Z : State} {r : Result Done Fails} {m : Res Left} {x : Done} → Does S Z r m → r ≡ Ok x → Taken Z m
 taken {Z = Z} {m = m} d h =
     either {X = Taken Z m} m
     (λ l e. record { left = l; is = e; leaves = rw e at d.leaves })
@@ -83,48 +83,44 @@ module _ (program : List ℤ) (word : ℤ) (first second : List ℤ) (S : State)
 
   -- ---- the statement with the first slice, and then with the second
 
-  module _ {Y : State} {r : Done} (d : Does S Y r (alone program (number_of word) S first)) where
-    pub tries-first : {unread k : ℕ} → r ≡ Accepted unread k → given_by program word first second Y First ≡ both
+  module _ {Y : State} {r : Result Done Fails} (d : Does S Y r (alone program (number_of word) S first)) where
+    pub tries-first : {x : Done} → r ≡ Ok x → given_by program word first second Y (Ok First) ≡ both
     tries-first h =
         let t = taken d h in
         ap (accepting word 1 first) t.leaves ∙ sym (first-takes program word second S first t.left) ∙ ap (tries program word first second S) (sym t.is)
 
-    module _ {n w : ℕ} (h : r ≡ Turned n w) where
-      abbrev fault : Fault
-      fault = record { number = n; word = w }
-
+    module _ {fault : Fault} (h : r ≡ Err fault) where
       stays : Y ≡ S
       stays = (not_done d h).stays
 
       stopped : tries program word first second S (stop fault) ≡ both
       stopped = ap (tries program word first second S) (sym (not_done d h).is)
 
-      firsts : tries program word first second S (stop fault) ≡ refused_by program S fault → given_by program word first second Y (Neither n w) ≡ both
+      firsts : tries program word first second S (stop fault) ≡ refused_by program S fault → given_by program word first second Y (Err fault) ≡ both
       firsts x = ap (λ (X : State). refused_by program X fault) stays ∙ sym x ∙ stopped
 
-      pub tries-neither : turns_down n ≡ false → given_by program word first second Y (Neither n w) ≡ both
+      pub tries-neither : turns_down fault.number ≡ false → given_by program word first second Y (Err fault) ≡ both
       tries-neither e = firsts (first_stops program word second S first fault e)
 
-      pub tries-empty : length second ≡ 0 → given_by program word first second Y (Neither n w) ≡ both
+      pub tries-empty : length second ≡ 0 → given_by program word first second Y (Err fault) ≡ both
       tries-empty z = firsts (no_second program word second S first fault (empty second z))
 
       -- the first is turned down, and the second has words: it is tried from the same tables
-      module _ (e : turns_down n ≡ true) (z : length second ≡ 0 → ⊥) {Z : State} {q : Done} (g : Does Y Z q (alone program (number_of word) Y second)) where
+      module _ (e : turns_down fault.number ≡ true) (z : length second ≡ 0 → ⊥) {Z : State} {q : Result Done Fails} (g : Does Y Z q (alone program (number_of word) Y second)) where
         tried : Does S Z q (alone program (number_of word) S second)
         tried = rw stays at g
 
         turned : {m : Res Left} → alone program (number_of word) S second ≡ m → then_second program word second S m ≡ both
         turned x = ap (then_second program word second S) (sym x) ∙ sym (first-turned program word second S first fault e (not-empty second z)) ∙ stopped
 
-        pub tries-second : {unread k : ℕ} → q ≡ Accepted unread k → given_by program word first second Z Second ≡ both
+        pub tries-second : {x : Done} → q ≡ Ok x → given_by program word first second Z (Ok Second) ≡ both
         tries-second i =
             let t = taken tried i in
             ap (accepting word 2 second) t.leaves ∙ sym (second-takes program word second S t.left) ∙ turned t.is
 
-        pub tries-both : {m v : ℕ} → q ≡ Turned m v → given_by program word first second Z (Neither m v) ≡ both
-        tries-both {m} {v} i =
+        pub tries-both : {other : Fault} → q ≡ Err other → given_by program word first second Z (Err other) ≡ both
+        tries-both {other} i =
             let t = not_done tried i in
-            let other : Fault = record { number = m; word = v } in
             ap (λ (X : State). refused_by program X other) t.stays ∙ sym (second-stops program word second S other) ∙ turned t.is
 
   -- ---- the numbers of a refusal
@@ -151,25 +147,25 @@ module _ (program : List ℤ) (word : ℤ) (first second : List ℤ) (S : State)
   -- ---- the start
 
   -- what is opened goes on or refuses as what is given does
-  record Alike (h : Opened) (g : Given) : Type 0 where
-    begins : h ≡ Begins → (g ≡ both) × (length program ≤ 4096)
-    refuses : {n : ℕ} {place : ℤ} → h ≡ Refused n place → (g ≡ refusing S n place) × (n ≤ 4)
+  record Alike (h : Result (Unit {0}) Stopped) (g : Given) : Type 0 where
+    begins : h ≡ Ok tt → (g ≡ both) × (length program ≤ 4096)
+    refuses : {f : Stopped} → h ≡ Err f → (g ≡ refusing S f.number f.place) × (f.number ≤ 4)
 
-  begun : length program ≤ 4096 → Alike Begins both
+  begun : length program ≤ 4096 → Alike (Ok tt) both
   begun l = record { begins = λ h. (refl, l); refuses = λ h. unlike (cc) }
 
-  refused : (n : ℕ) (place : ℤ) → n ≤ 4 → Alike (Refused n place) (refusing S n place)
+  refused : (n : ℕ) (place : ℤ) → n ≤ 4 → Alike (Err (record { number = n; place = place })) (refusing S n place)
   refused n place l = record {
     begins = λ h. unlike (cc);
-    refuses = λ {n = m} {place = k} h. let a : n ≡ m = cc in let b : place ≡ k = cc in (rw (a, b), rw (← a) l);
+    refuses = λ {f = f} h. let a : n ≡ f.number = cc in let b : place ≡ f.place = cc in (rw (a, b), rw (← a) l);
   }
 
   -- a test before it
-  alike-on : {h : Opened} {g : Given} (m : Answer Early (Unit {0})) → Starts (Alike h g) m → Alike (opened_by m h) (passing m S g)
+  alike-on : {h : Result (Unit {0}) Stopped} {g : Given} (m : Answer Early (Unit {0})) → Starts (Alike h g) m → Alike (opened_by m h) (passing m S g)
   alike-on (got u) c = c.good u refl
   alike-on (stop e) c = refused e.number (pos e.place) (c.bad e refl)
 
-  alike-cond : {h k : Opened} {g e : Given} (b : Bool) → Alike h g → Alike k e → Alike (cond b h k) (cond b g e)
+  alike-cond : {h k : Result (Unit {0}) Stopped} {g e : Given} (b : Bool) → Alike h g → Alike k e → Alike (cond b h k) (cond b g e)
   alike-cond true x y = x
   alike-cond false x y = y
 
@@ -198,29 +194,38 @@ module _ (program : List ℤ) (word : ℤ) (first second : List ℤ) (S : State)
         start = sym (take_all (length (slice_of solver first second)) (slice_of solver first second) (omega arith));
       })
 
-  module _ {h : Opened} (o : h ≡ opening program word S) where
-    pub hands-early : {n : ℕ} {place : ℤ} {answer words : List ℤ} → h ≡ Refused n place → answer ≡ word_of n ∷ place ∷ word_of 0 ∷ [] → words ≡ take 0 first
+  -- the start is said of S₀, which is seen of the lent tables
+  module _ {h : Result (Unit {0}) Stopped} (S₀ : State) (a : S₀.cells ≡ S.cells) (k : S₀.kept ≡ S.kept) (said : h ≡ opening program word S₀) where
+    o : h ≡ opening program word S
+    o = said ∙ ap (opening program word) (λ i. record { cells = a i; kept = k i })
+
+    pub hands-early : {f : Stopped} {answer words : List ℤ} → h ≡ Err f → answer ≡ word_of f.number ∷ f.place ∷ word_of 0 ∷ [] → words ≡ take 0 first
         → Hands first second S answer words (ask program word first second S)
     hands-early x a w = let r = alike.refuses (sym o ∙ x) in hands_none r.0 (omega (arith, r.1)) a w
 
-    module _ (b : h ≡ Begins) where
+    module _ (b : h ≡ Ok tt) where
       begins : (ask program word first second S ≡ both) × (length program ≤ 4096)
       begins = alike.begins (sym o ∙ b)
 
-      module _ {Z : State} {t : Tried} (e : given_by program word first second Z t ≡ both) where
-        pub hands-first : {answer : List ℤ} → t ≡ First → answer ≡ word_of 0 ∷ word ∷ word_of 1 ∷ [] → Hands first second Z answer first (ask program word first second S)
+      module _ {Z : State} {t : Result Solver Fails} (e : given_by program word first second Z t ≡ both) where
+        pub hands-first : {answer : List ℤ} → t ≡ Ok First → answer ≡ word_of 0 ∷ word ∷ word_of 1 ∷ [] → Hands first second Z answer first (ask program word first second S)
         hands-first x a = hands-all 1 (begins.0 ∙ sym (rw x at e)) (omega arith) a
 
-        pub hands-second : {answer : List ℤ} → t ≡ Second → answer ≡ word_of 0 ∷ word ∷ word_of 2 ∷ [] → Hands first second Z answer second (ask program word first second S)
+        pub hands-second : {answer : List ℤ} → t ≡ Ok Second → answer ≡ word_of 0 ∷ word ∷ word_of 2 ∷ [] → Hands first second Z answer second (ask program word first second S)
         hands-second x a = hands-all 2 (begins.0 ∙ sym (rw x at e)) (omega arith) a
 
-        pub hands-neither : {n left : ℕ} {answer words : List ℤ} → t ≡ Neither n left → answer ≡ word_of n ∷ word_of (length program - left) ∷ word_of 0 ∷ [] → words ≡ take 0 first
+        pub hands-neither : {f : Fails} {answer words : List ℤ} → t ≡ Err f → answer ≡ word_of f.number ∷ word_of (length program - f.word) ∷ word_of 0 ∷ [] → words ≡ take 0 first
             → Hands first second Z answer words (ask program word first second S)
-        hands-neither {n} {left} x a w =
-            let y : refusing Z n (pos (length program - left)) ≡ both = rw x at e in
-            let l : n ≤ 19 = rw (← y) at both_small in
-            hands_none (begins.0 ∙ sym y) l (rw (word-is (length program - left) (omega (arith, begins.1))) at a) w
+        hands-neither {f} x a w =
+            let y : refusing Z f.number (pos (length program - f.word)) ≡ both = rw x at e in
+            let l : f.number ≤ 19 = rw (← y) at both_small in
+            hands_none (begins.0 ∙ sym y) l (rw (word-is (length program - f.word) (omega (arith, begins.1))) at a) w
 
 -- what is the solver's that the answer tells
 pub of-solver : {A : Type 0} (k : ℕ) → k ≤ 2 → {a b : ℤ} {answer : List ℤ} → answer ≡ a ∷ b ∷ word_of k ∷ [] → (one two : A) → slice_of (number_at answer 2) one two ≡ slice_of k one two
 of-solver k l {a} {b} x one two = rw (x, word-is k (omega arith), sym (number-drop (a ∷ b ∷ pos k ∷ []) 2 0) ∙ number-first (pos k) [])
+
+-- the tables that were lent have what is lent of them
+pub moved : (T : Tables) {e h k : List ℤ} → e ≡ T.environment.now → h ≡ T.heap.now → k ≡ T.constraints.now
+    → {first second answer words : List ℤ} {x : Given} → Hands first second (state_in T) answer words x → Hands first second (tables e h k) answer words x
+moved T a b c m = rw (a, b, c) m

@@ -1,5 +1,5 @@
 -- What the code answers of one statement with two proposals. Assumes nothing: these are definitions.
-use Rattle.std.specs.Prelude.{◌≡◌, ◌-◌, cond, List, [], ◌∷◌, ℤ, pos, length, take}
+use Rattle.std.specs.Prelude.{◌≡◌, ◌-◌, cond, List, [], ◌∷◌, ℤ, pos, length, take, Result, Ok, Err}
 use Rattle.words.specs.Answer.{Answer, got, stop, want}
 use Rattle.fit.specs.Fit.{sized}
 use Rattle.program.specs.Reading.{read_program}
@@ -7,29 +7,28 @@ use Rattle.rules.specs.State.{State}
 use Rattle.rules.specs.Start.{Early, early, tables_at_start}
 use Rattle.rules.specs.Solvers.{Given, accepting, refusing, is_named}
 use Rattle.rules.specs.Claims.Solvers.{slice_of}
-use Rattle.solvers.specs.declared.Tried.{Tried}
-use Rattle.solvers.specs.declared.Tried.TheVariants.{First, Second, Neither}
-use Rattle.solvers.specs.declared.Opened.{Opened}
-use Rattle.solvers.specs.declared.Opened.TheVariants.{Begins}
-use Rattle.solvers.specs.declared.Opened.TheVariants.{Early as Refused}
+use Rattle.program.specs.declared.Refusal.{Refusal}
+use Rattle.solvers.specs.declared.Solver.{Solver}
+use Rattle.solvers.specs.declared.Solver.TheVariants.{First, Second}
+use Rattle.solvers.specs.declared.Early.{Early as Stopped}
 
 -- what is given for whom the code accepts, with the tables Z
-abbrev pub given_by : List ℤ → ℤ → List ℤ → List ℤ → State → Tried → Given
-given_by program word first second Z First = accepting word 1 first Z
-given_by program word first second Z Second = accepting word 2 second Z
-given_by program word first second Z (Neither n left) = refusing Z n (pos (length program - left))
+abbrev pub given_by : List ℤ → ℤ → List ℤ → List ℤ → State → Result Solver Refusal → Given
+given_by program word first second Z (Ok First) = accepting word 1 first Z
+given_by program word first second Z (Ok Second) = accepting word 2 second Z
+given_by program word first second Z (Err f) = refusing Z f.number (pos (length program - f.word))
 
 -- the statement may begin; or the refusal's number and place
-abbrev pub opened_by : Answer Early (Unit {0}) → Opened → Opened
+abbrev pub opened_by : Answer Early (Unit {0}) → Result (Unit {0}) Stopped → Result (Unit {0}) Stopped
 opened_by (got u) next = next
-opened_by (stop e) next = Refused e.number (pos e.place)
+opened_by (stop e) next = Err (record { number = e.number; place = pos e.place })
 
 -- what is tried before the statement
-abbrev pub opening : List ℤ → ℤ → State → Opened
+abbrev pub opening : List ℤ → ℤ → State → Result (Unit {0}) Stopped
 opening program word S =
     opened_by (early 1 (want 0 (sized S.cells.environment S.cells.heap S.kept)))
     (opened_by (early 2 (read_program program))
-    (cond (is_named program word) (opened_by (tables_at_start program S) Begins) (Refused 2 word)))
+    (cond (is_named program word) (opened_by (tables_at_start program S) (Ok tt)) (Err (record { number = 2; place = word }))))
 
 -- "It gives outcome, place" and the solver
 abbrev pub answer_of : Given → List ℤ

@@ -4,17 +4,16 @@
 mod slices; // slices.rt: the statement with one slice
 pub mod whole; // whole.rt: the start, the statement with both, and the call
 
-// Whose proposal is accepted; or a refusal's number and word.
+// Whose proposal is accepted.
 #[derive(Clone, Copy)]
-pub enum Tried {
+pub enum Solver {
     First,
     Second,
-    Neither(usize, usize),
 }
 
-// The statement may begin; or a refusal's number and place.
+// A refusal before the statement: its number and its place.
 #[derive(Clone, Copy)]
-pub enum Opened {
-    Begins,
-    Early(usize, i32),
+pub struct Early {
+    pub number: usize,
+    pub place: i32,
 }

@@ -2,22 +2,24 @@
 ghost use Rattle.std.specs.Prelude.{◌≡◌};
 ghost use Rattle.rules.specs.Solvers.{is_named, has_more, turns_down};
 ghost use Rattle.rules.specs.Solvers.{alone as alone_by};
-ghost use Rattle.phases.specs.Told.{tables, Does};
+ghost use Rattle.tables.specs.Lending.{StillLent};
+ghost use Rattle.phases.specs.Told.{state_in, Does};
 
 use phases::Done;
-use program::Spot;
+use program::Refusal;
+use tables::Tables;
 
 // The word is that of one of the statements 1 to 4.
 pub(crate) fn is_named(program: &[i32], word: i32) -> bool
     ensures { result ≡ is_named program.now word }
 {
     match program::places::statement_at(program, words::number(word)) {
-        Spot::Nowhere => false,
-        Spot::At(verb, _) => {
-            if verb == 0 {
+        None => false,
+        Some(spot) => {
+            if spot.verb == 0 {
                 return false;
             }
-            verb <= 4
+            spot.verb <= 4
         }
     }
 }
@@ -33,22 +35,22 @@ fn has_more(slice: &[i32]) -> bool
     2 * n + 1 < slice.len()
 }
 
-// The statement whose word is at this place, with one slice alone. Where words are left over it is given an n out of range, which is 16 as well.
+// The statement whose word is at this place, with one slice alone.
+// Where words are left over it is given an n out of range, which is 16 as well.
 pub(crate) fn alone(
     program: &[i32],
-    environment: &mut [i32],
-    heap: &mut [i32],
-    constraints: &mut [i32],
+    t: &mut Tables<'_>,
     slice: &[i32],
     at: usize,
-) -> Done
-    ensures { Does (tables environment.old heap.old constraints.old) (tables environment.new heap.new constraints.new) result (alone_by program.now at (tables environment.old heap.old constraints.old) slice.now) }
+) -> Result<Done, Refusal>
+    ensures does { Does (state_in t.old) (state_in t.new) result (alone_by program.now at (state_in t.old) slice.now) }
+    ensures lent { StillLent t.old t.new }
 {
     if has_more(slice) {
         let unfit: [i32; 1] = [-1; 1];
-        return statements::simple::alone(program, environment, heap, constraints, &unfit, at);
+        return statements::simple::alone(program, t, &unfit, at);
     }
-    statements::simple::alone(program, environment, heap, constraints, slice, at)
+    statements::simple::alone(program, t, slice, at)
 }
 
 // The number is one that turns a proposal down, after which the next is tried.

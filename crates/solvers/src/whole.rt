@@ -4,69 +4,70 @@ ghost use Rattle.words.specs.Words.{number_of, number_at, word_of};
 ghost use Rattle.rules.specs.Solvers.{tries, ask as ask_by};
 ghost use Rattle.rules.specs.Solvers.{alone as alone_by};
 ghost use Rattle.rules.specs.Claims.Solvers.{slice_of};
-ghost use Rattle.phases.specs.Told.{tables};
+ghost use Rattle.tables.specs.Lending.{StillLent};
+ghost use Rattle.phases.specs.Told.{tables, state_seen, state_in};
 ghost use Rattle.solvers.specs.Told.{given_by, opening, Hands};
 
 use super::slices::{alone, is_named, turns_down};
-use crate::{Opened, Tried};
-use phases::Done;
-use program::Verdict;
-use run::Started;
+use crate::{Early, Solver};
+use program::Refusal;
+use program::blocks::read_program;
+use run::start::fits_at_start;
+use tables::{Tables, View};
 
 // The first slice is tried, and then the second where the first is turned down and the second has words.
 fn attempt(
     program: &[i32],
-    environment: &mut [i32],
-    heap: &mut [i32],
-    constraints: &mut [i32],
+    t: &mut Tables<'_>,
     word: i32,
     first: &[i32],
     second: &[i32],
-) -> Tried
-    ensures { given_by program.now word first.now second.now (tables environment.new heap.new constraints.new) result ≡ tries program.now word first.now second.now (tables environment.old heap.old constraints.old) (alone_by program.now (number_of word) (tables environment.old heap.old constraints.old) first.now) }
+) -> Result<Solver, Refusal>
+    ensures given { given_by program.now word first.now second.now (state_in t.new) result ≡ tries program.now word first.now second.now (state_in t.old) (alone_by program.now (number_of word) (state_in t.old) first.now) }
+    ensures lent { StillLent t.old t.new }
 {
     let at = words::number(word);
-    match alone(program, environment, heap, constraints, first, at) {
-        Done::Accepted(_, _) => Tried::First,
-        Done::Refused(number, left) => {
-            if !turns_down(number) {
-                return Tried::Neither(number, left);
-            }
-            if second.len() == 0 {
-                return Tried::Neither(number, left);
-            }
-            match alone(program, environment, heap, constraints, second, at) {
-                Done::Accepted(_, _) => Tried::Second,
-                Done::Refused(other, rest) => Tried::Neither(other, rest),
-            }
-        }
+    let Err(fault) = alone(program, t, first, at) else {
+        return Ok(Solver::First);
+    };
+    if !turns_down(fault.number) {
+        return Err(fault);
     }
+    if second.len() == 0 {
+        return Err(fault);
+    }
+    alone(program, t, second, at)?;
+    Ok(Solver::Second)
 }
 
 // Outcomes 1 and 2, 2 for the word, and then 3 and 4.
-fn opens(
-    program: &[i32],
-    environment: &[i32],
-    heap: &[i32],
-    constraints: &[i32],
-    word: i32,
-) -> Opened
-    ensures { result ≡ opening program.now word (tables environment.now heap.now constraints.now) }
+fn opens(program: &[i32], t: &View<'_>, word: i32) -> Result<(), Early>
+    ensures { result ≡ opening program.now word (state_seen t.now) }
 {
-    if !fit::are_sized(environment, heap, constraints) {
-        return Opened::Early(1, 0);
+    if !fit::are_sized(t.environment, t.heap, t.constraints) {
+        return Err(Early {
+            number: 1,
+            place: 0,
+        });
     }
-    match program::blocks::read_program(program) {
-        Verdict::Unfit(place) => Opened::Early(2, words::word_of(place)),
-        Verdict::Reads => {
-            if !is_named(program, word) {
-                return Opened::Early(2, word);
-            }
-            match run::start::fits_at_start(program, environment, heap, constraints) {
-                Started::Begins => Opened::Begins,
-                Started::Early(number, place) => Opened::Early(number, words::word_of(place)),
-            }
-        }
+    if let Err(place) = read_program(program) {
+        return Err(Early {
+            number: 2,
+            place: words::word_of(place),
+        });
+    }
+    if !is_named(program, word) {
+        return Err(Early {
+            number: 2,
+            place: word,
+        });
+    }
+    match fits_at_start(program, t) {
+        Ok(_) => Ok(()),
+        Err(early) => Err(Early {
+            number: early.number,
+            place: words::word_of(early.place),
+        }),
     }
 }
 
@@ -79,8 +80,8 @@ fn tell(answer: &mut [i32; 3], outcome: usize, place: i32, solver: usize)
     *answer = [a, place, c];
 }
 
-// One statement with two proposals: the answer is outcome, place and solver; the accepted words are handed back as the start of the slice that they came
-// from, and none of them, as the empty start of the first, where neither slice is accepted.
+// One statement with two proposals: the answer is outcome, place and solver. The accepted words are handed back as the start
+// of the slice that they came from, and none of them, as the empty start of the first, where neither slice is accepted.
 pub fn ask<'a>(
     program: &[i32],
     environment: &mut [i32],
@@ -94,37 +95,29 @@ pub fn ask<'a>(
     ensures hands { Hands first.now second.now (tables environment.new heap.new constraints.new) answer.new result.now (ask_by program.now word first.now second.now (tables environment.old heap.old constraints.old)) }
     ensures place { result.ref_ptr ≡ slice_of (number_at answer.new 2) first.entry.ref_ptr second.entry.ref_ptr }
 {
-    match opens(program, environment, heap, constraints, word) {
-        Opened::Early(number, place) => {
-            tell(answer, number, place, 0);
+    let mut t = Tables {
+        environment,
+        heap,
+        constraints,
+    };
+    let seen = t.view();
+    if let Err(early) = opens(program, &seen, word) {
+        tell(answer, early.number, early.place, 0);
+        return &first[..0];
+    }
+    match attempt(program, &mut t, word, first, second) {
+        Ok(Solver::First) => {
+            tell(answer, 0, word, 1);
+            first
+        }
+        Ok(Solver::Second) => {
+            tell(answer, 0, word, 2);
+            second
+        }
+        Err(fault) => {
+            let place = words::less(program.len(), fault.word);
+            tell(answer, fault.number, words::word_of(place), 0);
             &first[..0]
         }
-        Opened::Begins => match attempt(
-            program,
-            environment,
-            heap,
-            constraints,
-            word,
-            first,
-            second,
-        ) {
-            Tried::First => {
-                tell(answer, 0, word, 1);
-                first
-            }
-            Tried::Second => {
-                tell(answer, 0, word, 2);
-                second
-            }
-            Tried::Neither(outcome, left) => {
-                tell(
-                    answer,
-                    outcome,
-                    words::word_of(words::less(program.len(), left)),
-                    0,
-                );
-                &first[..0]
-            }
-        },
     }
 }

@@ -7,6 +7,8 @@ use native.Mathlib.Decide.{dec_lt}
 use lib.IntN.{ℤ, pos}
 use lib.ListN.{length, set, drop, length-set, length-append, get_or-append}
 use lib.Seq.{get_or-set_same, get_or-set_other, get_or-append-add}
+use Rattle.std.specs.Prelude.{Result, Ok, Err}
+use Rattle.program.specs.declared.Refusal.{Refusal}
 use Rattle.words.specs.Words.{word_at, number_at, last_of, word_of}
 use Rattle.words.specs.Answer.{got, stop, ◌>>=◌}
 use Rattle.words.proofs.Laws.{word-is}
@@ -20,17 +22,15 @@ use Rattle.program.specs.Reading.{number}
 use Rattle.program.proofs.NumberLaws.{number_fits_lem, number-high}
 use Rattle.program.proofs.LengthLaws.{Part, part-drop, part-trans}
 use Rattle.program.proofs.RowLaws.{last-part, last-all}
-use Rattle.rules.specs.State.{Res, reads}
+use Rattle.rules.specs.State.{Res, refused, reads}
 use Rattle.rules.specs.Evaluation.{evaluate}
 use Rattle.rules.specs.Statements.{field_words}
 use Rattle.rules.proofs.EvaluateClauses.{evaluate-part}
 use Rattle.rules.proofs.StatementClauses.{fields-none, fields-more}
 use Rattle.expressions.specs.declared.Evaluated.{Evaluated}
-use Rattle.expressions.specs.declared.Evaluated.TheVariants.{Got, Fails as Fault-at}
 use Rattle.expressions.specs.Told.{evaluated_of}
 use Rattle.expressions.proofs.LeafLaws.{got-on}
 use Rattle.proposals.proofs.FormLaws.{unlike}
-use Rattle.statements.specs.declared.Fields.TheVariants.{All, Fails}
 use Rattle.statements.specs.Filling.{fields_words, Fills}
 
 -- ---- three words more
@@ -94,7 +94,7 @@ fields-start {S = S} {n = n} {p = p} =
     by (got x) = refl
     by (stop f) = refl
 
-not-filled : {fields : List ℤ} {n a w : ℕ} {m : Res (List ℤ)} → stop (record { number = a; word = w }) ≡ m → Fills fields n (Fails a w) m
+not-filled : {fields : List ℤ} {n : ℕ} {f : Refusal} {m : Res (List ℤ)} → stop f ≡ m → Fills fields n (Err f) m
 not-filled e = record { is = rw (← e); same = λ fs h. stop≢got (e ∙ h) }
 
 module _ {S : Cells} {n : ℕ} {p before fields : List ℤ} {i left : ℕ} (inv : FieldsLeft S n p before fields i left) where
@@ -102,56 +102,53 @@ module _ {S : Cells} {n : ℕ} {p before fields : List ℤ} {i left : ℕ} (inv 
     fields-turn : ((reads (number 0 31 q) >>= λ x. evaluate 16 S x.1 >>= λ y. field_words (n - (i + 1)) S y.1 >>= λ more. got (pos x.0 ∷ (cell_of y.0).kind ∷ (cell_of y.0).payload ∷ more)) >>= λ more. got (inv.done ++ more)) ≡ field_words n S p
     fields-turn = let z : n - i ≡ suc (n - (i + 1)) = omega arith in rw (z, ← part, fields-more S q (n - (i + 1))) at inv.rest
 
-    pub fields-label : labels ≤ number_at q 0 → Fills fields n (Fails 2 (length q)) (field_words n S p)
+    pub fields-label : labels ≤ number_at q 0 → Fills fields n (Err (refused 2 q)) (field_words n S p)
     fields-label h = not-filled (rw (number-high 0 31 q (omega arith) (omega arith)) at fields-turn)
 
-    module _ {label : ℕ} (is : label ≡ number_at q 0) (small : label < labels) {t : List ℤ} (after : t ≡ drop 1 q) {r : Evaluated} (e : r ≡ evaluated_of (evaluate 16 S t)) where
+    module _ {label : ℕ} (is : label ≡ number_at q 0) (small : label < labels) {t : List ℤ} (after : t ≡ drop 1 q) {r : Result Evaluated Refusal} (e : r ≡ evaluated_of (evaluate 16 S t)) where
       fields_value : ((evaluate 16 S t >>= λ y. field_words (n - (i + 1)) S y.1 >>= λ more. got (pos label ∷ (cell_of y.0).kind ∷ (cell_of y.0).payload ∷ more)) >>= λ more. got (inv.done ++ more)) ≡ field_words n S p
       fields_value = rw (number_fits_lem 0 31 q (omega arith) (omega arith), ← is, ← after) at fields-turn
 
-      pub fields-stop : {a w : ℕ} → r ≡ Fault-at a w → Fills fields n (Fails a w) (field_words n S p)
+      pub fields-stop : {f : Refusal} → r ≡ Err f → Fills fields n (Err f) (field_words n S p)
       fields-stop h = not-filled (by (evaluate 16 S t) _ _ (sym e ∙ h) ∙ fields_value)
         where
-          by : {a w : ℕ} (m : Res (Value × List ℤ)) (f : Value × List ℤ → Res (List ℤ)) (g : List ℤ → Res (List ℤ)) → evaluated_of m ≡ Fault-at a w → stop (record { number = a; word = w }) ≡ (m >>= f >>= g)
-          by (got x) f g h = unlike cc
-          by {a = a} {w = w} (stop x) f g h =
-              let y : x.number ≡ a = cc in
-              let z : x.word ≡ w = cc in
-              rw (← y, ← z)
+          by : {f : Refusal} (m : Res (Value × List ℤ)) (k : Value × List ℤ → Res (List ℤ)) (g : List ℤ → Res (List ℤ)) → evaluated_of m ≡ Err f → stop f ≡ (m >>= k >>= g)
+          by (got x) k g h = unlike cc
+          by {f = f} (stop x) k g h = let y : x ≡ f = cc in rw (← y)
 
-      pub fields-go-on : {v : Value} {rest : ℕ} {c : Cell} {one two three : List ℤ} {word kind payload : ℤ} → r ≡ Got v rest → n ≤ most_fields → fields_words ≤ length before → c ≡ cell_of v
+      pub fields-go-on : {x : Evaluated} {c : Cell} {one two three : List ℤ} {word kind payload : ℤ} → r ≡ Ok x → n ≤ most_fields → fields_words ≤ length before → c ≡ cell_of x.value
           → word ≡ word_of label → kind ≡ c.kind → payload ≡ c.payload → one ≡ set fields (3 * i) word → two ≡ set one (3 * i + 1) kind → three ≡ set two (3 * i + 2) payload
-          → FieldsLeft S n p before three (i + 1) rest
-      fields-go-on {v = v} {rest = rest} {three = three} h few room k w kd py x y z =
-          let a : evaluate 16 S t ≡ got (v, last_of rest t) = got-on (evaluate 16 S t) (λ x j. evaluate-part S 16 t x j) e h refl in
-          let kind = (cell_of v).kind in
-          let payload = (cell_of v).payload in
-          let s : three ≡ three_at fields i (pos label) kind payload = z ∙ rw (y, x, w, kd, py, k, word-is label (omega arith)) in
+          → FieldsLeft S n p before three (i + 1) x.left
+      fields-go-on {x = g} {three = three} h few room m w kd py x y z =
+          let a : evaluate 16 S t ≡ got (g.value, last_of g.left t) = got-on (evaluate 16 S t) (λ x j. evaluate-part S 16 t x j) e h refl in
+          let kind = (cell_of g.value).kind in
+          let payload = (cell_of g.value).payload in
+          let s : three ≡ three_at fields i (pos label) kind payload = z ∙ rw (y, x, w, kd, py, m, word-is label (omega arith)) in
           let l : length three ≡ length fields = rw s (simp length-set) in
-          let u : last_of rest p ≡ last_of rest t = here a in
+          let u : last_of g.left p ≡ last_of g.left t = here a in
           record {
             inside = omega arith;
             long = l ∙ inv.long;
             done = inv.done ++ pos label ∷ kind ∷ payload ∷ [];
             count = length-append inv.done (pos label ∷ kind ∷ payload ∷ []) ∙ omega (arith, inv.count);
             same = rw s (three-more fields inv.done i (pos label) kind payload (omega (arith, inv.long)) inv.count inv.same);
-            rest = rw u (by (field_words (n - (i + 1)) S (last_of rest t)) ∙ (rw a at fields_value));
+            rest = rw u (by (field_words (n - (i + 1)) S (last_of g.left t)) ∙ (rw a at fields_value));
           }
         where
-          here : evaluate 16 S t ≡ got (v, last_of rest t) → last_of rest p ≡ last_of rest t
+          here : evaluate 16 S t ≡ got (g.value, last_of g.left t) → last_of g.left p ≡ last_of g.left t
           here a =
               let pq : Part p q = rw part (last-part left p) in
               let qt : Part q t = rw after (part-drop 1 q) in
-              let w = part-trans pq (part-trans qt (evaluate-part S 16 t (v, last_of rest t) a)) in
-              let g : length (last_of rest t) ≡ rest = let y : Got v rest ≡ Got v (length (last_of rest t)) = sym h ∙ e ∙ rw a in cc in
-              rw g at w.is
+              let w = part-trans pq (part-trans qt (evaluate-part S 16 t (g.value, last_of g.left t) a)) in
+              let k : length (last_of g.left t) ≡ g.left = let y : Ok g ≡ Ok (record { value = g.value; left = length (last_of g.left t) }) = sym h ∙ e ∙ rw a in cc in
+              rw k at w.is
 
-          by : (m : Res (List ℤ)) → (m >>= λ more. got (inv.done ++ pos label ∷ (cell_of v).kind ∷ (cell_of v).payload ∷ [] ++ more))
-              ≡ ((m >>= λ more. got (pos label ∷ (cell_of v).kind ∷ (cell_of v).payload ∷ more)) >>= λ more. got (inv.done ++ more))
-          by (got x) = ap got (append_assoc inv.done (pos label ∷ (cell_of v).kind ∷ (cell_of v).payload ∷ []) x)
+          by : (m : Res (List ℤ)) → (m >>= λ more. got (inv.done ++ pos label ∷ (cell_of g.value).kind ∷ (cell_of g.value).payload ∷ [] ++ more))
+              ≡ ((m >>= λ more. got (pos label ∷ (cell_of g.value).kind ∷ (cell_of g.value).payload ∷ more)) >>= λ more. got (inv.done ++ more))
+          by (got x) = ap got (append_assoc inv.done (pos label ∷ (cell_of g.value).kind ∷ (cell_of g.value).payload ∷ []) x)
           by (stop f) = refl
 
-  pub fields-end : n ≤ i → Fills fields n All (field_words n S p)
+  pub fields-end : n ≤ i → Fills fields n (Ok tt) (field_words n S p)
   fields-end h =
       let z : n - i ≡ 0 = omega arith in
       let j : i ≡ n = omega (arith, inv.inside) in

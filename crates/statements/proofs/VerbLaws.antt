@@ -1,15 +1,17 @@
 -- Each number from 0 to 8 stands for its verb, and what a statement that holds no block does, by the number of its verb. Assumes nothing.
-use mathlib.Core.Path.{◌≡◌, sym, ap, ◌∙◌}
+use mathlib.Core.Path.{◌≡◌, refl}
 use mathlib.Core.List.{List, [], ◌∷◌, ◌++◌}
 use Prim.Native.Nat.{ℕ, ◌<◌}
 use native.Mathlib.Omega.{arith}
 use lib.IntN.{ℤ, pos}
 use Rattle.words.proofs.Laws.{number-first}
-use Rattle.program.specs.Forms.{Verb, skip, assign, new, always, once, always_same, once_same, branch, loop, no_verb, verb_of}
+use Rattle.program.specs.Forms.{verb_of}
+use Rattle.program.specs.declared.Verb.{Verb}
+use Rattle.program.specs.declared.Verb.TheVariants.{Skip as skip, Assign as assign, New as new, Always as always, Once as once, AlwaysSame as always_same, OnceSame as once_same, If as branch, While as loop, Unknown as no_verb}
 use Rattle.program.specs.Grammar.{Labels, Path, Expression, Parts, Constraint, Fields, Yields, statement_of, block_of}
-use Rattle.program.proofs.FormLaws.{number_of_verb, verb-number}
-use Rattle.rules.specs.State.{State, Res, refuse}
-use Rattle.rules.specs.Statements.{Left, do_simple}
+use Rattle.program.proofs.FormLaws.{number_of_verb}
+use Rattle.rules.specs.State.{State, refuse}
+use Rattle.rules.specs.Statements.{do_simple}
 use Rattle.rules.proofs.VerbLaws.{verb_in, verb-in}
 use Rattle.rules.proofs.StatementClauses.{simple-branch, simple-loop, simple-none}
 
@@ -39,23 +41,17 @@ verb-is branch h = verb-begins 7 _ (Yields.branch Expression.nil empty empty)
 verb-is loop h = verb-begins 8 _ (Yields.loop Expression.nil empty)
 verb-is no_verb h = let z : ⊥ = omega arith in absurd z
 
--- ---- by the number of the verb
+-- ---- what holds blocks, or is no verb
 
-module _ (program p : List ℤ) (S : State) (ws : List ℤ) {verb : ℕ} where
-  pub simple-by : (v : Verb) {m : Res Left} → verb ≡ number_of_verb v → number_of_verb v < 9 → do_simple program p S ws v ≡ m → m ≡ do_simple program p S ws (verb_of verb)
-  simple-by v e h q = sym q ∙ ap (do_simple program p S ws) (sym (verb-is v h) ∙ ap verb_of (sym e))
-
-  pub simple-other : (verb ≡ 0 → ⊥) → (verb ≡ 1 → ⊥) → (verb ≡ 2 → ⊥) → (verb ≡ 3 → ⊥) → (verb ≡ 4 → ⊥) → (verb ≡ 5 → ⊥) → (verb ≡ 6 → ⊥) → do_simple program p S ws (verb_of verb) ≡ refuse 2 p
-  simple-other a b c d e f g = by (verb_of verb) (verb-number verb)
-    where
-      by : (v : Verb) → (number_of_verb v < 9 → verb ≡ number_of_verb v) → do_simple program p S ws v ≡ refuse 2 p
-      by skip h = absurd (a (h (omega arith)))
-      by assign h = absurd (b (h (omega arith)))
-      by new h = absurd (c (h (omega arith)))
-      by always h = absurd (d (h (omega arith)))
-      by once h = absurd (e (h (omega arith)))
-      by always_same h = absurd (f (h (omega arith)))
-      by once_same h = absurd (g (h (omega arith)))
-      by branch h = simple-branch program p S ws
-      by loop h = simple-loop program p S ws
-      by no_verb h = simple-none program p S ws
+pub simple-other : (program p : List ℤ) (S : State) (ws : List ℤ) (v : Verb) → (v ≡ skip → ⊥) → (v ≡ assign → ⊥) → (v ≡ new → ⊥) → (v ≡ always → ⊥) → (v ≡ once → ⊥) → (v ≡ always_same → ⊥) → (v ≡ once_same → ⊥)
+    → do_simple program p S ws v ≡ refuse 2 p
+simple-other program p S ws skip a b c d e f g = absurd (a refl)
+simple-other program p S ws assign a b c d e f g = absurd (b refl)
+simple-other program p S ws new a b c d e f g = absurd (c refl)
+simple-other program p S ws always a b c d e f g = absurd (d refl)
+simple-other program p S ws once a b c d e f g = absurd (e refl)
+simple-other program p S ws always_same a b c d e f g = absurd (f refl)
+simple-other program p S ws once_same a b c d e f g = absurd (g refl)
+simple-other program p S ws branch a b c d e f g = simple-branch program p S ws
+simple-other program p S ws loop a b c d e f g = simple-loop program p S ws
+simple-other program p S ws no_verb a b c d e f g = simple-none program p S ws

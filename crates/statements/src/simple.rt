@@ -2,108 +2,88 @@
 ghost use Rattle.std.specs.Prelude.{◌≡◌, ◌≤◌, length, drop};
 ghost use Rattle.words.specs.Words.{number_at};
 ghost use Rattle.tables.specs.Sizes.{most_fields};
-ghost use Rattle.tables.specs.Cells.{cells};
+ghost use Rattle.tables.specs.Lending.{seen, StillLent};
 ghost use Rattle.program.specs.Forms.{verb_of};
 ghost use Rattle.rules.specs.Statements.{has_room, keep, do_assign, field_words, do_new, do_constraint, do_identity, do_simple};
-ghost use Rattle.phases.specs.Told.{tables, Does};
+ghost use Rattle.phases.specs.Told.{state_in, Does};
 ghost use Rattle.statements.specs.Filling.{fields_words, Fills};
 
 use super::identities::same_now;
-use crate::{FIELDS_WORDS, Fields, Sameness};
-use expressions::Evaluated;
+use crate::FIELDS_WORDS;
+use expressions::values::find_value;
 use phases::Done;
 use phases::giving::{give, give_new};
+use program::reading::{read_path, words_left};
+use program::{Refusal, Verb};
+use proposals::Asked;
 use proposals::settling::settle;
-use proposals::{Asked, Settled};
-use tables::Sort;
+use tables::{Sort, Tables, View};
 
 // The assignment at p: its expression, and then its target.
 fn assign(
     program: &[i32],
-    environment: &mut [i32],
-    heap: &mut [i32],
-    constraints: &[i32],
+    t: &mut Tables<'_>,
     proposals: &[i32],
     p: &[i32],
-) -> Done
-    ensures { Does (tables environment.old heap.old constraints.now) (tables environment.new heap.new constraints.now) result (do_assign program.now p.now (tables environment.old heap.old constraints.now) proposals.now) }
+) -> Result<Done, Refusal>
+    ensures does { Does (state_in t.old) (state_in t.new) result (do_assign program.now p.now (state_in t.old) proposals.now) }
+    ensures lent { StillLent t.old t.new }
 {
     let q = words::part_from(p, 1);
-    let path = program::reading::read_path(q);
-    let e = words::part_last(q, path.left);
-    match expressions::values::find_value(environment, heap, e) {
-        Evaluated::Fails(number, word) => Done::Refused(number, word),
-        Evaluated::Got(v, _) => give(program, environment, heap, constraints, proposals, p, v),
-    }
+    let left = words_left(read_path(q));
+    let e = words::part_last(q, left);
+    let seen = t.view();
+    let v = find_value(&seen, e)?.value;
+    give(program, t, proposals, p, v)
 }
 
 // n times label and e, at p: the label, kind and payload of each field.
-fn field_words(environment: &[i32], heap: &[i32], p: &[i32], n: usize, fields: &mut [i32]) -> Fields
+fn field_words(t: &View<'_>, p: &[i32], n: usize, fields: &mut [i32]) -> Result<(), Refusal>
     requires n_le_most_fields { n ≤ most_fields }
     requires fields_words_in_bounds { fields_words ≤ length fields.old }
-    ensures { Fills fields.new n result (field_words n (cells environment.now heap.now) p.now) }
+    ensures { Fills fields.new n result (field_words n (seen t.now) p.now) }
 {
     let mut left = p.len();
-    let mut i: usize = 0;
-    while i < n {
+    for i in 0..n {
         let q = words::part_last(p, left);
         let label = words::number_at(q, 0);
         if tables::LABELS <= label {
-            return Fields::Fails(2, q.len());
+            return Err(Refusal::at(2, q));
         }
-        match expressions::values::find_value(environment, heap, words::part_from(q, 1)) {
-            Evaluated::Fails(number, word) => {
-                return Fields::Fails(number, word);
-            }
-            Evaluated::Got(v, rest) => {
-                let c = tables::cells::cell_of(v);
-                words::store(fields, 3 * i, words::word_of(label));
-                words::store(fields, 3 * i + 1, c.kind);
-                words::store(fields, 3 * i + 2, c.payload);
-                left = rest;
-            }
-        }
-        i += 1;
+        let v = find_value(t, words::part_from(q, 1))?;
+        let c = tables::cells::cell_of(v.value);
+        words::store(fields, 3 * i, words::word_of(label));
+        words::store(fields, 3 * i + 1, c.kind);
+        words::store(fields, 3 * i + 2, c.payload);
+        left = v.left;
     }
-    Fields::All
+    Ok(())
 }
 
 // The new at p: its expressions, and then the record.
 fn make_new(
     program: &[i32],
-    environment: &mut [i32],
-    heap: &mut [i32],
-    constraints: &[i32],
+    t: &mut Tables<'_>,
     proposals: &[i32],
     p: &[i32],
-) -> Done
-    ensures { Does (tables environment.old heap.old constraints.now) (tables environment.new heap.new constraints.now) result (do_new program.now p.now (tables environment.old heap.old constraints.now) proposals.now) }
+) -> Result<Done, Refusal>
+    ensures does { Does (state_in t.old) (state_in t.new) result (do_new program.now p.now (state_in t.old) proposals.now) }
+    ensures lent { StillLent t.old t.new }
 {
     let q = words::part_from(p, 1);
     let x = words::number_at(q, 0);
     if tables::VARIABLES <= x {
-        return Done::Refused(2, q.len());
+        return Err(Refusal::at(2, q));
     }
     let r = words::part_from(q, 1);
     let n = words::number_at(r, 0);
     if tables::FIELDS < n {
-        return Done::Refused(2, r.len());
+        return Err(Refusal::at(2, r));
     }
+    let seen = t.view();
     let mut fields = [0i32; FIELDS_WORDS];
-    match field_words(environment, heap, words::part_from(r, 1), n, &mut fields) {
-        Fields::Fails(number, word) => Done::Refused(number, word),
-        Fields::All => give_new(
-            program,
-            environment,
-            heap,
-            constraints,
-            proposals,
-            p,
-            x,
-            &fields,
-            n,
-        ),
-    }
+    field_words(&seen, words::part_from(r, 1), n, &mut fields)?;
+    give_new(program, t, proposals, p, x, &fields, n)
 }
 
 // There is room for a position not yet kept.
@@ -129,104 +109,95 @@ fn keep_once(constraints: &mut [i32], s: Sort, position: usize)
 // The always C, or the once C, at p.
 fn constrain(
     program: &[i32],
-    environment: &mut [i32],
-    heap: &mut [i32],
-    constraints: &mut [i32],
+    t: &mut Tables<'_>,
     proposals: &[i32],
     p: &[i32],
     keeps: bool,
-) -> Done
-    ensures { Does (tables environment.old heap.old constraints.old) (tables environment.new heap.new constraints.new) result (do_constraint keeps program.now p.now (tables environment.old heap.old constraints.old) proposals.now) }
+) -> Result<Done, Refusal>
+    ensures does { Does (state_in t.old) (state_in t.new) result (do_constraint keeps program.now p.now (state_in t.old) proposals.now) }
+    ensures lent { StillLent t.old t.new }
 {
     let position = words::less(program.len(), p.len());
+    let seen = t.view();
     let asked = Asked {
-        owns: true,
-        aims: false,
-        target: 0,
-        room: !keeps | has_room(constraints, Sort::Values, position),
+        own: Some(words::part_from(p, 1)),
+        target: None,
+        room: !keeps | has_room(seen.constraints, Sort::Values, position),
     };
-    match settle(program, environment, heap, constraints, proposals, p, asked) {
-        Settled::Refuses(number, word) => Done::Refused(number, word),
-        Settled::Takes(left) => {
-            if keeps {
-                keep_once(constraints, Sort::Values, position);
-            }
-            Done::Accepted(left, 1)
-        }
+    let unread = settle(program, t, proposals, p, asked)?;
+    if keeps {
+        keep_once(t.constraints, Sort::Values, position);
     }
+    Ok(Done {
+        unread,
+        accepted: 1,
+    })
 }
 
 // The always L == L, or the once L == L, at p. No proposal is read.
 fn identify(
     program: &[i32],
-    environment: &[i32],
-    heap: &[i32],
-    constraints: &mut [i32],
+    t: &mut Tables<'_>,
     proposals: &[i32],
     p: &[i32],
     keeps: bool,
-) -> Done
-    ensures { Does (tables environment.now heap.now constraints.old) (tables environment.now heap.now constraints.new) result (do_identity keeps program.now p.now (tables environment.now heap.now constraints.old) proposals.now) }
+) -> Result<Done, Refusal>
+    ensures does { Does (state_in t.old) (state_in t.new) result (do_identity keeps program.now p.now (state_in t.old) proposals.now) }
+    ensures lent { StillLent t.old t.new }
 {
     let position = words::less(program.len(), p.len());
-    match same_now(environment, heap, p) {
-        Sameness::Fails(number, word) => Done::Refused(number, word),
-        Sameness::Holds => {
-            if !keeps {
-                return Done::Accepted(proposals.len(), 0);
-            }
-            if !has_room(constraints, Sort::Identities, position) {
-                return Done::Refused(14, p.len());
-            }
-            keep_once(constraints, Sort::Identities, position);
-            Done::Accepted(proposals.len(), 0)
-        }
+    let done = Done {
+        unread: proposals.len(),
+        accepted: 0,
+    };
+    let seen = t.view();
+    same_now(&seen, p)?;
+    if !keeps {
+        return Ok(done);
     }
+    if !has_room(seen.constraints, Sort::Identities, position) {
+        return Err(Refusal::at(14, p));
+    }
+    keep_once(t.constraints, Sort::Identities, position);
+    Ok(done)
 }
 
 // The statement at p, whose verb this is. One that holds blocks is refused with 2 here.
 pub fn simple_at(
     program: &[i32],
-    environment: &mut [i32],
-    heap: &mut [i32],
-    constraints: &mut [i32],
+    t: &mut Tables<'_>,
     proposals: &[i32],
     p: &[i32],
-    verb: usize,
-) -> Done
-    ensures { Does (tables environment.old heap.old constraints.old) (tables environment.new heap.new constraints.new) result (do_simple program.now p.now (tables environment.old heap.old constraints.old) proposals.now (verb_of verb)) }
+    verb: Verb,
+) -> Result<Done, Refusal>
+    ensures does { Does (state_in t.old) (state_in t.new) result (do_simple program.now p.now (state_in t.old) proposals.now verb) }
+    ensures lent { StillLent t.old t.new }
 {
     match verb {
-        0 => Done::Accepted(proposals.len(), 0),
-        1 => assign(program, environment, heap, constraints, proposals, p),
-        2 => make_new(program, environment, heap, constraints, proposals, p),
-        3 => constrain(program, environment, heap, constraints, proposals, p, true),
-        4 => constrain(program, environment, heap, constraints, proposals, p, false),
-        5 => identify(program, environment, heap, constraints, proposals, p, true),
-        6 => identify(program, environment, heap, constraints, proposals, p, false),
-        _ => Done::Refused(2, p.len()),
+        Verb::Skip => Ok(Done {
+            unread: proposals.len(),
+            accepted: 0,
+        }),
+        Verb::Assign => assign(program, t, proposals, p),
+        Verb::New => make_new(program, t, proposals, p),
+        Verb::Always => constrain(program, t, proposals, p, true),
+        Verb::Once => constrain(program, t, proposals, p, false),
+        Verb::AlwaysSame => identify(program, t, proposals, p, true),
+        Verb::OnceSame => identify(program, t, proposals, p, false),
+        _ => Err(Refusal::at(2, p)),
     }
 }
 
 // The statement whose first word is at a position of the program, by itself.
 pub fn alone(
     program: &[i32],
-    environment: &mut [i32],
-    heap: &mut [i32],
-    constraints: &mut [i32],
+    t: &mut Tables<'_>,
     proposals: &[i32],
     position: usize,
-) -> Done
-    ensures { Does (tables environment.old heap.old constraints.old) (tables environment.new heap.new constraints.new) result (do_simple program.now (drop position program.now) (tables environment.old heap.old constraints.old) proposals.now (verb_of (number_at (drop position program.now) 0))) }
+) -> Result<Done, Refusal>
+    ensures does { Does (state_in t.old) (state_in t.new) result (do_simple program.now (drop position program.now) (state_in t.old) proposals.now (verb_of (number_at (drop position program.now) 0))) }
+    ensures lent { StillLent t.old t.new }
 {
     let p = words::part_from(program, position);
-    simple_at(
-        program,
-        environment,
-        heap,
-        constraints,
-        proposals,
-        p,
-        words::number_at(p, 0),
-    )
+    simple_at(program, t, proposals, p, Verb::from(words::number_at(p, 0)))
 }

@@ -1,4 +1,5 @@
 pub mod SearchLaws
+pub mod RangeLaws
 pub mod FindLaws
 pub mod KeptLaws
 pub mod ValueLaws

@@ -31,10 +31,6 @@ cases true f g = f refl
 cases false f g = g refl
 
 module _ (t : ℕ → Bool) where
-  pub every_more : (i : ℕ) → every t i ≡ true → t i ≡ true → every t (i + 1) ≡ true
-  unfolding every
-  every_more i e h = rw (add-one i) (and-true (every t i) (t i) e h)
-
   pub every-stops : (n i : ℕ) → i < n → t i ≡ false → every t n ≡ false
   unfolding every
   every-stops zero i h e = let z : ⊥ = omega arith in absurd z
@@ -104,26 +100,6 @@ pub first-same : (t u : ℕ → Bool) (i n : ℕ) → ((j : ℕ) → i ≤ j →
 unfolding first
 first-same t u i zero f = refl
 first-same t u i (suc n) f = rw (f i (omega arith) (omega arith), first-same t u (suc i) n (λ j a b. f j (omega arith) (omega arith)))
-
--- ---- the loop that tests every number below n, at the number i
-
-pub record Checking (t : ℕ → Bool) (n i : ℕ) : Type 0 where
-  pub inside : i ≤ n
-  pub passed : every t i ≡ true
-
-pub checking-starts : {t : ℕ → Bool} {n : ℕ} → Checking t n 0
-unfolding every
-checking-starts = record { inside = omega arith; passed = refl }
-
-module _ {t : ℕ → Bool} {n i : ℕ} (inv : Checking t n i) where
-  pub checking-fails : i < n → t i ≡ false → false ≡ every t n
-  checking-fails h e = sym (every-stops t n i h e)
-
-  pub checking-goes-on : i < n → t i ≡ true → Checking t n (i + 1)
-  checking-goes-on h e = record { inside = omega arith; passed = every_more t i inv.passed e }
-
-  pub checking-ends : n ≤ i → true ≡ every t n
-  checking-ends h = let e : n ≡ i = omega (arith, inv.inside) in rw e (sym inv.passed)
 
 -- ---- the loop that looks for the first number below n that passes, at the number i
 

@@ -1,4 +1,5 @@
 -- Laws of values and cells. Assumes nothing.
+use Rattle.std.specs.Prelude.{None, Some}
 use mathlib.Core.Path.{◌≡◌, refl}
 use mathlib.Core.Bool.{Bool, true, false, cond}
 use Prim.Native.Nat.{ℕ}
@@ -11,9 +12,8 @@ use Rattle.tables.specs.Values.{cell, absent, cell_of, slot_of, Sound}
 use Rattle.tables.specs.declared.Cell.{Cell}
 use Rattle.tables.specs.declared.Value.{Value}
 use Rattle.tables.specs.declared.Value.TheVariants.{Nil, Bool as Truth, Int, Ref}
-use Rattle.tables.specs.declared.Slot.TheVariants.{Absent, Has}
 
-pub slot-of-cell : (v : Value) → Sound v → slot_of (cell_of v) ≡ Has v
+pub slot-of-cell : (v : Value) → Sound v → slot_of (cell_of v) ≡ Some v
 unfolding slot_of cell_of
 slot-of-cell Nil h = refl
 slot-of-cell (Truth true) h = refl
@@ -21,7 +21,7 @@ slot-of-cell (Truth false) h = refl
 slot-of-cell (Int n) h = refl
 slot-of-cell (Ref r) h = rw (number_word r h)
 
-pub slot-absent : slot_of absent ≡ Absent
+pub slot-absent : slot_of absent ≡ None
 unfolding slot_of
 slot-absent = refl
 
@@ -33,26 +33,26 @@ cell-used (Int n) e = omega arith
 cell-used (Ref r) e = omega arith
 
 -- what a cell of kind 2 or 3 holds
-pub slot-boolean : (p : ℤ) → slot_of (cell (pos 2) p) ≡ Has (Truth (eq_z p (pos 1)))
+pub slot-boolean : (p : ℤ) → slot_of (cell (pos 2) p) ≡ Some (Truth (eq_z p (pos 1)))
 unfolding slot_of
 slot-boolean p = refl
 
-pub slot-integer : (p : ℤ) → slot_of (cell (pos 3) p) ≡ Has (Int p)
+pub slot-integer : (p : ℤ) → slot_of (cell (pos 3) p) ≡ Some (Int p)
 unfolding slot_of
 slot-integer p = refl
 
 -- a reference, by its kind; and what any other kind tells
-pub slot-reference : (c : Cell) → number_of c.kind ≡ 4 → slot_of c ≡ Has (Ref (number_of c.payload))
+pub slot-reference : (c : Cell) → number_of c.kind ≡ 4 → slot_of c ≡ Some (Ref (number_of c.payload))
 unfolding slot_of
 slot-reference c h = rw h
 
 pub slot-other : (c : Cell) → eqb (number_of c.kind) 4 ≡ false
     → slot_of c
-    ≡ cond (eqb (number_of c.kind) 1) (Has Nil) (cond (eqb (number_of c.kind) 2) (Has (Truth (eq_z c.payload (pos 1)))) (cond (eqb (number_of c.kind) 3) (Has (Int c.payload)) Absent))
+    ≡ cond (eqb (number_of c.kind) 1) (Some Nil) (cond (eqb (number_of c.kind) 2) (Some (Truth (eq_z c.payload (pos 1)))) (cond (eqb (number_of c.kind) 3) (Some (Int c.payload)) None))
 unfolding slot_of
 slot-other c h = rw h
 
-pub slot-nil : slot_of (cell (pos 1) (pos 0)) ≡ Has Nil
+pub slot-nil : slot_of (cell (pos 1) (pos 0)) ≡ Some Nil
 unfolding slot_of
 slot-nil = refl
 

@@ -4,3 +4,4 @@ pub mod Values
 pub mod Cells
 pub mod Records
 pub mod Kept
+pub mod Lending

@@ -1,14 +1,12 @@
 -- Records of the heap (01, "Lent tables"): counts, labels, the field with a label, a record more and a record less.
 -- Assumes nothing: these are definitions.
-use Rattle.std.specs.Prelude.{ℕ, ◌+◌, ◌-◌, ◌*◌, Bool, true, cond, ◌&&◌, List, ◌∷◌, ltb, leb, eqb, ℤ, pos, set, drop}
+use Rattle.std.specs.Prelude.{ℕ, ◌+◌, ◌-◌, ◌*◌, Bool, true, cond, ◌&&◌, List, ◌∷◌, ltb, leb, eqb, ℤ, pos, set, drop, None, Option, Some}
 use Rattle.words.specs.Words.{word_at, number_at, copied, cleared}
 use Rattle.tables.specs.Sizes.{most_records, most_fields, record_words, count_word, label_word, field_word, field_location, no_number}
 use Rattle.tables.specs.Search.{every, first}
 use Rattle.tables.specs.Values.{absent}
 use Rattle.tables.specs.Cells.{pair_at, zeros}
 use Rattle.tables.specs.declared.Cell.{Cell}
-use Rattle.tables.specs.declared.Found.{Found}
-use Rattle.tables.specs.declared.Found.TheVariants.{At, Nothing}
 
 -- the count word, as a number
 unfoldable pub record_count : List ℤ → ℕ
@@ -45,8 +43,8 @@ unfoldable pub place_with : List ℤ → ℕ → ℕ → ℕ
 place_with h r label = first (λ f. eqb (label_at h r f) label) 0 (field_count h r)
 
 -- the location of the field of record r that has the label
-unfoldable pub field_with : List ℤ → ℕ → ℕ → Found
-field_with h r label = cond (ltb (place_with h r label) (field_count h r)) (At (field_location r (place_with h r label))) Nothing
+unfoldable pub field_with : List ℤ → ℕ → ℕ → Option ℕ
+field_with h r label = cond (ltb (place_with h r label) (field_count h r)) (Some (field_location r (place_with h r label))) None
 
 -- the fields of a new record, each its label, kind and payload: the label and the cell of field f, and a field before others
 unfoldable pub new_label : List ℤ → ℕ → ℤ

@@ -1,12 +1,10 @@
 -- Cells and values (01, "Lent tables"). Assumes nothing: these are definitions.
-use Rattle.std.specs.Prelude.{◌<◌, cond, eqb, ℤ, pos}
+use Rattle.std.specs.Prelude.{◌<◌, cond, eqb, ℤ, pos, None, Option, Some}
 use Rattle.words.specs.Words.{number_of, word_of, eq_z}
 use Rattle.tables.specs.Sizes.{no_number}
 use Rattle.tables.specs.declared.Cell.{Cell}
 use Rattle.tables.specs.declared.Value.{Value}
 use Rattle.tables.specs.declared.Value.TheVariants.{Nil, Bool as Truth, Int, Ref}
-use Rattle.tables.specs.declared.Slot.{Slot}
-use Rattle.tables.specs.declared.Slot.TheVariants.{Absent, Has}
 
 abbrev pub cell : ℤ → ℤ → Cell
 cell k p = record { kind = k; payload = p }
@@ -22,13 +20,13 @@ abbrev pub absent : Cell
 absent = cell (pos 0) (pos 0)
 
 -- what a cell holds; a kind that no cell may have is read as absent
-unfoldable pub slot_of : Cell → Slot
+unfoldable pub slot_of : Cell → Option Value
 slot_of c =
-    cond (eqb (number_of c.kind) 1) (Has Nil)
-    (cond (eqb (number_of c.kind) 2) (Has (Truth (eq_z c.payload (pos 1))))
-    (cond (eqb (number_of c.kind) 3) (Has (Int c.payload))
-    (cond (eqb (number_of c.kind) 4) (Has (Ref (number_of c.payload)))
-    Absent)))
+    cond (eqb (number_of c.kind) 1) (Some Nil)
+    (cond (eqb (number_of c.kind) 2) (Some (Truth (eq_z c.payload (pos 1))))
+    (cond (eqb (number_of c.kind) 3) (Some (Int c.payload))
+    (cond (eqb (number_of c.kind) 4) (Some (Ref (number_of c.payload)))
+    None)))
 
 -- a value that a cell can hold: a reference is a number that a word can be
 abbrev pub Sound : Value → Type 0

@@ -3,23 +3,24 @@ ghost use Rattle.std.specs.Prelude.{◌≡◌, ◌<◌, length};
 ghost use Rattle.tables.specs.Values.{slot_of, cell_of};
 ghost use Rattle.tables.specs.Cells.{cells, cell_at, put_cell, pair_at, put_pair, location_word, fresh, zeros};
 
-use crate::{Cell, LOCATIONS, Slot, VARIABLES, Value};
+use crate::{ABSENT, Cell, LOCATIONS, VARIABLES, Value};
 
 // What a cell holds. A kind that no cell may have is read as absent.
-pub fn slot_of(c: Cell) -> Slot
+#[tactic(auto, unfolding(crate::specs::Values::slot_of))]
+pub fn slot_of(c: Cell) -> Option<Value>
     ensures { result ≡ slot_of c }
 {
-    let kind = words::number(c.kind);
-    match kind {
-        1 => Slot::Has(Value::Nil),
-        2 => Slot::Has(Value::Bool(words::same(c.payload, 1))),
-        3 => Slot::Has(Value::Int(c.payload)),
-        4 => Slot::Has(Value::Ref(words::number(c.payload))),
-        _ => Slot::Absent,
+    match words::number(c.kind) {
+        1 => Some(Value::Nil),
+        2 => Some(Value::Bool(c.payload == 1)),
+        3 => Some(Value::Int(c.payload)),
+        4 => Some(Value::Ref(words::number(c.payload))),
+        _ => None,
     }
 }
 
 // A value as a cell.
+#[tactic(auto, unfolding(crate::specs::Values::cell_of))]
 pub fn cell_of(v: Value) -> Cell
     ensures { result ≡ cell_of v }
 {
@@ -28,18 +29,10 @@ pub fn cell_of(v: Value) -> Cell
             kind: 1,
             payload: 0,
         },
-        Value::Bool(b) => {
-            if b {
-                return Cell {
-                    kind: 2,
-                    payload: 1,
-                };
-            }
-            Cell {
-                kind: 2,
-                payload: 0,
-            }
-        }
+        Value::Bool(b) => Cell {
+            kind: 2,
+            payload: b as i32,
+        },
         Value::Int(n) => Cell {
             kind: 3,
             payload: n,
@@ -65,10 +58,7 @@ pub fn pair_at(s: &[i32], i: usize) -> Cell
     ensures { result ≡ pair_at s.now i }
 {
     if s.len() <= i {
-        return Cell {
-            kind: 0,
-            payload: 0,
-        };
+        return ABSENT;
     }
     Cell {
         kind: words::word_at(s, i),
@@ -85,6 +75,7 @@ fn put_pair(s: &mut [i32], i: usize, c: Cell)
 }
 
 // The cell at a location, absent where there is no such location.
+#[tactic(auto, unfolding(crate::specs::Cells::cell_at))]
 pub fn read_cell(environment: &[i32], heap: &[i32], l: usize) -> Cell
     ensures { result ≡ cell_at (cells environment.now heap.now) l }
 {
@@ -94,13 +85,11 @@ pub fn read_cell(environment: &[i32], heap: &[i32], l: usize) -> Cell
     if l < LOCATIONS {
         return pair_at(heap, location_word(l));
     }
-    Cell {
-        kind: 0,
-        payload: 0,
-    }
+    ABSENT
 }
 
 // Another cell at a location; nothing is written where there is no such location.
+#[tactic(auto, unfolding(crate::specs::Cells::put_cell))]
 pub fn write_cell(environment: &mut [i32], heap: &mut [i32], l: usize, c: Cell)
     ensures { cells environment.new heap.new ≡ put_cell (cells environment.old heap.old) l c }
 {
@@ -127,14 +116,7 @@ pub(crate) fn are_zeros(s: &[i32], at: usize, n: usize) -> bool
     requires n_bound { n < 4096 }
     ensures { result ≡ zeros s.now at n }
 {
-    let mut i: usize = 0;
-    while i < n {
-        if !words::same(words::word_at(s, at + i), 0) {
-            return false;
-        }
-        i += 1;
-    }
-    true
+    (0..n).all(|i| words::word_at(s, at + i) == 0)
 }
 
 // Whether every word is 0. It has no early return, so that words are tested several at a time.
@@ -142,10 +124,8 @@ pub fn is_clear(s: &[i32]) -> bool
     ensures { result ≡ zeros s.now 0 (length s.now) }
 {
     let mut clear = true;
-    let mut i: usize = 0;
-    while i < s.len() {
-        clear = clear & (s[i] == 0);
-        i += 1;
+    for w in s {
+        clear = clear & (*w == 0);
     }
     clear
 }

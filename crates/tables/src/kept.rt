@@ -43,6 +43,7 @@ pub fn count_at(constraints: &[i32], s: Sort) -> usize
 }
 
 // How many positions of a sort are kept; none where the count is out of range.
+#[tactic(auto, unfolding(crate::specs::Kept::kept_count))]
 pub fn kept_count(constraints: &[i32], s: Sort) -> usize
     ensures { result ≡ kept_count constraints.now s }
 {
@@ -54,6 +55,7 @@ pub fn kept_count(constraints: &[i32], s: Sort) -> usize
 }
 
 // The kept position number i of a sort.
+#[tactic(auto, unfolding(crate::specs::Kept::position_at))]
 pub fn position_at(constraints: &[i32], s: Sort, i: usize) -> usize
     ensures { result ≡ position_at constraints.now s i }
 {
@@ -78,17 +80,11 @@ pub fn is_kept(constraints: &[i32], s: Sort, position: usize) -> bool
     ensures { result ≡ is_kept constraints.now s position }
 {
     let n = kept_count(constraints, s);
-    let mut i: usize = 0;
-    while i < n {
-        if position_at(constraints, s, i) == position {
-            return true;
-        }
-        i += 1;
-    }
-    false
+    (0..n).any(|i| position_at(constraints, s, i) == position)
 }
 
 // A position more, after those of its sort. Nothing is written where there is no room.
+#[tactic(auto, unfolding(crate::specs::Kept::with_position))]
 pub fn keep(constraints: &mut [i32], s: Sort, position: usize)
     ensures { constraints.new ≡ with_position constraints.old s position }
 {
@@ -101,6 +97,7 @@ pub fn keep(constraints: &mut [i32], s: Sort, position: usize)
 }
 
 // The last position of a sort is taken away, and its word is zero again.
+#[tactic(auto, unfolding(crate::specs::Kept::without_position))]
 pub fn unkeep(constraints: &mut [i32], s: Sort)
     ensures { constraints.new ≡ without_position constraints.old s }
 {

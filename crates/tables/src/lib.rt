@@ -5,6 +5,7 @@
 pub mod cells; // cells.rt: values, and the cell at a location
 pub mod records; // records.rt: counts, labels, cells, a record more and a record less
 pub mod kept; // kept.rt: kept positions of both sorts
+pub mod lending; // lending.rt: the three tables as they are lent
 
 pub const VARIABLES: usize = 64;
 
@@ -29,7 +30,7 @@ pub const VALUE_POSITIONS: usize = 64;
 pub const IDENTITY_POSITIONS: usize = 32;
 
 // A value in the program's own hands.
-#[derive(Clone, Copy)]
+#[derive(Clone, Copy, Debug, PartialEq, Eq)]
 pub enum Value {
     Nil,
     Bool(bool),
@@ -37,30 +38,47 @@ pub enum Value {
     Ref(usize),
 }
 
+// The kinds of values.
+#[derive(Clone, Copy, Debug, PartialEq, Eq)]
+pub enum Kind {
+    Nil,
+    Bool,
+    Int,
+    Ref,
+}
+
 // A cell as it is lent: two words.
-#[derive(Clone, Copy)]
+#[derive(Clone, Copy, Debug, PartialEq, Eq)]
 pub struct Cell {
     pub kind: i32,
     pub payload: i32,
 }
 
-// What a cell holds.
-#[derive(Clone, Copy)]
-pub enum Slot {
-    Absent,
-    Has(Value),
-}
-
-// The location of a field, if the record has it.
-#[derive(Clone, Copy)]
-pub enum Found {
-    At(usize),
-    Nothing,
-}
+// The cell of a place that holds nothing.
+const ABSENT: Cell = Cell {
+    kind: 0,
+    payload: 0,
+};
 
 // The two sorts of kept positions: always C, and always L == L.
-#[derive(Clone, Copy)]
+#[derive(Clone, Copy, Debug, PartialEq, Eq)]
 pub enum Sort {
     Values,
     Identities,
+}
+
+// The three tables, lent to be read.
+#[derive(Clone, Copy)]
+pub struct View<'a> {
+    pub environment: &'a [i32],
+    pub heap: &'a [i32],
+    pub constraints: &'a [i32],
+}
+
+// The three tables, lent to be changed.
+#[derive(Drop)]
+pub struct Tables<'a> {
+    pub environment: &'a mut [i32],
+    pub heap: &'a mut [i32],
+    pub constraints: &'a mut [i32],
 }

@@ -3,7 +3,7 @@ ghost use Rattle.std.specs.Prelude.{◌≡◌};
 ghost use Rattle.tables.specs.Records.{record_count, count_at, field_count, label_at, field_at, blank_place, blank_from, field_with, with_record, without_record, laid_by, brought_back};
 
 use super::cells::{are_zeros, is_clear, pair_at};
-use crate::{Cell, FIELDS, Found, RECORD_WORDS, RECORDS, VARIABLES};
+use crate::{ABSENT, Cell, FIELDS, RECORD_WORDS, RECORDS, VARIABLES};
 
 // The count word as a number.
 pub fn record_count(heap: &[i32]) -> usize
@@ -13,6 +13,7 @@ pub fn record_count(heap: &[i32]) -> usize
 }
 
 // The field count of record r as it is written.
+#[tactic(auto, unfolding(crate::specs::Records::count_at, crate::specs::Sizes::count_word))]
 pub fn count_at(heap: &[i32], r: usize) -> usize
     ensures { result ≡ count_at heap.now r }
 {
@@ -23,6 +24,7 @@ pub fn count_at(heap: &[i32], r: usize) -> usize
 }
 
 // How many fields record r has; none where its count is out of range.
+#[tactic(auto, unfolding(crate::specs::Records::field_count))]
 pub fn field_count(heap: &[i32], r: usize) -> usize
     ensures { result ≡ field_count heap.now r }
 {
@@ -34,48 +36,39 @@ pub fn field_count(heap: &[i32], r: usize) -> usize
 }
 
 // The label of field place f of record r.
+#[tactic(auto, unfolding(crate::specs::Records::label_at, crate::specs::Sizes::label_word))]
 pub fn label_at(heap: &[i32], r: usize, f: usize) -> usize
     ensures { result ≡ label_at heap.now r f }
 {
-    if RECORDS <= r {
-        return 2147483648;
+    if r < RECORDS && f < FIELDS {
+        words::number_at(heap, 25 * r + 3 * f + 2)
+    } else {
+        2147483648
     }
-    if FIELDS <= f {
-        return 2147483648;
-    }
-    words::number_at(heap, 25 * r + 3 * f + 2)
 }
 
 // The cell of field place f of record r; absent where there is no such place.
+#[tactic(auto, unfolding(crate::specs::Records::field_at, crate::specs::Sizes::field_word))]
 pub fn field_at(heap: &[i32], r: usize, f: usize) -> Cell
     ensures { result ≡ field_at heap.now r f }
 {
-    if RECORDS <= r {
-        return Cell {
-            kind: 0,
-            payload: 0,
-        };
+    if r < RECORDS && f < FIELDS {
+        pair_at(heap, 25 * r + 3 * f + 3)
+    } else {
+        ABSENT
     }
-    if FIELDS <= f {
-        return Cell {
-            kind: 0,
-            payload: 0,
-        };
-    }
-    pair_at(heap, 25 * r + 3 * f + 3)
 }
 
 // Whether the label and the cell of field place f of record r are all zero.
+#[tactic(auto, unfolding(crate::specs::Records::blank_place, crate::specs::Sizes::label_word))]
 pub fn is_blank(heap: &[i32], r: usize, f: usize) -> bool
     ensures { result ≡ blank_place heap.now r f }
 {
-    if RECORDS <= r {
-        return true;
+    if r < RECORDS && f < FIELDS {
+        are_zeros(heap, 25 * r + 3 * f + 2, 3)
+    } else {
+        true
     }
-    if FIELDS <= f {
-        return true;
-    }
-    are_zeros(heap, 25 * r + 3 * f + 2, 3)
 }
 
 // Whether every record from number n on is all zero.
@@ -89,21 +82,16 @@ pub fn are_blank_from(heap: &[i32], n: usize) -> bool
 }
 
 // The location of the field of record r that has the label.
-pub fn find_field(heap: &[i32], r: usize, label: usize) -> Found
+pub fn find_field(heap: &[i32], r: usize, label: usize) -> Option<usize>
     ensures { result ≡ field_with heap.now r label }
 {
     let n = field_count(heap, r);
-    let mut f: usize = 0;
-    while f < n {
-        if label_at(heap, r, f) == label {
-            return Found::At(VARIABLES + 8 * r + f);
-        }
-        f += 1;
-    }
-    Found::Nothing
+    let f = (0..n).position(|f| label_at(heap, r, f) == label)?;
+    Some(VARIABLES + 8 * r + f)
 }
 
 // A record more: n fields, each its label, kind and payload. Nothing is written where the heap is full.
+#[tactic(auto, unfolding(crate::specs::Records::with_record, crate::specs::Sizes::count_word))]
 pub fn add_record(heap: &mut [i32], fields: &[i32], n: usize)
     ensures { heap.new ≡ with_record heap.old fields.now n }
 {
@@ -121,6 +109,7 @@ pub fn add_record(heap: &mut [i32], fields: &[i32], n: usize)
 }
 
 // The last record is taken away, and its words are zero again.
+#[tactic(auto, unfolding(crate::specs::Records::without_record, crate::specs::Sizes::count_word))]
 pub fn drop_record(heap: &mut [i32])
     ensures { heap.new ≡ without_record heap.old }
 {
@@ -136,6 +125,7 @@ pub fn drop_record(heap: &mut [i32])
 }
 
 // The words that a record more may change are laid by: the count word, and those of the first record that is not used.
+#[tactic(auto, unfolding(crate::specs::Records::laid_by, crate::specs::Sizes::count_word))]
 pub fn lay_by(heap: &[i32], saved: &mut [i32])
     ensures { saved.new ≡ laid_by heap.now saved.old }
 {
@@ -148,6 +138,7 @@ pub fn lay_by(heap: &[i32], saved: &mut [i32])
 }
 
 // The words that were laid by are put back.
+#[tactic(auto, unfolding(crate::specs::Records::brought_back, crate::specs::Sizes::count_word))]
 pub fn bring_back(heap: &mut [i32], saved: &[i32])
     ensures { heap.new ≡ brought_back saved.now heap.old }
 {

@@ -17,7 +17,8 @@ use Rattle.program.specs.Reading.{among}
 use Rattle.tokens.specs.declared.Token.{Token}
 use Rattle.tokens.specs.Codes.{name_code}
 use Rattle.text.specs.Reading.{Fault, fault, Reader, Form, form, word_then, and_then, passing, peek, is, refusal, take, need, number_in, known, room_for, variable, label, field_at}
-use Rattle.text.specs.Told.{Carried, reader_of, reading_of, refused_by, Follows}
+use Rattle.text.specs.declared.Carried.{Carried}
+use Rattle.text.specs.Told.{reader_of, reading_of, refused_by, Follows}
 use Rattle.text.specs.Pieces.{behind_first}
 
 -- ---- a piece beside a reader

@@ -22,9 +22,11 @@ use Rattle.tokens.proofs.TokenLaws.{token-past, token-in}
 use Rattle.tokens.proofs.TokenRules.{end-inside}
 use Rattle.text.specs.Reading.{fault, Reader, Form, form, word_then, and_then, owing, due_after, peek, is, refusal, take, need, number_in, with_name, room_for}
 use Rattle.text.specs.Reading.{variable, steps, path, expression, field_at, fields_on, fields_at, assignment}
-use Rattle.text.specs.Told.{Carried, reader_of, Peeks, Follows}
+use Rattle.text.specs.declared.Carried.{Carried}
+use Rattle.text.specs.Told.{reader_of, Peeks, Follows}
 use Rattle.text.specs.Written.{with1, wrote_one, Owes}
-use Rattle.text.specs.Pieces.{Lent, lent, form_of, Fit, Does, Piece, Expression, behind_first, fields_by, fields_at_by}
+use Rattle.text.specs.declared.Lent.{Lent}
+use Rattle.text.specs.Pieces.{lent, form_of, Fit, Does, Piece, Expression, behind_first, fields_by, fields_at_by}
 use Rattle.text.proofs.NameLaws.{extends-same, number-stays}
 use Rattle.text.proofs.RowsLaws.{bind_assoc, fit-here, wrote-number, wrote-reader, wrote-begins, wrote-more}
 use Rattle.text.proofs.AnswerSteps.{follows_is}

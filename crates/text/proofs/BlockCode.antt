@@ -16,9 +16,11 @@ use Rattle.tables.proofs.SearchLaws.{cases}
 use Rattle.tokens.specs.declared.Token.{Token}
 use Rattle.tokens.specs.Codes.{end_code, semicolon_code, open_brace_code, close_brace_code}
 use Rattle.text.specs.Reading.{Fault, Reader, Form, form, empty, word_then, and_then, passing, is, peek, take, need, statement_at, row_at, block_at, first_reader, text_at}
-use Rattle.text.specs.Told.{Carried, names_from, at_most, next_of, reader_of, looked_by, Peeks, Ahead, Follows}
+use Rattle.text.specs.declared.Carried.{Carried}
+use Rattle.text.specs.Told.{names_from, at_most, next_of, reader_of, looked_by, Peeks, Ahead, Follows}
 use Rattle.text.specs.Written.{with1, wrote_one, pass_by, Passes}
-use Rattle.text.specs.Pieces.{Lent, lent, form_of, piece_of, Fit, Does, Piece, Onward, behind_first, first_carried, row_by, Whole}
+use Rattle.text.specs.declared.Lent.{Lent}
+use Rattle.text.specs.Pieces.{lent, form_of, piece_of, Fit, Does, Piece, Onward, behind_first, first_carried, row_by, Whole}
 use Rattle.text.proofs.RowsLaws.{fit-room, fit-here, wrote-number, wrote-more}
 use Rattle.text.proofs.AnswerSteps.{behind-first, passing-none, passing-one, need-never}
 use Rattle.text.proofs.DoesLaws.{Program, ended, does-then, does-as, does-stops, does-take, does-need, does-pass, does-word, does-first, does-piece, does-got, form-length}
@@ -206,17 +208,11 @@ module _ (text : List ℕ) where
   pub record Round (d p from : ℕ) (a₀ : Lent) (s₀ : Carried) (a : Lent) (s : Carried) (n : ℕ) : Type 0 where
     pub turn : Ahead text s₀ → Turn d p from a₀ s₀ a s n
     pub ahead : Ahead text s₀ → Ahead text s
-    pub names : length a.names ≡ length a₀.names
-    pub words : length a.words ≡ length a₀.words
-    pub origins : length a.origins ≡ length a₀.origins
 
   -- what the row promises
   abbrev pub Rows : ℕ → ℕ → ℕ → Lent → Carried → Lent → Carried → Type 0
   Rows d p from a r b s =
       (Ahead text r → (r.number ≡ 0 → from < r.written) → Onward false 0 3 from a r (λ f q. row_by text d p (behind_first f) q) b s) × (Ahead text r → Ahead text s)
-
-  pub round-starts : {d p from : ℕ} {a : Lent} {s : Carried} → Round d p from a s a s 0
-  round-starts = record { turn = λ _. turn-starts; ahead = λ h. h; names = refl; words = refl; origins = refl }
 
   pub round-over : {d p from n : ℕ} {a₀ a : Lent} {s₀ s : Carried} → Round d p from a₀ s₀ a s n → 255 < n → Rows d p from a₀ s₀ a s
   round-over inv h = (λ e pre. turn-over (inv.turn e) h pre, inv.ahead)
@@ -234,15 +230,11 @@ module _ (text : List ℕ) where
     round-ends goes last rows e e1 e2 =
         (λ h pre. turn-ends (inv.turn h) (passes (eqb n 255) s passed) (reads (met h)) goes (keeps (met h)) last rows e e1 e2 pre, λ h. keeps (met h))
 
-    pub round-goes-on : {w : Carried} → v.number ≡ 0 → v.code ≡ semicolon_code → (Ahead text v → Follows v (λ q. take text 0 q) w) → (Ahead text v → Ahead text w)
-        → length b.names ≡ length a.names → length b.words ≡ length a.words → length b.origins ≡ length a.origins → Round d p from a₀ s₀ b w (n + 1)
-    round-goes-on goes more takes on l1 l2 l3 =
+    pub round-goes-on : {w : Carried} → v.number ≡ 0 → v.code ≡ semicolon_code → (Ahead text v → Follows v (λ q. take text 0 q) w) → (Ahead text v → Ahead text w) → Round d p from a₀ s₀ b w (n + 1)
+    round-goes-on goes more takes on =
         record {
           turn = λ h. turn-goes-on (inv.turn h) (passes (eqb n 255) s passed) (reads (met h)) goes (keeps (met h)) more (takes (keeps (met h)));
           ahead = λ h. on (keeps (met h));
-          names = l1 ∙ inv.names;
-          words = l2 ∙ inv.words;
-          origins = l3 ∙ inv.origins;
         }
 
   -- ---- a block
@@ -328,6 +320,10 @@ module _ (text : List ℕ) where
   written_is : (names : List ℕ) → reader_of names (wrote_one looked) ≡ first_reader text
   unfolding reader_of at_most names_from wrote_one
   written_is names = refl
+
+  -- the same where the names are told apart from the rows
+  pub whole-to : (a b : Lent) (s : Carried) {names : List ℕ} → b.names ≡ names → Whole text a (lent names b.words b.origins) s → Whole text a b s
+  whole-to a b s e d = rw (← e) at d
 
   module _ (names : List ℕ) (ws : List ℤ) (os : List ℕ) {vs : List ℤ} {us : List ℕ} {r s : Carried}
       (first : r ≡ looked) (e1 : vs ≡ with1 ws r (pos 0)) (e2 : us ≡ with1 os r 0) (e3 : s ≡ wrote_one r) where

@@ -15,9 +15,11 @@ use Rattle.tables.proofs.SearchLaws.{cases, and_right}
 use Rattle.tokens.specs.declared.Token.{Token}
 use Rattle.text.specs.Reading.{Fault, fault, Reader, Form, and_then, passing, level_of, is_operator, opened, operand, enough, over, onwards, climb}
 use Rattle.text.specs.Reading.{take as take_by}
-use Rattle.text.specs.Told.{Carried, reader_of, reading_of, numbered_of, refused_by, Peeks, Follows}
+use Rattle.text.specs.declared.Carried.{Carried}
+use Rattle.text.specs.Told.{reader_of, reading_of, numbered_of, refused_by, Peeks, Follows}
 use Rattle.text.specs.Written.{since, deep_by, Passes}
-use Rattle.text.specs.Pieces.{Lent, lent, form_of, piece_of, Fit, Does, Piece, Expression, Onward, Inserts, Opens, inserted, joined_by}
+use Rattle.text.specs.declared.Lent.{Lent}
+use Rattle.text.specs.Pieces.{lent, form_of, piece_of, Fit, Does, Piece, Expression, Onward, Inserts, Opens, inserted, joined_by}
 use Rattle.text.proofs.ExpressionLaws.{deeper}
 use Rattle.text.proofs.RowsLaws.{bind_assoc, going, piece-goes, piece-stopped, fit-here, follows-got}
 use Rattle.text.proofs.AnswerSteps.{beside, flat, following, bind-pair, take_within}

@@ -14,9 +14,11 @@ use Rattle.words.specs.Words.{word_of}
 use Rattle.tokens.specs.declared.Token.{Token}
 use Rattle.text.specs.Reading.{Fault, Reader, Form, form, word_then, and_then, peek, refusal, need, variable, label, opened, enough, passing, owing}
 use Rattle.text.specs.Reading.{take as take_by}
-use Rattle.text.specs.Told.{Carried, reader_of, refused_by, Peeks, Follows, Numbers}
+use Rattle.text.specs.declared.Carried.{Carried}
+use Rattle.text.specs.Told.{reader_of, refused_by, Peeks, Follows, Numbers}
 use Rattle.text.specs.Written.{since, with1, wrote_one, deep_by, Passes, Owes}
-use Rattle.text.specs.Pieces.{Lent, lent, form_of, piece_of, Fit, Does, Piece, Expression, behind_first, Opens}
+use Rattle.text.specs.declared.Lent.{Lent}
+use Rattle.text.specs.Pieces.{lent, form_of, piece_of, Fit, Does, Piece, Expression, behind_first, Opens}
 use Rattle.text.proofs.WrittenLaws.{with-before}
 use Rattle.text.proofs.RowsLaws.{bind_assoc, bind-got, going, piece-goes, piece-stopped, fit-wider, fit-by, fit-room, fit-stops, form-same, flat-same, follows-piece, follows-got}
 use Rattle.text.proofs.RowsLaws.{numbered-got, numbered-stopped, numbered-piece, Counted, take_counted, need-counted, fit-counted, fit-names, refused-follows}
@@ -35,6 +37,15 @@ first_of j f = form (take j f.words) (take j f.origins)
 
 abbrev pub later_of : ℕ → Form → Form
 later_of j f = form (drop j f.words) (drop j f.origins)
+
+-- the same where the names are told apart from the rows, before a step and after it
+pub does-from : {deep : Bool} {m k m1 k1 from : ℕ} {a b : Lent} {r s : Carried} {p : Program} {names : List ℕ}
+    → a.names ≡ names → Does deep m k m1 k1 from a r p b s → Does deep m k m1 k1 from (lent names a.words a.origins) r p b s
+does-from e d = rw (← e) d
+
+pub does-to : {deep : Bool} {m k m1 k1 from : ℕ} {a b : Lent} {r s : Carried} {p : Program} {names : List ℕ}
+    → b.names ≡ names → Does deep m k m1 k1 from a r p (lent names b.words b.origins) s → Does deep m k m1 k1 from a r p b s
+does-to e d = rw (← e) at d
 
 -- ---- one after the other
 

@@ -19,9 +19,11 @@ use Rattle.words.proofs.Laws.{part-from}
 use Rattle.tokens.specs.Codes.{colon_code, comma_code, close_brace_code}
 use Rattle.text.specs.Reading.{Fault, Reader, Form, word_then, and_then, passing, peek, is, need, label, expression, field_at, fields_on}
 use Rattle.text.specs.Reading.{take as take_by}
-use Rattle.text.specs.Told.{Carried, next_of, reader_of, Peeks, Ahead, Follows, Numbers}
+use Rattle.text.specs.declared.Carried.{Carried}
+use Rattle.text.specs.Told.{next_of, reader_of, Peeks, Ahead, Follows, Numbers}
 use Rattle.text.specs.Written.{with1, wrote_one, pass_by, Passes}
-use Rattle.text.specs.Pieces.{Lent, lent, form_of, Fit, Does, Expression, behind_first, fields_by}
+use Rattle.text.specs.declared.Lent.{Lent}
+use Rattle.text.specs.Pieces.{lent, form_of, Fit, Does, Expression, behind_first, fields_by}
 use Rattle.text.proofs.RowsLaws.{bind_assoc, going, numbered-stopped, fit-here}
 use Rattle.text.proofs.AnswerSteps.{behind-first, follows_is, passing-none, passing-one, field-never}
 use Rattle.text.proofs.DoesLaws.{does-then, does-as, does-wider, does-stopped, does-take, does-need, does-pass, does-label, does-first}
@@ -205,9 +207,6 @@ turn_at {seen = seen} {free = free} inv is T =
 
 -- What the code's loop keeps, with the token that stands there.
 pub record Turns (text : List ℕ) (from p : ℕ) (a₀ : Lent) (r : Carried) (a : Lent) (seen : List ℕ) (s : Carried) (n : ℕ) : Type 0 where
-  pub names : length a.names ≡ length a₀.names
-  pub words : length a.words ≡ length a₀.words
-  pub origins : length a.origins ≡ length a₀.origins
   pub size : length seen ≡ 8
   pub ahead : Ahead text r → Ahead text s
   pub fields : Ahead text r → Fields text from p a₀ r a seen s n

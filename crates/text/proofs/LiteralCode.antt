@@ -1,4 +1,5 @@
 -- Literals, and the brackets that open, as the code reads them. Assumes nothing.
+use Rattle.std.specs.Prelude.{None, Option, Some, ℤ}
 use mathlib.Core.Path.{◌≡◌, refl, sym, ap, ◌∙◌}
 use mathlib.Core.Bool.{Bool, true, false, cond}
 use mathlib.Core.List.{List, [], ◌∷◌}
@@ -9,8 +10,6 @@ use lib.Dec.{eqb}
 use lib.IntN.{ℤ, pos}
 use lib.ListN.{length}
 use Rattle.words.specs.Answer.{Answer, got, stop, ◌>>=◌}
-use Rattle.words.specs.declared.Ranged.{Ranged}
-use Rattle.words.specs.declared.Ranged.TheVariants.{Within, Outside}
 use Rattle.words.specs.Range.{fits}
 use Rattle.words.proofs.AnswerLaws.{stop≢got}
 use Rattle.words.proofs.Laws.{ranged-is}
@@ -22,9 +21,11 @@ use Rattle.tokens.specs.Numbers.{integer_of, value_of}
 use Rattle.tokens.proofs.NumberLaws.{value-is}
 use Rattle.text.specs.Reading.{Fault, fault, Reader, Form, form, peek, passing, opened, enough, literal, literal_at, outside}
 use Rattle.text.specs.Reading.{take as take_by}
-use Rattle.text.specs.Told.{Carried, reader_of, reading_of, numbered_of, refused_by, Peeks, Follows}
+use Rattle.text.specs.declared.Carried.{Carried}
+use Rattle.text.specs.Told.{reader_of, reading_of, numbered_of, refused_by, Peeks, Follows}
 use Rattle.text.specs.Written.{with1, wrote_one, numbered_by, Passes}
-use Rattle.text.specs.Pieces.{Lent, lent, form_of, Does, Piece, Opens, number_by, constant_by}
+use Rattle.text.specs.declared.Lent.{Lent}
+use Rattle.text.specs.Pieces.{lent, form_of, Does, Piece, Opens, number_by, constant_by}
 use Rattle.text.proofs.ToldLaws.{goes_on}
 use Rattle.text.proofs.RowsLaws.{follows-got, Counted, take_counted}
 use Rattle.text.proofs.AnswerSteps.{beside, passing-none, passing-one, take-passed}
@@ -41,11 +42,6 @@ pub record Opening (text : List ℕ) (r s : Carried) (b : ℕ) : Type 0 where
   pub counts : s.number ≡ 0 → s.certain + s.owed ≡ r.certain + r.owed
   pub certain : s.number ≡ 0 → r.certain ≤ most_words → s.certain ≤ most_words
   pub owed : s.number ≡ 0 → s.owed ≤ r.owed
-
-pub opening-starts : (text : List ℕ) (r : Carried) → Opening text r r 0
-opening-starts text r =
-    let e : suc (length text) - 0 ≡ suc (length text) = omega arith in
-    record { inside = omega arith; rest = λ names. rw e; written = refl; counts = λ z. refl; certain = λ z h. h; owed = λ z. omega arith }
 
 module _ {text : List ℕ} {r s : Carried} {b : ℕ} (inv : Opening text r s b) where
   pub opening-stopped : (s.number ≡ 0 → ⊥) → Opens text r s
@@ -122,17 +118,17 @@ ended-first a r w p = rw (form-empty a r)
 -- ---- literals
 
 -- what the code is told of a number
-outside-is : (s : List ℕ) {v : Ranged} → v ≡ value_of s → v ≡ Outside → fits (integer_of s) ≡ false
+outside-is : (s : List ℕ) {v : (Option ℤ)} → v ≡ value_of s → v ≡ None → fits (integer_of s) ≡ false
 outside-is s a b = by (fits (integer_of s)) (sym (ranged-is (integer_of s)) ∙ sym (value-is s) ∙ sym a ∙ b)
   where
-    by : (c : Bool) → cond c (Within (integer_of s)) Outside ≡ Outside → c ≡ false
+    by : (c : Bool) → cond c (Some (integer_of s)) None ≡ None → c ≡ false
     by true e = absurd (let z : ◌≡◌ {A = ℕ} 0 1 = cc in omega arith)
     by false e = refl
 
-within-is : (s : List ℕ) {v : Ranged} {w : ℤ} → v ≡ value_of s → v ≡ Within w → (fits (integer_of s) ≡ true) × (integer_of s ≡ w)
+within-is : (s : List ℕ) {v : (Option ℤ)} {w : ℤ} → v ≡ value_of s → v ≡ Some w → (fits (integer_of s) ≡ true) × (integer_of s ≡ w)
 within-is s {w = w} a b = by (fits (integer_of s)) (sym (ranged-is (integer_of s)) ∙ sym (value-is s) ∙ sym a ∙ b)
   where
-    by : (c : Bool) → cond c (Within (integer_of s)) Outside ≡ Within w → (c ≡ true) × (integer_of s ≡ w)
+    by : (c : Bool) → cond c (Some (integer_of s)) None ≡ Some w → (c ≡ true) × (integer_of s ≡ w)
     by true e = (refl, cc)
     by false e = absurd (let z : ◌≡◌ {A = ℕ} 0 1 = cc in omega arith)
 
@@ -146,9 +142,9 @@ module _ (text names : List ℕ) {r : Carried} {t : Token} (p : Peeks text r t) 
       (one_word (take_by text 1 (reader_of names r)) (form_of false r.written (lent names ws os) r) (form (w ∷ []) (t.place ∷ [])) w t.place
       (ended-first (lent names ws os) r w t.place)))
 
-  module _ {v : Ranged} (is : v ≡ value_of (part text t.place t.end)) where
+  module _ {v : (Option ℤ)} (is : v ≡ value_of (part text t.place t.end)) where
     pub number-outside : {ws : List ℤ} {os : List ℕ} {s u : Carried}
-        → v ≡ Outside → Passes true r s → Follows s (λ q. take_by text 2 q) u → Piece 3 0 (lent names ws os) r (λ q. number_by text q) (lent names ws os) u
+        → v ≡ None → Passes true r s → Follows s (λ q. take_by text 2 q) u → Piece 3 0 (lent names ws os) r (λ q. number_by text q) (lent names ws os) u
     number-outside {ws = ws} {os = os} {u = u} out b f =
         let stops : take_by text 2 (passing true (reader_of names r)) ≡ stop (fault 22 (peek text (passing true (reader_of names r))).place) =
         take-passed text 2 (passing true (reader_of names r)) (passing-one (reader_of names r)) in
@@ -158,7 +154,7 @@ module _ (text names : List ℕ) {r : Carried} {t : Token} (p : Peeks text r t) 
         (λ fit z. rw (← p names, outside-is (part text t.place t.end) is out, stops))
 
     pub number-within : {w : ℤ} {ws vs vs' : List ℤ} {os us us' : List ℕ} {s u u' : Carried}
-        → v ≡ Within w → Follows r (λ q. take_by text 2 q) s
+        → v ≡ Some w → Follows r (λ q. take_by text 2 q) s
         → vs ≡ with1 ws s (pos 23) → us ≡ with1 os s t.place → u ≡ wrote_one s
         → vs' ≡ with1 vs u w → us' ≡ with1 us u t.place → u' ≡ wrote_one u
         → Piece 3 0 (lent names ws os) r (λ q. number_by text q) (lent names vs' us') u'

@@ -1,14 +1,14 @@
 -- The table of names: what the loop over it comes to, and the names that it has with one more. Assumes nothing.
 use mathlib.Core.Path.{◌≡◌, refl, sym, ap, ◌∙◌}
-use mathlib.Core.Bool.{Bool, true, false, cond, ◌||◌}
+use mathlib.Core.Bool.{Bool, true, false, cond}
 use mathlib.Core.List.{List, [], ◌∷◌, ◌++◌}
-use Prim.Native.Nat.{ℕ, zero, suc, ◌+◌, ◌-◌, ◌*◌, ◌≤◌, ◌<◌}
+use Prim.Native.Nat.{ℕ, min, zero, suc, ◌+◌, ◌-◌, ◌*◌, ◌≤◌, ◌<◌}
 use native.Mathlib.Omega.{arith}
-use native.Mathlib.Numerals.{add-one}
-use borrow.Author.Tests.{ltb-false, lt-ltb, le-ltb, eq-eqb, ne_eqb}
+use borrow.Author.Tests.{eqb-true, eqb-false, ltb-true, ltb-false, lt-ltb, le-ltb, eq-eqb, ne_eqb}
 use lib.Dec.{eqb, ltb}
-use lib.ListN.{length, get_or, set, drop, length-set, drop_of_length-le}
-use lib.Seq.{get_or-set_same, get_or-set_other, drop-cons}
+use lib.ListN.{length, get_or, set, length-set}
+use lib.Seq.{get_or-set_same, get_or-set_other}
+use Rattle.std.specs.List.{list_any}
 use Rattle.program.specs.Reading.{among}
 use Rattle.program.proofs.AmongLaws.{among_none, among-more}
 use Rattle.tables.proofs.SearchLaws.{cases}
@@ -21,6 +21,14 @@ use Rattle.text.proofs.NameLaws.{number-most}
 pub most-small : (most n : ℕ) → at_most most n ≤ most
 unfolding at_most
 most-small most n = cases (ltb most n) (λ e. rw e (omega arith)) (λ e. rw e (ltb-false most n e))
+
+-- the lesser of the two
+pub most-least : (most n : ℕ) {k : ℕ} → k ≡ min n most → k ≡ at_most most n
+unfolding at_most
+most-least most n is =
+    rw is (cases (ltb most n)
+    (λ e. let h : most < n = ltb-true most n e in rw e (omega (arith, h)))
+    (λ e. let h : n ≤ most = ltb-false most n e in rw e (omega (arith, h))))
 
 pub most-is : (most n : ℕ) → n ≤ most → at_most most n ≡ n
 unfolding at_most
@@ -74,13 +82,6 @@ module _ (text names : List ℕ) (i : ℕ) (t : Token) {w d : ℕ} (e : w ≡ ge
 pub record Naming (text names : List ℕ) (from count : ℕ) (t : Token) (i : ℕ) : Type 0 where
   pub inside : i ≤ count
   pub rest : i + number_in text (names_from names (from + 2 * i) (count - i)) t ≡ number_in text (names_from names from count) t
-
-pub naming-starts : {text names : List ℕ} {from count : ℕ} {t : Token} → Naming text names from count t 0
-naming-starts {from = from} {count = count} =
-    record {
-      inside = omega arith;
-      rest = let y : from + 2 * 0 ≡ from = omega arith in let z : count - 0 ≡ count = omega arith in rw (y, z) (omega arith);
-    }
 
 module _ {text names : List ℕ} {from count : ℕ} {t : Token} {i : ℕ} (inv : Naming text names from count t i) where
   naming-turn : i < count → i + cond (is_name text (name_at names (from + 2 * i)) t) 0 (suc (number_in text (names_from names (from + 2 * (i + 1)) (count - (i + 1))) t)) ≡ number_in text (names_from names from count) t
@@ -165,24 +166,11 @@ names-with text names from count number t room is =
     (λ e. rw (← is, length-names names from count, e))
     (λ e. rw (← is, length-names names from count, e) (names-added names from count t (room (ltb-false number count e))))
 
--- ---- the loop that looks for a number among those in a list
+-- ---- a number among those in a list
 
-pub record Among (n : ℕ) (s : List ℕ) (i : ℕ) : Type 0 where
-  pub inside : i ≤ length s
-  pub rest : among n (drop i s) ≡ among n s
+turned : (m n : ℕ) → eqb m n ≡ eqb n m
+turned m n = cases (eqb m n) (λ e. rw e (sym (eq-eqb n m (sym (eqb-true m n e))))) (λ e. rw e (sym (ne_eqb n m (λ q. eqb-false m n e (sym q)))))
 
-pub among-starts : {n : ℕ} {s : List ℕ} → Among n s 0
-among-starts = record { inside = omega arith; rest = refl }
-
-module _ {n : ℕ} {s : List ℕ} {i : ℕ} (inv : Among n s i) where
-  among-turn : i < length s → eqb n (get_or s i 0) || among n (drop (i + 1) s) ≡ among n s
-  among-turn h = sym (among-more n (get_or s i 0) (drop (i + 1) s)) ∙ ap (among n) (sym (rw (add-one i) (drop-cons s i 0 h))) ∙ inv.rest
-
-  pub among-hits : i < length s → get_or s i 0 ≡ n → true ≡ among n s
-  among-hits h e = rw (eq-eqb n (get_or s i 0) (sym e)) at (among-turn h)
-
-  pub among-goes-on : i < length s → (get_or s i 0 ≡ n → ⊥) → Among n s (i + 1)
-  among-goes-on h e = record { inside = omega arith; rest = rw (ne_eqb n (get_or s i 0) (λ q. e (sym q))) at (among-turn h) }
-
-  pub among-ends : length s ≤ i → false ≡ among n s
-  among-ends h = sym (among_none n) ∙ ap (among n) (sym (drop_of_length-le s {i = i} h)) ∙ inv.rest
+pub any-among : (n : ℕ) (s : List ℕ) → list_any (λ y. eqb y n) s ≡ among n s
+any-among n [] = sym (among_none n)
+any-among n (x ∷ s) = rw (turned x n, any-among n s) (sym (among-more n x s))

@@ -1,19 +1,20 @@
 -- The turns of `onwards`: what is left of the definition's work from the reader of a turn gives the whole. Assumes nothing.
-use mathlib.Core.Path.{◌≡◌, refl, subst, ◌∙◌}
+use mathlib.Core.Path.{◌≡◌, refl, subst}
 use mathlib.Core.Bool.{Bool, true, false, cond, ◌&&◌}
 use mathlib.Core.List.{List}
 use Prim.Native.Nat.{ℕ, suc, ◌+◌, ◌-◌, ◌≤◌, ◌<◌}
 use native.Mathlib.Omega.{arith}
 use borrow.Author.Tests.{lt-ltb, le-ltb}
 use lib.Dec.{eqb, ltb, leb}
-use lib.IntN.{ℤ}
 use lib.ListN.{length}
 use Rattle.words.specs.Answer.{Answer, got, stop, ◌>>=◌}
 use Rattle.tokens.specs.declared.Token.{Token}
 use Rattle.text.specs.Reading.{Fault, Reader, Form, passing, peek, refusal, level_of, is_operator, enough, over, onwards, climb}
 use Rattle.text.specs.Reading.{take as take_by}
-use Rattle.text.specs.Told.{Carried, reader_of, refused_by, Peeks, Follows}
-use Rattle.text.specs.Pieces.{Lent, lent, form_of, Onward, joined_by}
+use Rattle.text.specs.declared.Carried.{Carried}
+use Rattle.text.specs.Told.{reader_of, refused_by, Peeks, Follows}
+use Rattle.text.specs.declared.Lent.{Lent}
+use Rattle.text.specs.Pieces.{form_of, Onward, joined_by}
 use Rattle.text.proofs.AnswerSteps.{beside, bind-pair}
 use Rattle.text.proofs.DoesLaws.{Program, does-then, does-as, does-wider, does-nothing, does-stopped, does-refused, does-take}
 use Rattle.text.proofs.ClimbCode.{right_by}
@@ -33,12 +34,9 @@ pub record Turns (text : List ℕ) (from left : ℕ) (in_c : Bool) (low brackets
   pub counts : fuel + round ≡ suc (length text)
   pub rest : Rest text from left in_c low brackets a₀ r₀ a r b fuel
   pub deep : (r₀.number ≡ 0 → r₀.depth ≤ suc left) → r.number ≡ 0 → r.depth ≤ suc left
-  pub names : length a.names ≡ length a₀.names
-  pub words : length a.words ≡ length a₀.words
-  pub origins : length a.origins ≡ length a₀.origins
 
 pub turns-start : {text : List ℕ} {from left low brackets : ℕ} {in_c : Bool} {a : Lent} {r : Carried} → Turns text from left in_c low brackets a r a r brackets 0
-turns-start {text = text} = record { fuel = suc (length text); counts = omega arith; rest = λ most le c u d. d; deep = λ h. h; names = refl; words = refl; origins = refl }
+turns-start {text = text} = record { fuel = suc (length text); counts = omega arith; rest = λ most le c u d. d; deep = λ h. h }
 
 -- ---- what one turn does
 
@@ -99,18 +97,14 @@ module _ {text : List ℕ} {from left low brackets b round : ℕ} {in_c : Bool} 
               (does-as (does-then (does-wider {m = most} {m1 = 0} (omega arith) (omega arith) (does-take text 0 takes)) d)
               (λ fit y. close-turn text left in_c low b (inv.fuel - 1) t (form_of true from a r) (reader_of a.names r) (p a.names) h));
           deep = λ f y. rw takes.depth (inv.deep f z);
-          names = inv.names;
-          words = inv.words;
-          origins = inv.origins;
         }
 
     module _ (h : eqb t.code 38 && ltb 0 b ≡ false) where
       pub turns-join : {c : Lent} {s : Carried} → is_operator t.code && leb (cond (ltb 0 b) 1 low) (level_of (t.code - 40)) ≡ true
           → ((most : ℕ) → most ≤ 3 → Onward true most most from a r (λ f q. joined_by text left in_c t f q) c s)
           → (s.number ≡ 0 → s.depth ≤ suc left)
-          → length c.names ≡ length a.names → length c.words ≡ length a.words → length c.origins ≡ length a.origins
           → Turns text from left in_c low brackets a₀ r₀ c s b (round + 1)
-      turns-join j joined deep names words origins =
+      turns-join j joined deep =
           record {
             fuel = inv.fuel - 1;
             counts = omega (arith, inv.counts);
@@ -119,9 +113,6 @@ module _ {text : List ℕ} {from left low brackets b round : ℕ} {in_c : Bool} 
                 (does-as (does-then (joined most le) d)
                 (λ fit y. join-turn text left in_c low b (inv.fuel - 1) t (form_of true from a r) (reader_of a.names r) (p a.names) h j));
             deep = λ f y. deep y;
-            names = names ∙ inv.names;
-            words = words ∙ inv.words;
-            origins = origins ∙ inv.origins;
           }
 
       module _ (j : is_operator t.code && leb (cond (ltb 0 b) 1 low) (level_of (t.code - 40)) ≡ false) where
@@ -134,8 +125,3 @@ module _ {text : List ℕ} {from left low brackets b round : ℕ} {in_c : Bool} 
         turns-end k most le =
             later most le a r
             (does-as does-nothing (λ fit y. end-turn text left in_c low b (inv.fuel - 1) t (form_of true from a r) (reader_of a.names r) (p a.names) h j (le-ltb 0 b k)))
-
--- the same of equal rows and readers
-pub turns_as : {text : List ℕ} {from left low brackets b e round : ℕ} {in_c : Bool} {a₀ : Lent} {r₀ r s : Carried} {ns ms : List ℕ} {ws vs : List ℤ} {os us : List ℕ}
-    → ms ≡ ns → vs ≡ ws → us ≡ os → s ≡ r → e ≡ b → Turns text from left in_c low brackets a₀ r₀ (lent ns ws os) r b round → Turns text from left in_c low brackets a₀ r₀ (lent ms vs us) s e round
-turns_as h i j k l t = rw (h, i, j, k, l) t

@@ -12,9 +12,11 @@ use Rattle.words.proofs.AnswerLaws.{stop≢got, got-inj, stop-inj, either}
 use Rattle.tokens.specs.declared.Token.{Token}
 use Rattle.text.specs.Reading.{Fault, fault, Reader, Form, word_then, peek, variable, owing, path, path_or_same, literal, literal_at, operand}
 use Rattle.text.specs.Reading.{take as take_by}
-use Rattle.text.specs.Told.{Carried, reader_of, Peeks, Follows}
+use Rattle.text.specs.declared.Carried.{Carried}
+use Rattle.text.specs.Told.{reader_of, Peeks, Follows}
 use Rattle.text.specs.Written.{with1, wrote_one, Owes}
-use Rattle.text.specs.Pieces.{Lent, lent, Fit, Does, Piece, behind_first}
+use Rattle.text.specs.declared.Lent.{Lent}
+use Rattle.text.specs.Pieces.{lent, Fit, Does, Piece, behind_first}
 use Rattle.text.proofs.RowsLaws.{fit-room, wrote-more}
 use Rattle.text.proofs.AnswerSteps.{beside, following, worded}
 use Rattle.text.proofs.DoesLaws.{ended, does-then, does-as, does-wider, does-take, does-owe, does-word, does-first, does-piece, does-got}

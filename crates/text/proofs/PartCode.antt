@@ -17,9 +17,11 @@ use Rattle.tokens.specs.declared.Token.{Token}
 use Rattle.tokens.specs.Codes.{beside_code, open_bracket_code, name_code}
 use Rattle.text.specs.Reading.{Fault, Reader, Form, word_then, and_then, empty, owing, passing, is, peek, take, variable, path}
 use Rattle.text.specs.Reading.{path_or_same, literal, literal_at, outside, operand, enough, opened, climb, expression, priority, part_at, parts_on, constraint_on}
-use Rattle.text.specs.Told.{Carried, reader_of, Peeks, Follows}
+use Rattle.text.specs.declared.Carried.{Carried}
+use Rattle.text.specs.Told.{reader_of, Peeks, Follows}
 use Rattle.text.specs.Written.{with1, wrote_one, Passes, Owes}
-use Rattle.text.specs.Pieces.{Lent, lent, form_of, Fit, Does, Piece, Expression, Onward, behind_first}
+use Rattle.text.specs.declared.Lent.{Lent}
+use Rattle.text.specs.Pieces.{lent, form_of, Fit, Does, Piece, Expression, Onward, behind_first}
 use Rattle.text.proofs.PieceLaws.{either_way}
 use Rattle.text.proofs.RowsLaws.{fit-from}
 use Rattle.text.proofs.AnswerSteps.{beside, flat, following, worded, behind-first, passing-none, passing-one, take-never, variable-never}
@@ -134,9 +136,6 @@ Constrains text from p a r b s = (most : ℕ) → most ≤ 3 → (r.number ≡ 0
 
 -- one part is read at each turn
 pub record Parted (text : List ℕ) (from p : ℕ) (a : Lent) (r : Carried) (m : ℕ) (b : Lent) (s : Carried) : Type 0 where
-  pub names : length b.names ≡ length a.names
-  pub words : length b.words ≡ length a.words
-  pub origins : length b.origins ≡ length a.origins
   pub begun : {most : ℕ} → most ≤ 3 → (r.number ≡ 0 → from < r.written) → Fit most 0 from a r → (s.number ≡ 0 → from < s.written) × Fit most 0 from b s
   pub rest : {most : ℕ} {c : Lent} {u : Carried} → most ≤ 3 → (r.number ≡ 0 → from < r.written)
       → Does false most 0 most 0 from b s (λ f q. rest_of text p m f q) c u → Does false most 0 most 0 from a r (λ f q. constraint_on text p (behind_first f) q) c u
@@ -145,9 +144,6 @@ pub parted-starts : {text : List ℕ} {from p : ℕ} {a : Lent} {r : Carried} �
 unfolding constraint_on
 parted-starts {text = text} {from = from} {p = p} {a = a} {r = r} =
     record {
-      names = refl;
-      words = refl;
-      origins = refl;
       begun = λ h l f. (l, f);
       rest = λ h l d. does-as d (λ fit z. bind-cong (parts_on text 15 (reader_of a.names r)) _ _ (λ g e. let y : 1 + g.0 ≡ suc g.0 = omega arith in rw y));
     }
@@ -237,12 +233,9 @@ module _ {text : List ℕ} {from p m : ℕ} {a : Lent} {r s : Carried} {names : 
           (lent after xs ys) e = does-then (does-take text 0 takes) (does-then (does-pass text b pass) (does-piece one)) in
           does-wider (omega arith) (omega arith) d
 
-      pub parted-on : length after ≡ length names → length xs ≡ length ws → length ys ≡ length os → Parted text from p a r (m + 1) (lent after xs ys) e
-      parted-on ln lw lo =
+      pub parted-on : Parted text from p a r (m + 1) (lent after xs ys) e
+      parted-on =
           record {
-            names = ln ∙ inv.names;
-            words = lw ∙ inv.words;
-            origins = lo ∙ inv.origins;
             begun = λ h l f. ((λ y. ((parts {to = suc from}).fit (fit-from (suc from) ((inv.begun h l f).0 z) (inv.begun h l f).1)).begins), parts.fit (inv.begun h l f).1);
             rest = λ h l d.
                 does-given (λ fit0.

@@ -16,9 +16,11 @@ use Rattle.tables.proofs.SearchLaws.{cases}
 use Rattle.tokens.specs.declared.Token.{Token}
 use Rattle.text.specs.Reading.{Fault, fault, Reader, Form, form, word_then, and_then, peek, is, passing, variable, label, steps, path}
 use Rattle.text.specs.Reading.{take as take_by}
-use Rattle.text.specs.Told.{Carried, reader_of, reading_of, numbered_of, Peeks, Follows, Numbers}
+use Rattle.text.specs.declared.Carried.{Carried}
+use Rattle.text.specs.Told.{reader_of, reading_of, numbered_of, Peeks, Follows, Numbers}
 use Rattle.text.specs.Written.{with1, wrote_one, Passes}
-use Rattle.text.specs.Pieces.{Lent, lent, form_of, Fit, Does, Piece, behind_first}
+use Rattle.text.specs.declared.Lent.{Lent}
+use Rattle.text.specs.Pieces.{lent, form_of, Fit, Does, Piece, behind_first}
 use Rattle.text.proofs.ToldLaws.{goes_on}
 use Rattle.text.proofs.RowsLaws.{fit-room, wrote-more}
 use Rattle.text.proofs.AnswerSteps.{beside, following, passing-none, passing-one, label-never}

@@ -11,7 +11,8 @@ use lib.ListN.{length, get_or, set, take, drop, length-set, length-drop}
 use lib.Seq.{take-set-le, take-suc, get_or-set_same, get_or-set_other, get_or-drop, drop-set-add, drop-cons, length-take-le, drop_at, take-append-add, sets, sets-eq}
 use Rattle.tables.proofs.SearchLaws.{cases}
 use Rattle.text.specs.Reading.{everywhere}
-use Rattle.text.specs.Told.{Carried, reader_of}
+use Rattle.text.specs.declared.Carried.{Carried}
+use Rattle.text.specs.Told.{reader_of}
 use Rattle.text.specs.Written.{since, raised, filled}
 use Rattle.text.specs.Pieces.{form_of, piece_of, Inserts}
 use Rattle.text.proofs.RowsLaws.{fit-room}
@@ -72,9 +73,6 @@ pub record Raising {A : Type 0} (z : A) (from k end : ℕ) (before ws : List A) 
   pub long : length ws ≡ length before
 
 module _ {A : Type 0} {z : A} {from k end : ℕ} {before : List A} where
-  pub raising-starts : Raising z from k end before before end
-  raising-starts = record { inside = omega arith; rest = refl; long = refl }
-
   module _ {ws : List A} {i : ℕ} (inv : Raising z from k end before ws i) where
     pub raising-goes-on : from < i → {us : List A} {w : A} → w ≡ get_or ws (i - 1) z → us ≡ set ws (i - 1 + k) w → Raising z from k end before us (i - 1)
     unfolding raised
@@ -119,9 +117,6 @@ pub record Filling {A : Type 0} (from : ℕ) (gap before rest ws : List A) (i : 
   pub long : length ws ≡ length before
 
 module _ {A : Type 0} {from : ℕ} {gap before : List A} where
-  pub filling-starts : Filling from gap before gap before 0
-  filling-starts = let e : from + 0 ≡ from = omega arith in record { still = rw e; long = refl }
-
   module _ {rest ws : List A} {i : ℕ} (inv : Filling from gap before rest ws i) where
     pub filling-goes-on : {w : A} {later us : List A} → rest ≡ w ∷ later → us ≡ set ws (from + i) w → Filling from gap before later us (i + 1)
     unfolding filled
@@ -160,23 +155,7 @@ since-inserted z from k gap ws r s e h l w =
 
 -- the same reader, with k words more
 abbrev pub grown_by : ℕ → Carried → Carried
-grown_by k r = record {
-  number = r.number;
-  place = r.place;
-  at = r.at;
-  last = r.last;
-  certain = r.certain;
-  owed = r.owed;
-  passed = r.passed;
-  variables = r.variables;
-  labels = r.labels;
-  named = r.named;
-  written = r.written + k;
-  depth = r.depth;
-  code = r.code;
-  start = r.start;
-  end = r.end;
-}
+grown_by k r = record r { written = r.written + k }
 
 module _ (from p : ℕ) (gap ws : List ℤ) (os : List ℕ) (r : Carried) where
   -- what cannot be inserted is refused already

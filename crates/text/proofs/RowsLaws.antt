@@ -20,9 +20,11 @@ use Rattle.tokens.specs.declared.Token.{Token}
 use Rattle.tokens.specs.Codes.{name_code}
 use Rattle.text.specs.Reading.{Fault, fault, Reader, Form, form, and_then, Named, peek, is, refusal, need, room_for, known, number_in, variable, label}
 use Rattle.text.specs.Reading.{take as take_by}
-use Rattle.text.specs.Told.{Carried, at_most, reader_of, reading_of, numbered_of, refused_by, Peeks, Follows}
+use Rattle.text.specs.declared.Carried.{Carried}
+use Rattle.text.specs.Told.{at_most, reader_of, reading_of, numbered_of, refused_by, Peeks, Follows}
 use Rattle.text.specs.Written.{since, with1, wrote_one}
-use Rattle.text.specs.Pieces.{Lent, lent, form_of, piece_of, Fit}
+use Rattle.text.specs.declared.Lent.{Lent}
+use Rattle.text.specs.Pieces.{lent, form_of, piece_of, Fit}
 use Rattle.text.proofs.NamingLaws.{most-small, length-names, room-full}
 use Rattle.text.proofs.ToldLaws.{goes_on, refused-written, refused-depth, refused-reads}
 use Rattle.text.proofs.WrittenLaws.{drop-set, since-more}

@@ -12,9 +12,11 @@ use Rattle.words.specs.Words.{word_of}
 use Rattle.words.proofs.Laws.{word-is}
 use Rattle.tokens.specs.declared.Token.{Token}
 use Rattle.text.specs.Reading.{Fault, Reader, Form, form, word_then, and_then, owing, peek, take, path, enough, onwards, climb, expression_on, part_at, constraint_on, stated_on, stated}
-use Rattle.text.specs.Told.{Carried, reader_of, Peeks, Follows}
+use Rattle.text.specs.declared.Carried.{Carried}
+use Rattle.text.specs.Told.{reader_of, Peeks, Follows}
 use Rattle.text.specs.Written.{with1, wrote_one, deep_by, Owes}
-use Rattle.text.specs.Pieces.{Lent, lent, form_of, Fit, Does, Piece, Onward, inserted, Inserts, behind_first, stated_from}
+use Rattle.text.specs.declared.Lent.{Lent}
+use Rattle.text.specs.Pieces.{lent, form_of, Fit, Does, Piece, Onward, inserted, Inserts, behind_first, stated_from}
 use Rattle.text.proofs.RowsLaws.{fit-room, fit-from, wrote-reader, wrote-more}
 use Rattle.text.proofs.AnswerSteps.{flat, following, worded, bind-pair}
 use Rattle.text.proofs.DoesLaws.{ended, first_of, later_of, does-then, does-as, does-wider, does-take, does-owe}

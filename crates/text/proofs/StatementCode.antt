@@ -11,9 +11,11 @@ use Rattle.words.proofs.AnswerLaws.{stop≢got, step, either}
 use Rattle.tokens.specs.declared.Token.{Token}
 use Rattle.tokens.specs.Codes.{name_code, skip_code, always_code, once_code, if_code, then_code, else_code, while_code, do_code}
 use Rattle.text.specs.Reading.{Fault, Reader, Form, form, word_then, and_then, owing, is, peek, refusal, take, need, variable, path, expression, assignment, statement_at, block_at}
-use Rattle.text.specs.Told.{Carried, reader_of, refused_by, Peeks, Follows}
+use Rattle.text.specs.declared.Carried.{Carried}
+use Rattle.text.specs.Told.{reader_of, refused_by, Peeks, Follows}
 use Rattle.text.specs.Written.{with1, wrote_one}
-use Rattle.text.specs.Pieces.{Lent, lent, Does, Piece, Expression, constant_by, next_code, stated_from}
+use Rattle.text.specs.declared.Lent.{Lent}
+use Rattle.text.specs.Pieces.{lent, Does, Piece, Expression, constant_by, next_code, stated_from}
 use Rattle.text.proofs.DoesLaws.{does-then, does-as, does-wider, does-refused, does-need, does-piece, expression-piece}
 use Rattle.text.proofs.PieceLaws.{either_way}
 use Rattle.text.proofs.AnswerSteps.{take-never, variable-never}

@@ -11,8 +11,10 @@ use lib.Seq.{take-set-le}
 use Rattle.words.specs.Answer.{Answer, got, stop}
 use Rattle.words.proofs.AnswerLaws.{stop≢got, got-inj}
 use Rattle.text.specs.Reading.{Fault, fault, Reader, Form, form}
-use Rattle.text.specs.Told.{Carried, reader_of}
-use Rattle.text.specs.Pieces.{Lent, lent, form_of, piece_of, Fit, Does, Piece}
+use Rattle.text.specs.declared.Carried.{Carried}
+use Rattle.text.specs.Told.{reader_of}
+use Rattle.text.specs.declared.Lent.{Lent}
+use Rattle.text.specs.Pieces.{lent, form_of, piece_of, Fit, Does, Piece}
 use Rattle.text.proofs.RowsLaws.{going, fit-room, fit-stops, fit-names, fit-here}
 use Rattle.text.proofs.DoesLaws.{Program, does-stopped, does-got, form-none}
 

@@ -14,16 +14,15 @@ use Rattle.words.specs.Answer.{got, stop}
 use Rattle.words.specs.Words.{word_of, copied, cleared}
 use Rattle.tables.proofs.SearchLaws.{and_left, and_right}
 use Rattle.text.specs.Reading.{fault, text_at}
-use Rattle.text.specs.Told.{Carried, at_most, reader_of}
+use Rattle.text.specs.declared.Carried.{Carried}
+use Rattle.text.specs.Told.{at_most, reader_of}
 use Rattle.text.specs.Written.{since}
-use Rattle.text.specs.Pieces.{Lent, lent, form_of, piece_of}
+use Rattle.text.specs.declared.Lent.{Lent}
+use Rattle.text.specs.Pieces.{lent, form_of, piece_of}
 use Rattle.text.specs.Whole.{answered, sized, read, told_from}
 use Rattle.text.proofs.AcceptedSound.{accepted-sound}
 use Rattle.text.proofs.NamingLaws.{most-small, most-is, length-names}
 use Rattle.text.proofs.ToldNames.{copied-over, told_over, names-told}
-
-pub most-of : (most x : ℕ) {n : ℕ} → n ≡ at_most most x → n ≤ most
-most-of most x e = rw e (most-small most x)
 
 -- what is written from the first word on
 module _ {A : Type 0} (ws : List A) (s : Carried) where

@@ -11,15 +11,12 @@ use Rattle.tokens.specs.Numbers.{integer_of}
 use Rattle.tokens.specs.Tokens.{token_from}
 use Rattle.text.specs.Reading.{Fault, Reader, Form, form, word_then, and_then, everywhere, passing, due_after, level_of, enough, peek, need, opened, over, climb, stated, field_at, fields_on, fields_at, row_at, block_at, text_at}
 use Rattle.text.specs.Reading.{take as take_by}
-use Rattle.text.specs.Told.{Carried, reader_of, reading_of, numbered_of, unless_stopped}
+use Rattle.text.specs.declared.Carried.{Carried}
+use Rattle.text.specs.declared.Lent.{Lent}
+use Rattle.text.specs.Told.{reader_of, reading_of, numbered_of, unless_stopped}
 use Rattle.text.specs.Written.{since, row}
 
 -- the table of names, and the two rows that are written to
-pub record Lent : Type 0 where
-  pub names : List ℕ
-  pub words : List ℤ
-  pub origins : List ℕ
-
 abbrev pub lent : List ℕ → List ℤ → List ℕ → Lent
 lent names words origins = record { names = names; words = words; origins = origins }
 

@@ -38,10 +38,10 @@ pub record Reader : Type 0 where
   pub labels : List Named
 
 abbrev pub owing : ℕ → Reader → Reader
-owing k r = record { at = r.at; last = r.last; certain = r.certain; owed = r.owed + k; passed = r.passed; variables = r.variables; labels = r.labels }
+owing k r = record r { owed = r.owed + k }
 
 abbrev pub passing : Bool → Reader → Reader
-passing b r = record { at = r.at; last = r.last; certain = r.certain; owed = r.owed; passed = r.passed || b; variables = r.variables; labels = r.labels }
+passing b r = record r { passed = r.passed || b }
 
 -- a piece that was read: its words, the place that each comes from, and for an expression how deep it nests
 pub record Form : Type 0 where

@@ -6,46 +6,8 @@ use Rattle.tokens.specs.declared.Token.{Token}
 use Rattle.tokens.specs.Bytes.{same_in}
 use Rattle.tokens.specs.Codes.{too_long}
 use Rattle.tokens.specs.Tokens.{token_from}
+use Rattle.text.specs.declared.Carried.{Carried}
 use Rattle.text.specs.Reading.{Fault, fault, Named, Reader, due_after, peek}
-
--- what the code carries: number and place of a refusal (0 while it goes on), how far the text is read, the number of the name or how many brackets were read last, how many words are
--- written, the depth of the expression read last, and the token to be judged
-pub record Carried : Type 0 where
-  pub number : ℕ
-  pub place : ℕ
-  pub at : ℕ
-  pub last : ℕ
-  pub certain : ℕ
-  pub owed : ℕ
-  pub passed : Bool
-  pub variables : ℕ
-  pub labels : ℕ
-  pub named : ℕ
-  pub written : ℕ
-  pub depth : ℕ
-  pub code : ℕ
-  pub start : ℕ
-  pub end : ℕ
-
--- it stands in a row of words
-unfoldable pub carried : List ℕ → Carried
-carried s = record {
-  number = get_or s 0 0;
-  place = get_or s 1 0;
-  at = get_or s 2 0;
-  last = get_or s 3 0;
-  certain = get_or s 4 0;
-  owed = get_or s 5 0;
-  passed = ltb 0 (get_or s 6 0);
-  variables = get_or s 7 0;
-  labels = get_or s 8 0;
-  named = get_or s 9 0;
-  written = get_or s 10 0;
-  depth = get_or s 11 0;
-  code = get_or s 12 0;
-  start = get_or s 13 0;
-  end = get_or s 14 0;
-}
 
 -- the token to be judged
 abbrev pub next_of : Carried → Token
@@ -103,23 +65,7 @@ numbered_of names r = unless_stopped r (r.named, reader_of names r)
 
 -- the same reader, stopped
 abbrev pub refused_at : ℕ → ℕ → Carried → Carried
-refused_at n p r = record {
-  number = n;
-  place = p;
-  at = r.at;
-  last = r.last;
-  certain = r.certain;
-  owed = r.owed;
-  passed = r.passed;
-  variables = r.variables;
-  labels = r.labels;
-  named = r.named;
-  written = r.written;
-  depth = r.depth;
-  code = r.code;
-  start = r.start;
-  end = r.end;
-}
+refused_at n p r = record r { number = n; place = p }
 
 unfoldable pub refused_by : Token → Carried → Carried
 refused_by t r = cond (eqb t.code too_long) (refused_at 22 t.place r) (refused_at 20 t.place r)
@@ -130,85 +76,21 @@ room_with k r = not r.passed && leb (r.certain + r.owed + k) most_words
 
 -- the same reader behind a token, with k words more
 abbrev pub behind : Token → ℕ → Carried → Carried
-behind t k r = record {
-  number = r.number;
-  place = r.place;
-  at = t.end;
-  last = t.code;
-  certain = r.certain + r.owed + k;
-  owed = 0;
-  passed = false;
-  variables = r.variables;
-  labels = r.labels;
-  named = r.named;
-  written = r.written;
-  depth = r.depth;
-  code = r.code;
-  start = r.start;
-  end = r.end;
-}
+behind t k r = record r { at = t.end; last = t.code; certain = r.certain + r.owed + k; owed = 0; passed = false }
 
 unfoldable pub taken_by : Token → ℕ → Carried → Carried
 taken_by t k r = cond (room_with k r) (behind t k r) (refused_at 22 t.place r)
 
 -- the same reader with so many variables or labels, of which the one of number n was read last
 abbrev pub named_variable : ℕ → ℕ → Carried → Carried
-named_variable count n r = record {
-  number = r.number;
-  place = r.place;
-  at = r.at;
-  last = r.last;
-  certain = r.certain;
-  owed = r.owed;
-  passed = r.passed;
-  variables = count;
-  labels = r.labels;
-  named = n;
-  written = r.written;
-  depth = r.depth;
-  code = r.code;
-  start = r.start;
-  end = r.end;
-}
+named_variable count n r = record r { variables = count; named = n }
 
 abbrev pub named_label : ℕ → ℕ → Carried → Carried
-named_label count n r = record {
-  number = r.number;
-  place = r.place;
-  at = r.at;
-  last = r.last;
-  certain = r.certain;
-  owed = r.owed;
-  passed = r.passed;
-  variables = r.variables;
-  labels = count;
-  named = n;
-  written = r.written;
-  depth = r.depth;
-  code = r.code;
-  start = r.start;
-  end = r.end;
-}
+named_label count n r = record r { labels = count; named = n }
 
 -- the same reader, with the token that stands there
 abbrev pub looked_by : List ℕ → Carried → Carried
-looked_by text r = record {
-  number = r.number;
-  place = r.place;
-  at = r.at;
-  last = r.last;
-  certain = r.certain;
-  owed = r.owed;
-  passed = r.passed;
-  variables = r.variables;
-  labels = r.labels;
-  named = r.named;
-  written = r.written;
-  depth = r.depth;
-  code = (token_from (due_after r.last) text r.at).code;
-  start = (token_from (due_after r.last) text r.at).place;
-  end = (token_from (due_after r.last) text r.at).end;
-}
+looked_by text r = record r { code = (token_from (due_after r.last) text r.at).code; start = (token_from (due_after r.last) text r.at).place; end = (token_from (due_after r.last) text r.at).end }
 
 -- the token is taken, and the next one looked at
 unfoldable pub took_by : List ℕ → ℕ → Carried → Carried

@@ -3,7 +3,8 @@ use Rattle.std.specs.Prelude.{◌≡◌, ℕ, zero, suc, ◌+◌, ◌-◌, ◌�
 use Rattle.words.specs.Answer.{got}
 use Rattle.program.specs.Forms.{most_words}
 use Rattle.text.specs.Reading.{passing, owing}
-use Rattle.text.specs.Told.{Carried, Follows}
+use Rattle.text.specs.declared.Carried.{Carried}
+use Rattle.text.specs.Told.{Follows}
 
 -- how many words the rows hold: those that may be certain, and more than can be owed
 abbrev pub row : ℕ
@@ -18,46 +19,14 @@ unfoldable pub with1 : {A : Type 0} → List A → Carried → A → List A
 with1 ws r w = cond (ltb r.written row) (set ws r.written w) ws
 
 abbrev pub one_more : Carried → Carried
-one_more r = record {
-  number = r.number;
-  place = r.place;
-  at = r.at;
-  last = r.last;
-  certain = r.certain;
-  owed = r.owed;
-  passed = r.passed;
-  variables = r.variables;
-  labels = r.labels;
-  named = r.named;
-  written = r.written + 1;
-  depth = r.depth;
-  code = r.code;
-  start = r.start;
-  end = r.end;
-}
+one_more r = record r { written = r.written + 1 }
 
 unfoldable pub wrote_one : Carried → Carried
 wrote_one r = cond (ltb r.written row) (one_more r) r
 
 -- the same reader, whose next token passes a limit where b says so, exactly
 abbrev pub pass_by : Bool → Carried → Carried
-pass_by b r = record {
-  number = r.number;
-  place = r.place;
-  at = r.at;
-  last = r.last;
-  certain = r.certain;
-  owed = r.owed;
-  passed = r.passed || b;
-  variables = r.variables;
-  labels = r.labels;
-  named = r.named;
-  written = r.written;
-  depth = r.depth;
-  code = r.code;
-  start = r.start;
-  end = r.end;
-}
+pass_by b r = record r { passed = r.passed || b }
 
 -- the same reader, whose next token passes a limit where b says so; and one that owes k words more, where what it owes is no more than there may be
 abbrev pub Passes : Bool → Carried → Carried → Type 0
@@ -78,39 +47,7 @@ filled from (w ∷ gap) ws = filled (suc from) gap (set ws from w)
 
 -- the same reader, whose expression is d deep; and with n as the number that was read last
 abbrev pub deep_by : ℕ → Carried → Carried
-deep_by d r = record {
-  number = r.number;
-  place = r.place;
-  at = r.at;
-  last = r.last;
-  certain = r.certain;
-  owed = r.owed;
-  passed = r.passed;
-  variables = r.variables;
-  labels = r.labels;
-  named = r.named;
-  written = r.written;
-  depth = d;
-  code = r.code;
-  start = r.start;
-  end = r.end;
-}
+deep_by d r = record r { depth = d }
 
 abbrev pub numbered_by : ℕ → Carried → Carried
-numbered_by n r = record {
-  number = r.number;
-  place = r.place;
-  at = r.at;
-  last = r.last;
-  certain = r.certain;
-  owed = r.owed;
-  passed = r.passed;
-  variables = r.variables;
-  labels = r.labels;
-  named = n;
-  written = r.written;
-  depth = r.depth;
-  code = r.code;
-  start = r.start;
-  end = r.end;
-}
+numbered_by n r = record r { named = n }

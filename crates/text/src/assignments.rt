@@ -1,102 +1,77 @@
 // Assignments, new and its fields.
 ghost use Rattle.std.specs.Prelude.{false, ◌<◌};
 ghost use Rattle.text.specs.Reading.{assignment as assignment_by};
-ghost use Rattle.text.specs.Told.{carried, Ahead};
-ghost use Rattle.text.specs.Pieces.{lent, Piece, Onward, behind_first, fields_by, fields_at_by};
+ghost use Rattle.text.specs.Told.{Ahead};
+ghost use Rattle.text.specs.Pieces.{Piece, Onward, behind_first, fields_by, fields_at_by};
 
 use super::expressions::expression;
 use super::naming::put;
 use super::paths::path;
-use super::reading::{label, need, take};
-use super::writing::{owe, pass, put_word, write};
-use crate::{CODE, NAMED, NUMBER, START, WRITTEN};
+use crate::Reader;
 
 // Fields up to `}`, and their n, at the word from, which comes from the place p.
-fn fields(
-    text: &[u8],
-    names: &mut [usize],
-    words: &mut [i32],
-    origins: &mut [usize],
-    s: &mut [usize; 15],
-    from: usize,
-    p: usize,
-)
-    ensures onward { Ahead text.now (carried s.old) → from < (carried s.old).written → Onward false 0 0 from (lent names.old words.old origins.old) (carried s.old) (λ f q. fields_by text.now p (behind_first f) q) (lent names.new words.new origins.new) (carried s.new) }
-    ensures ahead { Ahead text.now (carried s.old) → Ahead text.now (carried s.new) }
+fn fields(text: &[u8], r: &mut Reader, from: usize, p: usize)
+    ensures onward { Ahead text.now r.old.carried → from < r.old.carried.written → Onward false 0 0 from r.old.lent r.old.carried (λ f q. fields_by text.now p (behind_first f) q) r.new.lent r.new.carried }
+    ensures ahead { Ahead text.now r.old.carried → Ahead text.now r.new.carried }
 {
     let mut seen: [usize; 8] = [0; 8];
-    let mut n: usize = 0;
-    while n <= tables::FIELDS {
-        let place = s[START];
-        let free = words::less(tables::FIELDS, n);
-        pass(s, free == 0);
-        label(text, names, s, &seen[free..]);
-        let named = s[NAMED];
-        put(&mut seen, words::less(free, 1), named);
-        write(words, origins, s, words::word_of(named), place);
-        need(text, s, tokens::COLON, 0);
-        expression(text, names, words, origins, s, false);
-        if s[NUMBER] != 0 {
+    for n in 0..=tables::FIELDS {
+        let place = r.carried.start;
+        let free = tables::FIELDS - n;
+        r.carried.pass(free == 0);
+        r.carried.label(text, &mut r.lent.names, &seen[free..]);
+        let named = r.carried.named;
+        put(&mut seen, free.saturating_sub(1), named);
+        r.write_number(named, place);
+        r.carried.need(text, tokens::COLON, 0);
+        expression(text, r, false);
+        if r.carried.number != 0 {
             return;
         }
-        n += 1;
-        if s[CODE] != tokens::COMMA {
-            put_word(words, origins, from, words::word_of(n), p);
-            need(text, s, tokens::CLOSE_BRACE, 0);
+        if r.carried.code != tokens::COMMA {
+            r.lent.put_number(from, n + 1, p);
+            r.carried.need(text, tokens::CLOSE_BRACE, 0);
             return;
         }
-        take(text, s, 0);
+        r.carried.take(text, 0);
     }
 }
 
 // `{`, fields or nothing, `}`; their n is the word at from.
-fn fields_at(
-    text: &[u8],
-    names: &mut [usize],
-    words: &mut [i32],
-    origins: &mut [usize],
-    s: &mut [usize; 15],
-    from: usize,
-)
-    ensures onward { Ahead text.now (carried s.old) → from < (carried s.old).written → Onward false 0 0 from (lent names.old words.old origins.old) (carried s.old) (λ f q. fields_at_by text.now (behind_first f) q) (lent names.new words.new origins.new) (carried s.new) }
-    ensures ahead { Ahead text.now (carried s.old) → Ahead text.now (carried s.new) }
+fn fields_at(text: &[u8], r: &mut Reader, from: usize)
+    ensures onward { Ahead text.now r.old.carried → from < r.old.carried.written → Onward false 0 0 from r.old.lent r.old.carried (λ f q. fields_at_by text.now (behind_first f) q) r.new.lent r.new.carried }
+    ensures ahead { Ahead text.now r.old.carried → Ahead text.now r.new.carried }
 {
-    let p = s[START];
-    need(text, s, tokens::OPEN_BRACE, 0);
-    if s[CODE] == tokens::CLOSE_BRACE {
-        put_word(words, origins, from, 0, p);
-        take(text, s, 0);
+    let p = r.carried.start;
+    r.carried.need(text, tokens::OPEN_BRACE, 0);
+    if r.carried.code == tokens::CLOSE_BRACE {
+        r.lent.put_word(from, 0, p);
+        r.carried.take(text, 0);
         return;
     }
-    fields(text, names, words, origins, s, from, p);
+    fields(text, r, from, p);
 }
 
 // What begins with a name: an assignment, or new, whose variable is a path without labels.
-pub(crate) fn assignment(
-    text: &[u8],
-    names: &mut [usize],
-    words: &mut [i32],
-    origins: &mut [usize],
-    s: &mut [usize; 15],
-)
-    ensures piece { Ahead text.now (carried s.old) → Piece 0 0 (lent names.old words.old origins.old) (carried s.old) (λ q. assignment_by text.now q) (lent names.new words.new origins.new) (carried s.new) }
-    ensures ahead { Ahead text.now (carried s.old) → Ahead text.now (carried s.new) }
+pub(crate) fn assignment(text: &[u8], r: &mut Reader)
+    ensures piece { Ahead text.now r.old.carried → Piece 0 0 r.old.lent r.old.carried (λ q. assignment_by text.now q) r.new.lent r.new.carried }
+    ensures ahead { Ahead text.now r.old.carried → Ahead text.now r.new.carried }
 {
-    let from = s[WRITTEN];
-    let p = s[START];
-    owe(s, 1);
-    write(words, origins, s, 1, p);
-    let begun = s[WRITTEN];
-    path(text, names, words, origins, s);
-    let alone = words::less(s[WRITTEN], begun) == 2;
-    need(text, s, tokens::BECOMES, 0);
-    let new = s[CODE] == tokens::NEW;
+    let from = r.carried.written;
+    let p = r.carried.start;
+    r.carried.owe(1);
+    r.write(1, p);
+    let begun = r.carried.written;
+    path(text, r);
+    let alone = r.carried.written.saturating_sub(begun) == 2;
+    r.carried.need(text, tokens::BECOMES, 0);
+    let new = r.carried.code == tokens::NEW;
     if new & alone {
-        put_word(words, origins, from, 2, p);
-        let at = words::less(s[WRITTEN], 1);
-        take(text, s, 0);
-        fields_at(text, names, words, origins, s, at);
+        r.lent.put_word(from, 2, p);
+        let at = r.carried.written.saturating_sub(1);
+        r.carried.take(text, 0);
+        fields_at(text, r, at);
         return;
     }
-    expression(text, names, words, origins, s, false);
+    expression(text, r, false);
 }

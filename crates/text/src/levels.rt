@@ -3,20 +3,15 @@ ghost use Rattle.std.specs.Prelude.{◌≡◌};
 ghost use Rattle.text.specs.Reading.{level_of};
 
 // How tightly an operator binds, by its number in document 01.
+#[tactic(auto, unfolding(crate::specs::Reading::level_of))]
 pub fn level_of(k: usize) -> usize
     ensures { result ≡ level_of k }
 {
-    if k == 3 {
-        return 5;
+    match k {
+        3 => 5,
+        0..=2 => 4,
+        4..=9 => 3,
+        10 => 2,
+        _ => 1,
     }
-    if k <= 2 {
-        return 4;
-    }
-    if k <= 9 {
-        return 3;
-    }
-    if k <= 10 {
-        return 2;
-    }
-    1
 }

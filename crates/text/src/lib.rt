@@ -25,40 +25,43 @@ pub const REQUIRED: i32 = 3;
 // How many words the rows hold that are written to: those that may be certain, and more than can be owed.
 pub const ROW: usize = 4100;
 
-// How far a text is read stands in a row of words. Number and place of a refusal; the number is 0 while it goes on.
-pub const STATE: usize = 15;
+// How far a text is read, and what was read last.
+#[derive(Clone, Copy, Debug, PartialEq, Eq)]
+pub(crate) struct Carried {
+    // Of a refusal; the number is 0 while it goes on.
+    number: usize,
+    place: usize,
+    // The byte behind the last token taken, and its code.
+    at: usize,
+    last: usize,
+    // The words that are certain, those that the next token makes so, and whether it passes a limit.
+    certain: usize,
+    owed: usize,
+    passed: bool,
+    // How many variables and labels have names, and the number of the name or how many brackets were read last.
+    variables: usize,
+    labels: usize,
+    named: usize,
+    // The words written, and the depth of the expression read last.
+    written: usize,
+    depth: usize,
+    // The token to be judged: its code, its first byte and the byte behind its last.
+    code: usize,
+    start: usize,
+    end: usize,
+}
 
-pub const NUMBER: usize = 0;
+// The table of names, and the two rows that are written to.
+#[derive(Drop)]
+pub(crate) struct Lent {
+    names: [usize; NAME_WORDS],
+    words: [i32; ROW],
+    origins: [usize; ROW],
+}
 
-pub const PLACE: usize = 1;
-
-// The byte behind the last token taken, and its code.
-pub const AT: usize = 2;
-
-pub const LAST: usize = 3;
-
-// The words that are certain, those that the next token makes so, and whether it passes a limit, 0 or 1.
-pub const CERTAIN: usize = 4;
-
-pub const OWED: usize = 5;
-
-pub const PASSED: usize = 6;
-
-// How many variables and labels have names, and the number of the name or how many brackets were read last.
-pub const NAMED_VARIABLES: usize = 7;
-
-pub const NAMED_LABELS: usize = 8;
-
-pub const NAMED: usize = 9;
-
-// The words written, and the depth of the expression read last.
-pub const WRITTEN: usize = 10;
-
-pub const DEPTH: usize = 11;
-
-// The token to be judged: its code, its first byte and the byte behind its last.
-pub const CODE: usize = 12;
-
-pub const START: usize = 13;
-
-pub const END: usize = 14;
+// A reader, and what it writes to.
+#[derive(Drop)]
+pub(crate) struct Reader {
+    lent: Lent,
+    carried: Carried,
+}

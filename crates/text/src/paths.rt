@@ -1,62 +1,47 @@
 // An L: a variable, and labels behind it.
 ghost use Rattle.text.specs.Reading.{steps as steps_by, path as path_by};
-ghost use Rattle.text.specs.Told.{carried, Ahead};
-ghost use Rattle.text.specs.Pieces.{lent, Piece};
+ghost use Rattle.text.specs.Told.{Ahead};
+ghost use Rattle.text.specs.Pieces.{Piece};
 
-use super::reading::{label, take, variable};
-use super::writing::{pass, put_word, write};
-use crate::{CODE, NAMED, NUMBER, START, WRITTEN};
+use crate::Reader;
 
 // `.` and a label, n times at most.
-fn steps(
-    text: &[u8],
-    names: &mut [usize],
-    words: &mut [i32],
-    origins: &mut [usize],
-    s: &mut [usize; 15],
-    n: usize,
-)
-    ensures piece { Ahead text.now (carried s.old) → Piece 0 0 (lent names.old words.old origins.old) (carried s.old) (λ q. steps_by text.now n q) (lent names.new words.new origins.new) (carried s.new) }
-    ensures ahead { Ahead text.now (carried s.old) → Ahead text.now (carried s.new) }
+fn steps(text: &[u8], r: &mut Reader, n: usize)
+    ensures piece { Ahead text.now r.old.carried → Piece 0 0 r.old.lent r.old.carried (λ q. steps_by text.now n q) r.new.lent r.new.carried }
+    ensures ahead { Ahead text.now r.old.carried → Ahead text.now r.new.carried }
 {
-    if s[NUMBER] != 0 {
+    if r.carried.number != 0 {
         return;
     }
-    if s[CODE] != tokens::DOT {
+    if r.carried.code != tokens::DOT {
         return;
     }
-    take(text, s, 0);
-    pass(s, n == 0);
-    let p = s[START];
+    r.carried.take(text, 0);
+    r.carried.pass(n == 0);
+    let p = r.carried.start;
     let none: [usize; 0] = [];
-    label(text, names, s, &none);
+    r.carried.label(text, &mut r.lent.names, &none);
     if n == 0 {
         return;
     }
-    let named = s[NAMED];
-    write(words, origins, s, words::word_of(named), p);
-    steps(text, names, words, origins, s, n - 1);
+    let named = r.carried.named;
+    r.write_number(named, p);
+    steps(text, r, n - 1);
 }
 
 // An L, whose variable makes its own word and that of its n certain.
-pub(crate) fn path(
-    text: &[u8],
-    names: &mut [usize],
-    words: &mut [i32],
-    origins: &mut [usize],
-    s: &mut [usize; 15],
-)
-    ensures piece { Ahead text.now (carried s.old) → Piece 3 0 (lent names.old words.old origins.old) (carried s.old) (λ q. path_by text.now 2 q) (lent names.new words.new origins.new) (carried s.new) }
-    ensures ahead { Ahead text.now (carried s.old) → Ahead text.now (carried s.new) }
+pub(crate) fn path(text: &[u8], r: &mut Reader)
+    ensures piece { Ahead text.now r.old.carried → Piece 3 0 r.old.lent r.old.carried (λ q. path_by text.now 2 q) r.new.lent r.new.carried }
+    ensures ahead { Ahead text.now r.old.carried → Ahead text.now r.new.carried }
 {
-    let p = s[START];
-    variable(text, names, s, 2);
-    let named = s[NAMED];
-    write(words, origins, s, words::word_of(named), p);
-    let at = s[WRITTEN];
-    write(words, origins, s, 0, p);
-    let begun = s[WRITTEN];
-    steps(text, names, words, origins, s, program::MOST_STEPS);
-    let n = words::less(s[WRITTEN], begun);
-    put_word(words, origins, at, words::word_of(n), p);
+    let p = r.carried.start;
+    r.carried.variable(text, &mut r.lent.names, 2);
+    let named = r.carried.named;
+    r.write_number(named, p);
+    let at = r.carried.written;
+    r.write(0, p);
+    let begun = r.carried.written;
+    steps(text, r, program::MOST_STEPS);
+    let n = r.carried.written.saturating_sub(begun);
+    r.lent.put_number(at, n, p);
 }

@@ -1,50 +1,54 @@
 // A text: its words, the places that they come from and its names, or a refusal.
 ghost use Rattle.std.specs.Prelude.{◌≡◌, [], ◌∷◌, ◌*◌, ◌≤◌, ◌<◌};
 ghost use Rattle.words.specs.Words.{word_of, cleared};
-ghost use Rattle.text.specs.Told.{carried, looked_by};
-ghost use Rattle.text.specs.Pieces.{lent, first_carried, Whole};
+ghost use Rattle.text.specs.Told.{looked_by};
+ghost use Rattle.text.specs.Pieces.{first_carried, Whole};
 ghost use Rattle.text.specs.Whole.{answered, told_from, sized, read as read_by};
 
 use super::blocks::statements;
-use super::naming::{at_most, word};
-use super::reading::{look, need};
-use super::writing::write;
-use crate::{CODE, NAMED_LABELS, NAMED_VARIABLES, NUMBER, PLACE, WRITTEN};
+use super::naming::word;
+use crate::{Carried, Lent, Reader};
 
-// The reader before the first token, for which the outermost n is certain.
-fn begin(text: &[u8], s: &mut [usize; 15])
-    ensures { (carried s.new) ≡ looked_by text.now first_carried }
-{
-    *s = [0, 0, 0, tokens::SEMICOLON, 1, 0, 0, 0, 0, 0, 0, 1, 0, 0, 0];
-    look(text, s);
+// The reader before it has looked at a text, for which the outermost n is certain.
+const FRESH: Carried = Carried {
+    number: 0,
+    place: 0,
+    at: 0,
+    last: tokens::SEMICOLON,
+    certain: 1,
+    owed: 0,
+    passed: false,
+    variables: 0,
+    labels: 0,
+    named: 0,
+    written: 0,
+    depth: 1,
+    code: 0,
+    start: 0,
+    end: 0,
+};
+
+impl Carried {
+    // The reader before the first token.
+    fn begin(&mut self, text: &[u8])
+        ensures { self.new ≡ looked_by text.now first_carried }
+    {
+        *self = FRESH;
+        self.look(text);
+    }
 }
 
 // The whole text.
-fn text_at(
-    text: &[u8],
-    names: &mut [usize],
-    words: &mut [i32],
-    origins: &mut [usize],
-    s: &mut [usize; 15],
-)
-    ensures { Whole text.now (lent names.old words.old origins.old) (lent names.new words.new origins.new) (carried s.new) }
+fn text_at(text: &[u8], r: &mut Reader)
+    ensures { Whole text.now r.old.lent r.new.lent r.new.carried }
 {
-    begin(text, s);
-    write(words, origins, s, 0, 0);
-    if s[CODE] == tokens::END {
+    r.carried.begin(text);
+    r.write(0, 0);
+    if r.carried.code == tokens::END {
         return;
     }
-    statements(
-        text,
-        names,
-        words,
-        origins,
-        s,
-        0,
-        0,
-        program::BLOCK_DEPTH - 1,
-    );
-    need(text, s, tokens::END, 0);
+    statements(text, r, 0, 0, program::BLOCK_DEPTH - 1);
+    r.carried.need(text, tokens::END, 0);
 }
 
 // The n places from one on, as words.
@@ -53,10 +57,8 @@ fn tell(out: &mut [i32], places: &[usize], at: usize, n: usize)
     requires n_bound { n < 8192 }
     ensures { out.new ≡ told_from places.now at n out.old }
 {
-    let mut i: usize = 0;
-    while i < n {
+    for i in 0..n {
         words::store(out, at + i, words::word_of(word(places, at + i)));
-        i += 1;
     }
 }
 
@@ -72,11 +74,13 @@ fn tell_names(out: &mut [i32], names: &[usize], variables: usize, labels: usize)
 }
 
 // Program, origins and names have their lengths.
+#[tactic(auto, unfolding(crate::specs::Whole::sized))]
 fn are_sized(program: &[i32], origins: &[i32], names: &[i32]) -> bool
     ensures { result ≡ sized program.now origins.now names.now }
 {
-    let words = (program.len() == program::MOST_WORDS) & (origins.len() == program::MOST_WORDS);
-    words & (names.len() == crate::NAME_WORDS)
+    program.len() == program::MOST_WORDS
+        && origins.len() == program::MOST_WORDS
+        && names.len() == crate::NAME_WORDS
 }
 
 // Reads a text: the answer is outcome, place, and how many variables and labels have names; it returns how many words the program has.
@@ -93,21 +97,25 @@ pub fn read(
         words::answer_with(answer, 1, 0, 0, 0);
         return 0;
     }
-    let mut table = [0usize; crate::NAME_WORDS];
-    let mut row = [0i32; crate::ROW];
-    let mut places = [0usize; crate::ROW];
-    let mut s = [0usize; crate::STATE];
-    text_at(text, &mut table, &mut row, &mut places, &mut s);
-    if s[NUMBER] != 0 {
-        words::answer_with(answer, s[NUMBER], s[PLACE], 0, 0);
+    let mut r = Reader {
+        lent: Lent {
+            names: [0; crate::NAME_WORDS],
+            words: [0; crate::ROW],
+            origins: [0; crate::ROW],
+        },
+        carried: FRESH,
+    };
+    text_at(text, &mut r);
+    if r.carried.number != 0 {
+        words::answer_with(answer, r.carried.number, r.carried.place, 0, 0);
         return 0;
     }
-    let n = at_most(program::MOST_WORDS, s[WRITTEN]);
-    let variables = at_most(tables::VARIABLES, s[NAMED_VARIABLES]);
-    let labels = at_most(tables::LABELS, s[NAMED_LABELS]);
-    words::copy(program, 0, &row, n);
-    tell(origins, &places, 0, n);
-    tell_names(names, &table, variables, labels);
+    let n = r.carried.written.min(program::MOST_WORDS);
+    let variables = r.carried.variables.min(tables::VARIABLES);
+    let labels = r.carried.labels.min(tables::LABELS);
+    words::copy(program, 0, &r.lent.words, n);
+    tell(origins, &r.lent.origins, 0, n);
+    tell_names(names, &r.lent.names, variables, labels);
     words::answer_with(answer, 0, text.len(), variables, labels);
     n
 }

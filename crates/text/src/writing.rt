@@ -1,73 +1,45 @@
-// Words and the places that they come from, one after the other in two lent arrays.
+// Words and the places that they come from, one after the other in two rows.
 ghost use Rattle.std.specs.Prelude.{◌≡◌, List, ℕ, ◌-◌, ◌<◌, pos, length, set};
+ghost use Rattle.words.specs.Words.{word_of};
 ghost use Rattle.text.specs.Reading.{everywhere};
-ghost use Rattle.text.specs.Told.{carried, Ahead};
+ghost use Rattle.text.specs.Told.{Ahead};
 ghost use Rattle.text.specs.Written.{with1, wrote_one, pass_by, Owes, deep_by, numbered_by, raised, filled};
 ghost use Rattle.text.specs.Pieces.{Inserts};
 
 use super::naming::{put, word};
-use crate::{DEPTH, NAMED, OWED, PASSED, WRITTEN};
+use crate::{Carried, Lent, Reader};
 
-// A word more, behind those that are written, and its place; nothing where the rows are full.
-pub(crate) fn write(words: &mut [i32], origins: &mut [usize], s: &mut [usize; 15], w: i32, p: usize)
-    ensures words_after { words.new ≡ with1 words.old (carried s.old) w }
-    ensures origins_after { origins.new ≡ with1 origins.old (carried s.old) p }
-    ensures s_after { (carried s.new) ≡ wrote_one (carried s.old) }
-{
-    let at = s[WRITTEN];
-    if crate::ROW <= at {
-        return;
+impl Carried {
+    // The next token passes a limit where b says so.
+    pub(crate) fn pass(&mut self, b: bool)
+        ensures { self.new ≡ pass_by b self.old }
+    {
+        if b {
+            self.passed = true;
+        }
     }
-    words::store(words, at, w);
-    put(origins, at, p);
-    put(s, WRITTEN, at + 1);
-}
 
-// The next token passes a limit where b says so.
-pub(crate) fn pass(s: &mut [usize; 15], b: bool)
-    ensures { (carried s.new) ≡ pass_by b (carried s.old) }
-{
-    if b {
-        put(s, PASSED, 1);
+    // k words more are owed.
+    pub(crate) fn owe(&mut self, k: usize)
+        ensures owes { Owes k self.old self.new }
+        ensures ahead { (text : List ℕ) → Ahead text self.old → Ahead text self.new }
+    {
+        self.owed = self.owed.saturating_add(k);
     }
-}
 
-// k words more are owed; a reader that owes more than there may be stays.
-pub(crate) fn owe(s: &mut [usize; 15], k: usize)
-    ensures owes { Owes k (carried s.old) (carried s.new) }
-    ensures by_index { (text : List ℕ) → Ahead text (carried s.old) → Ahead text (carried s.new) }
-{
-    let owed = s[OWED];
-    if program::MOST_WORDS < owed {
-        return;
+    // The expression read last is d deep.
+    pub(crate) fn deepen(&mut self, d: usize)
+        ensures { self.new ≡ deep_by d self.old }
+    {
+        self.depth = d;
     }
-    if program::MOST_WORDS < k {
-        return;
+
+    // The number that was read last is n.
+    pub(crate) fn count(&mut self, n: usize)
+        ensures { self.new ≡ numbered_by n self.old }
+    {
+        self.named = n;
     }
-    put(s, OWED, owed + k);
-}
-
-// The word at i and the place that it comes from, stored; past the end nothing is stored.
-pub(crate) fn put_word(words: &mut [i32], origins: &mut [usize], i: usize, w: i32, p: usize)
-    ensures words_after { words.new ≡ set words.old i w }
-    ensures origins_after { origins.new ≡ set origins.old i p }
-{
-    words::store(words, i, w);
-    put(origins, i, p);
-}
-
-// The expression read last is d deep.
-pub(crate) fn deepen(s: &mut [usize; 15], d: usize)
-    ensures { (carried s.new) ≡ deep_by d (carried s.old) }
-{
-    put(s, DEPTH, d);
-}
-
-// The number that was read last is n.
-pub(crate) fn count(s: &mut [usize; 15], n: usize)
-    ensures { (carried s.new) ≡ numbered_by n (carried s.old) }
-{
-    put(s, NAMED, n);
 }
 
 // The words from a place on and the places that they come from, k further up.
@@ -77,12 +49,11 @@ fn raise(words: &mut [i32], origins: &mut [usize], from: usize, end: usize, k: u
     ensures words_after { words.new ≡ raised (pos 0) from k (end - from) words.old }
     ensures origins_after { origins.new ≡ raised 0 from k (end - from) origins.old }
 {
-    let mut i = end;
-    while from < i {
-        i -= 1;
+    for i in (from..end).rev() {
         let w = words::word_at(words, i);
         let p = word(origins, i);
-        put_word(words, origins, i + k, w, p);
+        words::store(words, i + k, w);
+        put(origins, i + k, p);
     }
 }
 
@@ -93,37 +64,73 @@ fn fill(words: &mut [i32], origins: &mut [usize], from: usize, gap: &[i32], p: u
     ensures words_after { words.new ≡ filled from gap.now words.old }
     ensures origins_after { origins.new ≡ filled from (everywhere p gap.now) origins.old }
 {
-    let mut i: usize = 0;
-    while i < gap.len() {
-        put_word(words, origins, from + i, words::word_at(gap, i), p);
-        i += 1;
+    for (i, w) in gap.iter().enumerate() {
+        words::store(words, from + i, *w);
+        put(origins, from + i, p);
     }
 }
 
-// The words of the gap before those that are written from a place on, which move up; all of them come from the place p. Nothing where the rows would be full.
-pub(crate) fn insert(
-    words: &mut [i32],
-    origins: &mut [usize],
-    from: usize,
-    s: &mut [usize; 15],
-    gap: &[i32],
-    p: usize,
-)
-    ensures inserts { Inserts from gap.now p words.old origins.old (carried s.old) words.new origins.new (carried s.new) }
-    ensures by_index { (text : List ℕ) → Ahead text (carried s.old) → Ahead text (carried s.new) }
-{
-    let end = s[WRITTEN];
-    let k = gap.len();
-    if crate::ROW <= end {
-        return;
+impl Lent {
+    // The word at i and the place that it comes from, stored; past the end nothing is stored.
+    pub(crate) fn put_word(&mut self, i: usize, w: i32, p: usize)
+        ensures names_after { self.new.names ≡ self.old.names }
+        ensures words_after { self.new.words ≡ set self.old.words i w }
+        ensures origins_after { self.new.origins ≡ set self.old.origins i p }
+    {
+        words::store(&mut self.words, i, w);
+        put(&mut self.origins, i, p);
     }
-    if crate::ROW <= k {
-        return;
+
+    // The same of the word of a number.
+    pub(crate) fn put_number(&mut self, i: usize, n: usize, p: usize)
+        ensures names_after { self.new.names ≡ self.old.names }
+        ensures words_after { self.new.words ≡ set self.old.words i (word_of n) }
+        ensures origins_after { self.new.origins ≡ set self.old.origins i p }
+    {
+        self.put_word(i, words::word_of(n), p);
     }
-    if end < from {
-        return;
+}
+
+impl Reader {
+    // A word more, behind those that are written, and its place; nothing where the rows are full.
+    pub(crate) fn write(&mut self, w: i32, p: usize)
+        ensures names_after { self.new.lent.names ≡ self.old.lent.names }
+        ensures words_after { self.new.lent.words ≡ with1 self.old.lent.words self.old.carried w }
+        ensures origins_after { self.new.lent.origins ≡ with1 self.old.lent.origins self.old.carried p }
+        ensures carried_after { self.new.carried ≡ wrote_one self.old.carried }
+    {
+        let at = self.carried.written;
+        if crate::ROW <= at {
+            return;
+        }
+        self.lent.put_word(at, w, p);
+        self.carried.written = at + 1;
     }
-    raise(words, origins, from, end, k);
-    fill(words, origins, from, gap, p);
-    put(s, WRITTEN, end + k);
+
+    // The same of the word of a number.
+    pub(crate) fn write_number(&mut self, n: usize, p: usize)
+        ensures names_after { self.new.lent.names ≡ self.old.lent.names }
+        ensures words_after { self.new.lent.words ≡ with1 self.old.lent.words self.old.carried (word_of n) }
+        ensures origins_after { self.new.lent.origins ≡ with1 self.old.lent.origins self.old.carried p }
+        ensures carried_after { self.new.carried ≡ wrote_one self.old.carried }
+    {
+        self.write(words::word_of(n), p);
+    }
+
+    // The words of the gap before those that are written from a place on, which move up; all of them come from the place p.
+    // Nothing where the rows would be full.
+    pub(crate) fn insert(&mut self, from: usize, gap: &[i32], p: usize)
+        ensures names_after { self.new.lent.names ≡ self.old.lent.names }
+        ensures inserts { Inserts from gap.now p self.old.lent.words self.old.lent.origins self.old.carried self.new.lent.words self.new.lent.origins self.new.carried }
+        ensures ahead { (text : List ℕ) → Ahead text self.old.carried → Ahead text self.new.carried }
+    {
+        let end = self.carried.written;
+        let k = gap.len();
+        if crate::ROW <= end || crate::ROW <= k || end < from {
+            return;
+        }
+        raise(&mut self.lent.words, &mut self.lent.origins, from, end, k);
+        fill(&mut self.lent.words, &mut self.lent.origins, from, gap, p);
+        self.carried.written = end + k;
+    }
 }

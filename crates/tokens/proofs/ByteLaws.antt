@@ -1,14 +1,17 @@
 -- Laws of runs and parts of bytes, and what the code that finds them comes to. Assumes nothing.
-use mathlib.Core.Path.{◌≡◌, refl, sym, ap, ◌∙◌}
-use mathlib.Core.Bool.{Bool, true, false, ◌&&◌}
+use mathlib.Core.Path.{◌≡◌, refl, sym, ◌∙◌}
+use mathlib.Core.Bool.{Bool, true, false, ◌&&◌, not}
+use Rattle.std.specs.Option.{unwrap_or}
+use Rattle.std.specs.List.{position, position_or_len}
+use Rattle.std.proofs.lemmas.List.Recursion.{is_position_or_len}
 use mathlib.Core.List.{List, [], ◌∷◌}
-use Prim.Native.Nat.{ℕ, suc, ◌+◌, ◌≤◌, ◌<◌}
+use Prim.Native.Nat.{ℕ, suc, ◌≤◌, ◌<◌}
 use native.Mathlib.Omega.{arith}
-use borrow.Author.Tests.{eq-eqb, ltb-true, ne_eqb, lt-ltb, le-ltb, ltb-false, leb-true, eqb-true}
+use borrow.Author.Tests.{eq-eqb, ltb-true, lt-ltb, le-ltb, ltb-false, leb-true, eqb-true}
 use lib.Dec.{ltb, eqb}
-use lib.ListN.{length, get_or, take, drop, drop_of_length-le}
+use lib.Pointwise.{pointwise}
+use lib.ListN.{length, take, drop}
 use lib.Seq.{length-take-le, take_all}
-use Rattle.words.proofs.Laws.{drop-next}
 use Rattle.tokens.specs.Bytes.{between, run, spelt, same_in}
 use Rattle.tokens.specs.Rules.{Shared}
 use Rattle.tokens.specs.Claims.{Shares}
@@ -71,27 +74,15 @@ module _ (p : ℕ → Bool) where
   run_length [] = rw run_none (omega arith)
   run_length (b ∷ s) = cases (p b) (λ e. rw (run_on b s e) (omega (arith, run_length s))) (λ e. rw (run-here b s e) (omega arith))
 
--- the loop that finds a run: the first i bytes are of the class
-pub record Running (p : ℕ → Bool) (s : List ℕ) (i : ℕ) : Type 0 where
-  pub inside : i ≤ length s
-  pub rest : i + run p (drop i s) ≡ run p s
+  -- it ends at the first byte that is not of the class
+  pub run-first : (s : List ℕ) → run p s ≡ position_or_len (λ b. not (p b)) s
+  run-first s = is_position_or_len (run p) (λ b. not (p b)) run_none (λ b t. cases (p b) (λ e. rw (run_on b t e, e) (omega arith)) (λ e. rw (run-here b t e, e))) s
 
-pub running-starts : {p : ℕ → Bool} {s : List ℕ} → Running p s 0
-running-starts = record { inside = omega arith; rest = omega arith }
-
-module _ {p : ℕ → Bool} {s : List ℕ} {i : ℕ} (inv : Running p s i) where
-  pub running-stops : i < length s → p (get_or s i 0) ≡ false → i ≡ run p s
-  running-stops h e =
-      let k : i + 0 ≡ run p s = rw (drop-next s i h, run-here p (get_or s i 0) (drop (i + 1) s) e) at inv.rest in omega arith
-
-  pub running-goes-on : i < length s → p (get_or s i 0) ≡ true → Running p s (i + 1)
-  running-goes-on h e =
-      let k : i + suc (run p (drop (i + 1) s)) ≡ run p s = rw (drop-next s i h, run_on p (get_or s i 0) (drop (i + 1) s) e) at inv.rest in
-      record { inside = omega arith; rest = omega arith }
-
-  pub running-ends : length s ≤ i → i ≡ run p s
-  running-ends h =
-      let k : i + 0 ≡ run p s = rw (drop_of_length-le s {i = i} h, run_none p) at inv.rest in omega arith
+  pub run_position : (s : List ℕ) → unwrap_or (position (λ b. not (p b)) s) (length s) ≡ run p s
+  run_position s =
+      let n : run p s ≡ position_or_len (λ b. not (p b)) s = run-first s in
+      let l : position_or_len (λ b. not (p b)) s ≤ length s = rw n at (run_length s) in
+      rw n (cases (ltb (position_or_len (λ b. not (p b)) s) (length s)) (λ e. rw e) (λ e. rw e (omega (arith, ltb-false (position_or_len (λ b. not (p b)) s) (length s) e))))
 
 -- ---- the same bytes
 
@@ -109,38 +100,13 @@ spelt-same (x ∷ w) (b ∷ s) e =
     let h : b ≡ x = eqb-true b x (and_first (eqb b x) (spelt w s) e) in
     rw (h, spelt-same w s (and_second (eqb b x) (spelt w s) e))
 
-pub spelt-other : (w s : List ℕ) → (w ≡ s → ⊥) → spelt w s ≡ false
-spelt-other w s n = cases (spelt w s) (λ e. absurd (n (spelt-same w s e))) (λ e. e)
-
-pub spelt-length : (w s : List ℕ) → (length s ≡ length w → ⊥) → false ≡ spelt w s
-spelt-length w s n = sym (spelt-other w s (λ e. n (ap length (sym e))))
-
-pub spelt-more : (x b : ℕ) (w s : List ℕ) → spelt (x ∷ w) (b ∷ s) ≡ (eqb b x && spelt w s)
+-- the library's equality
+pub spelt_pointwise : (w s : List ℕ) → pointwise eqb s w ≡ spelt w s
 unfolding spelt
-spelt-more x b w s = refl
-
--- the loop that compares them: the first i are the same
-pub record Spelling (w s : List ℕ) (i : ℕ) : Type 0 where
-  pub inside : i ≤ length w
-  pub long : length s ≡ length w
-  pub rest : spelt (drop i w) (drop i s) ≡ spelt w s
-
-pub spelling-starts : {w s : List ℕ} → length s ≡ length w → Spelling w s 0
-spelling-starts e = record { inside = omega arith; long = e; rest = refl }
-
-module _ {w s : List ℕ} {i : ℕ} (inv : Spelling w s i) where
-  module _ (h : i < length w) where
-    turn : (eqb (get_or s i 0) (get_or w i 0) && spelt (drop (i + 1) w) (drop (i + 1) s)) ≡ spelt w s
-    turn = rw (drop-next w i h, drop-next s i (omega (arith, inv.long)), spelt-more) at inv.rest
-
-    pub spelling-differs : (get_or s i 0 ≡ get_or w i 0 → ⊥) → false ≡ spelt w s
-    spelling-differs n = rw (ne_eqb (get_or s i 0) (get_or w i 0) n) at turn
-
-    pub spelling-goes-on : get_or s i 0 ≡ get_or w i 0 → Spelling w s (i + 1)
-    spelling-goes-on e = record { inside = omega arith; long = inv.long; rest = rw (eq-eqb (get_or s i 0) (get_or w i 0) e) at turn }
-
-  pub spelling-ends : length w ≤ i → true ≡ spelt w s
-  spelling-ends h = sym (spelt-self []) ∙ rw (drop_of_length-le w {i = i} h, drop_of_length-le s {i = i} (omega (arith, inv.long))) at inv.rest
+spelt_pointwise [] [] = refl
+spelt_pointwise [] (b ∷ s) = refl
+spelt_pointwise (x ∷ w) [] = refl
+spelt_pointwise (x ∷ w) (b ∷ s) = rw (← spelt_pointwise w s)
 
 -- ---- two parts of a text
 

@@ -1,19 +1,19 @@
 -- What the code that reads a number comes to. Assumes nothing.
+use Rattle.std.specs.Prelude.{None}
 use mathlib.Core.Path.{◌≡◌, refl, sym, ap, ◌∙◌}
+use mathlib.Core.Bool.{true, false}
 use mathlib.Core.List.{List, [], ◌∷◌}
 use Prim.Native.Nat.{ℕ, zero, suc, ◌+◌, ◌-◌, ◌*◌, ◌≤◌, ◌<◌}
 use native.Mathlib.Omega.{arith}
-use borrow.Author.Tests.{eq-eqb, ne_eqb, lt-ltb, le-ltb, ltb-true, ltb-false}
-use lib.Dec.{ltb}
-use lib.IntN.{ℤ, pos, negsuc, neg_ℤ, ◌-ℤ◌}
-use lib.ListN.{length, get_or, drop, drop_of_length-le}
-use Rattle.words.specs.declared.Ranged.{Ranged}
-use Rattle.words.specs.declared.Ranged.TheVariants.{Within, Outside}
-use Rattle.words.specs.Words.{word_of}
+use borrow.Author.Tests.{eqb-true, eq-eqb, ne_eqb, lt-ltb, le-ltb, ltb-true, ltb-false}
+use lib.Dec.{ltb, eqb}
+use lib.Pointwise.{pointwise}
+use lib.IntN.{pos, negsuc, neg_ℤ}
+use lib.ListN.{length, get_or, take, drop, drop_of_length-le}
 use Rattle.words.specs.Range.{ranged}
-use Rattle.words.proofs.Laws.{word-is, ranged-is}
+use Rattle.words.proofs.Laws.{ranged-is}
 use Rattle.tokens.specs.Numbers.{digit_of, digits_from, capped, integer_of, value_of}
-use Rattle.tokens.proofs.ByteLaws.{cases}
+use Rattle.tokens.proofs.ByteLaws.{cases, true≢false}
 use Rattle.words.proofs.Laws.{drop-next}
 
 -- ---- a digit
@@ -73,40 +73,25 @@ module _ {s : List ℕ} {n i : ℕ} (inv : Counting s n i) where
     at : digits_from (10 * n + d) (drop (i + 1) s) ≡ digits_from 0 s
     at = rw e (sym (digits_more n (get_or s i 0) (drop (i + 1) s)) ∙ rw (drop-next s i more) at inv.rest)
 
-    pub counting-passes : 2147483648 < 10 * n + d → 2147483649 ≡ capped (digits_from 0 s)
-    counting-passes h = sym (capped-great (digits_from 0 s) (omega (arith, at, digits-grow (10 * n + d) (drop (i + 1) s))))
+    pub counting-passes : 2147483648 < 10 * n + d → capped (digits_from 0 s) ≡ 2147483649
+    counting-passes h = capped-great (digits_from 0 s) (omega (arith, at, digits-grow (10 * n + d) (drop (i + 1) s)))
 
     pub counting-goes-on : 10 * n + d ≤ 2147483648 → Counting s (10 * n + d) (i + 1)
     counting-goes-on h = record { inside = omega arith; small = h; rest = at }
 
-  pub counting-ends : length s ≤ i → n ≡ capped (digits_from 0 s)
+  pub counting-ends : length s ≤ i → capped (digits_from 0 s) ≡ n
   counting-ends h =
       let e : n ≡ digits_from 0 s = sym (digits-none n) ∙ rw (drop_of_length-le s {i = i} h) at inv.rest in
-      e ∙ sym (capped_small (digits_from 0 s) (omega (arith, inv.small)))
+      capped_small (digits_from 0 s) (omega (arith, inv.small)) ∙ sym e
 
 -- ---- with its sign
 
-pub positive-fits : (n : ℕ) → n < 2147483648 → {w : ℤ} → w ≡ word_of n → Within w ≡ ranged (pos n)
-positive-fits n h e = rw (e, word-is n h, ranged-is (pos n), lt-ltb n 2147483648 h)
-
-pub positive-outside : (n : ℕ) → 2147483648 ≤ n → Outside ≡ ranged (pos n)
+pub positive-outside : (n : ℕ) → 2147483648 ≤ n → None ≡ ranged (pos n)
 positive-outside n h = rw (ranged-is (pos n), le-ltb n 2147483648 h)
 
-pub negative-none : (n : ℕ) → n ≡ 0 → Within (pos 0) ≡ ranged (neg_ℤ (pos n))
-negative-none n h = rw (h, ranged-is (pos 0))
-
-pub negative-outside : (n : ℕ) → 2147483648 < n → Outside ≡ ranged (neg_ℤ (pos n))
+pub negative-outside : (n : ℕ) → 2147483648 < n → None ≡ ranged (neg_ℤ (pos n))
 negative-outside zero h = let z : ⊥ = omega arith in absurd z
 negative-outside (suc n) h = rw (ranged-is (negsuc n), le-ltb n 2147483648 (omega arith))
-
--- -1 less a word
-less-pos : (k : ℕ) → (negsuc 0 -ℤ pos k) ≡ negsuc k
-less-pos zero = refl
-less-pos (suc k) = let z : 0 + k ≡ k = omega arith in ap (λ n. negsuc (suc n)) z
-
-pub negative-less : (n : ℕ) → (n ≡ 0 → ⊥) → n ≤ 2147483648 → {w : ℤ} → w ≡ word_of (n - 1) → ranged (negsuc 0 -ℤ w) ≡ ranged (neg_ℤ (pos n))
-negative-less zero some h e = absurd (some refl)
-negative-less (suc n) some h e = let z : suc n - 1 ≡ n = omega arith in rw (e, z, word-is n (omega arith), less-pos n)
 
 -- a number that is capped is outside either way
 pub capped-positive : (n : ℕ) → ranged (pos (capped n)) ≡ ranged (pos n)
@@ -121,17 +106,44 @@ capped-negative n =
     (λ e. let h : 2147483648 < n = ltb-true 2147483648 n e in rw (capped-great n h) (sym (negative-outside 2147483649 (omega arith)) ∙ negative-outside n h))
     (λ e. rw (capped_small n (ltb-false 2147483648 n e)))
 
--- the whole number, as the code reads it
-module _ (s : List ℕ) {n : ℕ} {r : Ranged} where
-  pub value-negative : get_or s 0 0 ≡ 45 → {q : List ℕ} → q ≡ drop 1 s → n ≡ capped (digits_from 0 q) → r ≡ ranged (neg_ℤ (pos n)) → r ≡ value_of s
-  unfolding value_of integer_of
-  value-negative h k e g = rw (eq-eqb (get_or s 0 0) 45 h) (g ∙ ap (λ m. ranged (neg_ℤ (pos m))) (e ∙ ap (λ q. capped (digits_from 0 q)) k) ∙ capped-negative (digits_from 0 (drop 1 s)))
+-- the whole number, as the code takes its sign off
+signed : (s : List ℕ) → pointwise eqb (take 1 s) (45 ∷ []) ≡ true → get_or s 0 0 ≡ 45
+signed [] e = true≢false (sym e)
+signed (b ∷ s) e = cases (eqb b 45) (λ x. eqb-true b 45 x) (λ x. true≢false (sym (rw x at e)))
 
-  pub value-positive : (get_or s 0 0 ≡ 45 → ⊥) → n ≡ capped (digits_from 0 s) → r ≡ ranged (pos n) → r ≡ value_of s
+unsigned : (s : List ℕ) → pointwise eqb (take 1 s) (45 ∷ []) ≡ false → get_or s 0 0 ≡ 45 → ⊥
+unsigned [] e k = omega arith
+unsigned (b ∷ s) e k = true≢false (rw (eq-eqb b 45 k) at e)
+
+pub no-sign : (s : List ℕ) → (get_or s 0 0 ≡ 45 → ⊥) → pointwise eqb (take 1 s) (45 ∷ []) ≡ false
+no-sign [] h = refl
+no-sign (b ∷ s) h = rw (ne_eqb b 45 h)
+
+module _ (s : List ℕ) {n : ℕ} where
+  pub value-negative : pointwise eqb (take 1 s) (45 ∷ []) ≡ true → {q : List ℕ} → q ≡ drop 1 s → capped (digits_from 0 q) ≡ n → ranged (neg_ℤ (pos n)) ≡ value_of s
   unfolding value_of integer_of
-  value-positive h e g = rw (ne_eqb (get_or s 0 0) 45 h) (g ∙ ap (λ m. ranged (pos m)) e ∙ capped-positive (digits_from 0 s))
+  value-negative h k e =
+      rw (eq-eqb (get_or s 0 0) 45 (signed s h))
+      (ap (λ m. ranged (neg_ℤ (pos m))) (sym e ∙ ap (λ q. capped (digits_from 0 q)) k) ∙ capped-negative (digits_from 0 (drop 1 s)))
+
+  pub value-positive : pointwise eqb (take 1 s) (45 ∷ []) ≡ false → capped (digits_from 0 s) ≡ n → ranged (pos n) ≡ value_of s
+  unfolding value_of integer_of
+  value-positive h e = rw (ne_eqb (get_or s 0 0) 45 (unsigned s h)) (ap (λ m. ranged (pos m)) (sym e) ∙ capped-positive (digits_from 0 s))
+
+-- where the digits pass the range
+module _ (s : List ℕ) where
+  pub negative-none : pointwise eqb (take 1 s) (45 ∷ []) ≡ true → {q : List ℕ} → q ≡ drop 1 s → capped (digits_from 0 q) ≡ 2147483649 → None ≡ value_of s
+  negative-none h k e = negative-outside 2147483649 (omega arith) ∙ value-negative s h k e
+
+  pub positive-none : pointwise eqb (take 1 s) (45 ∷ []) ≡ false → capped (digits_from 0 s) ≡ 2147483649 → None ≡ value_of s
+  positive-none h e = positive-outside 2147483649 (omega arith) ∙ value-positive s h e
 
 -- what a number comes to: its integer, if that fits 32 bits
 pub value-is : (s : List ℕ) → value_of s ≡ ranged (integer_of s)
 unfolding value_of
 value-is s = refl
+
+-- the lemmas for the loop of `digits`, and for `value`
+pub ruleset counting = (counting-starts, counting-passes, counting-goes-on, counting-ends, digit-small)
+
+pub ruleset value_read = (value-negative, value-positive, negative-none, positive-none)

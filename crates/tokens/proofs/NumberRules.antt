@@ -11,7 +11,7 @@ use Rattle.tokens.specs.Numbers.{digit_of, digits_from}
 use Rattle.tokens.specs.Rules.{All, Digits, Says}
 use Rattle.tokens.specs.Claims.{Values, Counted, Counts}
 use Rattle.tokens.proofs.ByteLaws.{between-least, between-most}
-use Rattle.tokens.proofs.NumberLaws.{digit-is, digits-none, digits_more, value-negative, value-positive, capped-negative, capped-positive}
+use Rattle.tokens.proofs.NumberLaws.{digit-is, digits-none, digits_more, value-negative, value-positive, no-sign, capped-negative, capped-positive}
 
 digit-of : (d : ℕ) → d < 10 → digit_of (48 + d) ≡ d
 digit-of d h = digit-is (48 + d) (omega arith) (omega arith) ∙ (let z : 48 + d - 48 ≡ d = omega arith in z)
@@ -35,9 +35,9 @@ no_sign _ _ Digits.none e = omega arith
 no_sign _ _ (Digits.next {s = s} {n = n} {d = d} k h) e = first_of s (48 + d) (λ z. no_sign s n k z) (λ z. omega arith) e
 
 pub values : Values
-values s _ (Says.plain {n = n} d) = sym (value-positive s (no_sign s n d) refl refl) ∙ capped-positive (digits_from 0 s) ∙ ap (λ m. ranged (pos m)) (digits_are s n d)
+values s _ (Says.plain {n = n} d) = sym (value-positive s (no-sign s (no_sign s n d)) refl) ∙ capped-positive (digits_from 0 s) ∙ ap (λ m. ranged (pos m)) (digits_are s n d)
 values _ _ (Says.negative {s = s} {n = n} d) =
-    sym (value-negative (45 ∷ s) refl refl refl refl) ∙ capped-negative (digits_from 0 s) ∙ ap (λ m. ranged (neg_ℤ (pos m))) (digits_are s n d)
+    sym (value-negative (45 ∷ s) refl refl refl) ∙ capped-negative (digits_from 0 s) ∙ ap (λ m. ranged (neg_ℤ (pos m))) (digits_are s n d)
 
 -- digits behind others
 count : (p s : List ℕ) (n : ℕ) → Digits p n → All is_digit s → Counted (p ++ s)

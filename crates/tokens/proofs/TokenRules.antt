@@ -17,7 +17,7 @@ use Rattle.tokens.specs.Rules.{All, Over, In, Tail, Sign, Lone, TokenIs, is_ques
 use Rattle.tokens.specs.Claims.{Begins}
 use Rattle.tokens.proofs.ByteLaws.{cases, true≢false, and_first, and_second, between-low, between-most}
 use Rattle.tokens.proofs.SpellingLaws.{by_code, in-none, keyword-code, keyword-great, keyword-lower, pair_code, pair-great, pair-no-letter, pair-no-digit, pair-no-sign, single-code, single-great, single-no-letter, single-no-digit, minus-there}
-use Rattle.tokens.proofs.TokenLaws.{mark-last, mark-single, mark-pair, first-end, first-name, first-number, first_signed, first-mark, rest-shorter}
+use Rattle.tokens.proofs.TokenLaws.{mark-last, mark-single, mark-pair, first-end, first-name, first-number, first_signed, first-mark, rest-shorter, token-past, token-in}
 use Rattle.tokens.proofs.RunLaws.{run_is, Split, split, TailSplit, tail-split}
 
 -- ---- a name
@@ -204,3 +204,6 @@ token-inside due s = by_length (found due s) (λ e k h. omega (arith, h)) (λ a 
 
 pub end-inside : (due : Bool) (text : List ℕ) (at : ℕ) {x : List ℕ} → x ≡ rest_from text at → {p : Piece} → p ≡ token_at due x → length text - length x + p.length ≤ length text
 end-inside due text at {x = x} e q = let h : length x ≤ length text = rest-shorter due text at e in rw q (omega (arith, token-inside due x))
+
+-- the lemmas for `token`
+pub ruleset in_text = (rest-shorter, token-past, token-in, end-inside)

@@ -98,7 +98,7 @@ pub const AND: usize = 50;
 pub const OR: usize = 51;
 
 // The classes of bytes.
-#[derive(Clone, Copy)]
+#[derive(Clone, Copy, Debug, PartialEq, Eq)]
 pub enum Class {
     White,
     Lower,
@@ -107,14 +107,14 @@ pub enum Class {
 }
 
 // What bytes begin with, and how many of them it takes.
-#[derive(Clone, Copy)]
+#[derive(Clone, Copy, Debug, PartialEq, Eq)]
 pub struct Piece {
     pub code: usize,
     pub length: usize,
 }
 
 // A token of a text: what it is, its first byte, and the byte behind its last.
-#[derive(Clone, Copy)]
+#[derive(Clone, Copy, Debug, PartialEq, Eq)]
 pub struct Token {
     pub code: usize,
     pub place: usize,

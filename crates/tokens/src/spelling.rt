@@ -6,6 +6,7 @@ ghost use Rattle.tokens.specs.Spelling.{code_of, keywords, later_keywords, pairs
 use super::bytes::spells;
 
 // The code of a keyword, NAME where the word is none.
+#[tactic(auto, unfolding(crate::specs::Spelling::code_of, crate::specs::Spelling::keywords))]
 pub fn keyword(word: &[u8]) -> usize
     ensures { result ≡ code_of name_code keywords word.now }
 {
@@ -36,6 +37,7 @@ pub fn keyword(word: &[u8]) -> usize
     later_keyword(word)
 }
 
+#[tactic(auto, unfolding(crate::specs::Spelling::code_of, crate::specs::Spelling::later_keywords))]
 fn later_keyword(word: &[u8]) -> usize
     ensures { result ≡ code_of name_code later_keywords word.now }
 {
@@ -69,37 +71,24 @@ fn later_keyword(word: &[u8]) -> usize
     crate::NAME
 }
 
-// The code of a mark of two bytes of which the second is `=`.
-fn with_equals(b: u8) -> usize
-    ensures { result ≡ code_of no_token pairs (b ∷ 61 ∷ []) }
+// The code of a mark of two bytes, NO_TOKEN where they are none.
+#[tactic(auto, unfolding(crate::specs::Spelling::code_of, crate::specs::Spelling::pairs, crate::specs::Bytes::spelt))]
+pub fn pair(b: u8, c: u8) -> usize
+    ensures { result ≡ code_of no_token pairs (b ∷ c ∷ []) }
 {
-    match b {
-        b':' => crate::BECOMES,
-        b'=' => crate::IDENTICAL,
-        b'<' => crate::AT_MOST,
-        b'!' => crate::UNEQUAL,
-        b'>' => crate::AT_LEAST,
+    match (b, c) {
+        (b':', b'=') => crate::BECOMES,
+        (b'=', b'=') => crate::IDENTICAL,
+        (b'<', b'=') => crate::AT_MOST,
+        (b'!', b'=') => crate::UNEQUAL,
+        (b'>', b'=') => crate::AT_LEAST,
+        (b'/', b'\\') => crate::BESIDE,
         _ => crate::NO_TOKEN,
     }
 }
 
-// The code of a mark of two bytes, NO_TOKEN where they are none.
-pub fn pair(b: u8, c: u8) -> usize
-    ensures { result ≡ code_of no_token pairs (b ∷ c ∷ []) }
-{
-    if c == b'=' {
-        return with_equals(b);
-    }
-    if c != b'\\' {
-        return crate::NO_TOKEN;
-    }
-    if b != b'/' {
-        return crate::NO_TOKEN;
-    }
-    crate::BESIDE
-}
-
 // The code of a mark of one byte, NO_TOKEN where it is none.
+#[tactic(auto, unfolding(crate::specs::Spelling::code_of, crate::specs::Spelling::singles, crate::specs::Bytes::spelt))]
 pub fn single(b: u8) -> usize
     ensures { result ≡ code_of no_token singles (b ∷ []) }
 {

@@ -9,8 +9,8 @@ use lib.Seq.{take-append_seam}
 use Rattle.words.specs.Words.{number_at}
 use Rattle.tables.proofs.SearchLaws.{cases}
 use Rattle.tokens.specs.Tokens.{most_bytes}
+use Rattle.std.specs.Prelude.{Result, Ok, Err}
 use Rattle.lister.specs.declared.Input.{Input}
-use Rattle.lister.specs.declared.Input.TheVariants.{Reads, Unfit}
 use Rattle.lister.specs.Reading.{Given, input_in}
 use Rattle.lister.specs.Listing.{named_line, outcome_name, place_name}
 use Rattle.lister.proofs.SizeLaws.{digits-twenty, named-length, unfit-length, listed-whole}
@@ -43,9 +43,9 @@ program-length : (p : List ℤ) → length (program_typed p) ≤ 65537
 unfolding program_typed
 program-length p = answered-length (write p [] (replicate 192 (pos 0)) (replicate most_bytes 0)) (bytes_most p [] (replicate 192 (pos 0)) (replicate most_bytes 0))
 
-typed-length : (g : Given) (a : Input) → length (typed_by g a) ≤ 65537
-typed-length g (Reads n m b) = program-length g.program
-typed-length g (Unfit line) = omega (arith, unfit-length line)
+typed-length : (g : Given) (a : Result Input ℕ) → length (typed_by g a) ≤ 65537
+typed-length g (Ok input) = program-length g.program
+typed-length g (Err line) = omega (arith, unfit-length line)
 
 text-length : (t : List ℕ) → length (typed_to t) ≤ 65537
 unfolding typed_to

@@ -1,9 +1,8 @@
 -- The program of a sheet, typed: the text's reading, the program's text with default names, and a newline. Assumes nothing: these are definitions.
-use Rattle.std.specs.Prelude.{ℕ, cond, List, [], ◌∷◌, ◌++◌, eqb, ℤ, pos, take, replicate}
+use Rattle.std.specs.Prelude.{ℕ, cond, List, [], ◌∷◌, ◌++◌, eqb, ℤ, pos, take, replicate, Result, Ok, Err}
 use Rattle.words.specs.Words.{number_at}
 use Rattle.tokens.specs.Tokens.{most_bytes}
 use Rattle.lister.specs.declared.Input.{Input}
-use Rattle.lister.specs.declared.Input.TheVariants.{Reads, Unfit}
 use Rattle.lister.specs.Reading.{Given, input_in}
 use Rattle.lister.specs.Listing.{named_line, outcome_name, place_name, unfit_text}
 use Rattle.printing.specs.Whole.{Answered, write}
@@ -21,9 +20,9 @@ unfoldable pub program_typed : List ℤ → List ℕ
 program_typed p = answered_text (write p [] (replicate 192 (pos 0)) (replicate most_bytes 0))
 
 -- the program of a text that reads is typed; of another its first unfit line is told
-abbrev pub typed_by : Given → Input → List ℕ
-typed_by g (Reads n m budget) = program_typed g.program
-typed_by g (Unfit line) = unfit_text line
+abbrev pub typed_by : Given → Result Input ℕ → List ℕ
+typed_by g (Ok input) = program_typed g.program
+typed_by g (Err line) = unfit_text line
 
 -- the whole output for a text
 unfoldable pub typed_to : List ℕ → List ℕ

@@ -5,8 +5,6 @@ ghost use Rattle.lister.specs.Bytes.{Puts};
 ghost use Rattle.lister.specs.Listing.{Listed};
 ghost use Rattle.typed.specs.Typing.{refused_text, program_typed, typed_to};
 
-use lister::Input;
-
 // A refusal: its number and its place.
 fn put_refusal(out: &mut [u8], outcome: usize, place: usize) -> usize
     ensures { Puts out.old 0 (refused_text outcome place) out.new result }
@@ -28,7 +26,7 @@ fn type_program(program: &[i32], out: &mut [u8]) -> usize
     if outcome != 0 {
         return put_refusal(out, outcome, words::number_at(&answer, 1));
     }
-    let to = lister::bytes::put_all(out, 0, words::bytes_to(&page, n));
+    let to = lister::bytes::put_all(out, 0, words::part_to(&page, n));
     lister::bytes::put(out, to, b'\n')
 }
 
@@ -39,8 +37,8 @@ pub fn typed_text(text: &[u8], out: &mut [u8]) -> usize
     let mut program = [0i32; lister::MOST_NUMBERS];
     let mut proposals = [0i32; lister::MOST_NUMBERS];
     match lister::reading::read_input(text, &mut program, &mut proposals) {
-        Input::Unfit(line) => lister::listing::write_unfit(out, line),
-        Input::Reads(n, _, _) => type_program(words::part_to(&program, n), out),
+        Ok(input) => type_program(words::part_to(&program, input.program), out),
+        Err(line) => lister::listing::write_unfit(out, line),
     }
 }
 

@@ -11,7 +11,7 @@ use lib.IntN.{ℤ, pos, negsuc}
 use lib.ListN.{length, get_or, set, take, drop, replicate, length-drop, length-set, length-replicate, get_or-replicate, drop_of_length-le, get_or-eq_default}
 use lib.Seq.{take_all, drop-length, drop-cons, get_or-drop, get_or-set_same, get_or-set_other, set_out, ext_get_or}
 use Rattle.words.specs.Range.{fits, ranged}
-use Rattle.words.specs.declared.Ranged.TheVariants.{Within, Outside}
+use Rattle.std.specs.Prelude.{Some, None}
 use Rattle.words.specs.Words.{word_at, number_of, number_at, word_of, copied, cleared, eq_z}
 
 -- ---- parts
@@ -175,6 +175,6 @@ copying-starts = record { inside = omega arith; kept = refl; done = refl }
 
 -- ---- the range of a result
 
-pub ranged-is : (z : ℤ) → ranged z ≡ cond (fits z) (Within z) Outside
+pub ranged-is : (z : ℤ) → ranged z ≡ cond (fits z) (Some z) None
 unfolding ranged
 ranged-is z = refl

@@ -14,7 +14,7 @@ use mir.Val.{Fits, SFits, to_z, of_z}
 use mir.Facts.{to_z-of_z, sfits_widen}
 use Rattle.words.specs.Words.{eq_z, number_of, number_at}
 use Rattle.words.specs.Range.{ranged}
-use Rattle.words.specs.declared.Ranged.TheVariants.{Within, Outside}
+use Rattle.std.specs.Prelude.{Some, None}
 use Rattle.words.proofs.Laws.{number_in}
 use lib.Dec.{T}
 use lib.ListN.{length, get_or}
@@ -73,12 +73,12 @@ pub product-fits : (a b : ℤ) → SFits w32 a → SFits w32 b → SFits w64 (a 
 product-fits a b f g = record { sfits = mag-product a b f.sfits g.sfits }
 
 -- the two tests of the range of a word
-pub below-range : (z : ℤ) → lt_z z (negsuc 2147483647) ≡ true → Outside ≡ ranged z
+pub below-range : (z : ℤ) → lt_z z (negsuc 2147483647) ≡ true → None ≡ ranged z
 unfolding ranged
 below-range (pos n) h = cc
 below-range (negsuc n) h = let k : 2147483647 < n = ltb-true 2147483647 n h in rw (le-ltb n 2147483648 (omega arith))
 
-pub above-range : (z : ℤ) → lt_z (pos 2147483647) z ≡ true → Outside ≡ ranged z
+pub above-range : (z : ℤ) → lt_z (pos 2147483647) z ≡ true → None ≡ ranged z
 unfolding ranged
 above-range (pos n) h = let k : 2147483647 < n = ltb-true 2147483647 n h in rw (le-ltb n 2147483648 (omega arith))
 above-range (negsuc n) h = cc
@@ -87,7 +87,7 @@ pub in-range : (z : ℤ) → lt_z z (negsuc 2147483647) ≡ false → lt_z (pos 
 in-range (pos n) h k = let l : n ≤ 2147483647 = ltb-false 2147483647 n k in omega arith
 in-range (negsuc n) h k = let l : n ≤ 2147483647 = ltb-false 2147483647 n h in omega arith
 
-pub within-range : (z : ℤ) → mag z < 2 ^ 31 → Within z ≡ ranged z
+pub within-range : (z : ℤ) → mag z < 2 ^ 31 → Some z ≡ ranged z
 unfolding ranged
 within-range (pos n) m = rw (lt-ltb n 2147483648 (omega arith))
 within-range (negsuc n) m = rw (lt-ltb n 2147483648 (omega arith))
@@ -131,14 +131,14 @@ pub number_read : (p : List ℤ) (k : ℕ) → k < length p → mag (get_or p k 
 number_read p k h m = rw (back32 (get_or p k (pos 0)) (record { sfits = m })) (number_in p k (pos 0) h)
 
 -- the same of a wide number as the code tests it, read from its bits
-pub narrow_below : (z : ℤ) → SFits w64 z → lt_z (to_z w64 (of_z w64 z)) (negsuc 2147483647) ≡ true → Outside ≡ ranged z
+pub narrow_below : (z : ℤ) → SFits w64 z → lt_z (to_z w64 (of_z w64 z)) (negsuc 2147483647) ≡ true → None ≡ ranged z
 narrow_below z f h = below-range z (rw (back64 z f) at h)
 
-pub narrow_above : (z : ℤ) → SFits w64 z → lt_z (pos 2147483647) (to_z w64 (of_z w64 z)) ≡ true → Outside ≡ ranged z
+pub narrow_above : (z : ℤ) → SFits w64 z → lt_z (pos 2147483647) (to_z w64 (of_z w64 z)) ≡ true → None ≡ ranged z
 narrow_above z f h = above-range z (rw (back64 z f) at h)
 
 pub narrow_within : (z : ℤ) → SFits w64 z → lt_z (to_z w64 (of_z w64 z)) (negsuc 2147483647) ≡ false → lt_z (pos 2147483647) (to_z w64 (of_z w64 z)) ≡ false
-    → Within (to_z w32 (of_z w32 (to_z w64 (of_z w64 z)))) ≡ ranged z
+    → Some (to_z w32 (of_z w32 (to_z w64 (of_z w64 z)))) ≡ ranged z
 narrow_within z f h k =
     let b = back64 z f in
     let m : mag z < 2 ^ 31 = in-range z (rw b at h) (rw b at k) in

@@ -4,8 +4,7 @@
 pub mod bits; // bits.rt: a mark of one bit for each number
 
 ghost use Rattle.std.specs.Prelude.{◌≡◌, [], ◌∷◌, ◌-◌, pos, ◌+ℤ◌, ◌-ℤ◌, ◌*ℤ◌, drop, set, take};
-ghost use Rattle.std.specs.Int.Signed.{lt_z, le_z};
-ghost use Rattle.words.specs.Words.{word_at, number_of, number_at, word_of, last_of, copied, cleared, eq_z};
+ghost use Rattle.words.specs.Words.{word_at, number_of, number_at, word_of, last_of, copied, cleared};
 ghost use Rattle.words.specs.Range.{ranged};
 
 // The word at i, 0 past the end.
@@ -48,14 +47,14 @@ pub fn less(a: usize, b: usize) -> usize
 }
 
 // The part that begins at k, empty past the end.
-pub fn part_from(s: &[i32], k: usize) -> &[i32]
+pub fn part_from<T>(s: &[T], k: usize) -> &[T]
     ensures { result.now ≡ drop k s.now }
 {
     if k <= s.len() { &s[k..] } else { &s[s.len()..] }
 }
 
-// The first k words, all of them where there are fewer.
-pub fn part_to(s: &[i32], k: usize) -> &[i32]
+// The first k items, all of them where there are fewer.
+pub fn part_to<T>(s: &[T], k: usize) -> &[T]
     ensures { result.now ≡ take k s.now }
 {
     if k <= s.len() { &s[..k] } else { s }
@@ -82,13 +81,11 @@ pub fn copy(s: &mut [i32], at: usize, t: &[i32], n: usize)
     ensures { s.new ≡ copied t.now at n s.old }
 {
     let room = less(s.len(), at);
-    let mut i: usize = 0;
-    while i < n {
+    for i in 0..n {
         if room <= i {
             return;
         }
         store(s, at + i, word_at(t, i));
-        i += 1;
     }
 }
 
@@ -111,76 +108,37 @@ pub fn answer_with(answer: &mut [i32; 4], outcome: usize, place: usize, third: u
     *answer = [a, b, c, d];
 }
 
-// The bytes from k on, none past the end.
-pub fn bytes_from(s: &[u8], k: usize) -> &[u8]
-    ensures { result.now ≡ drop k s.now }
-{
-    if k <= s.len() { &s[k..] } else { &s[s.len()..] }
-}
-
-// The first k bytes, all of them where there are fewer.
-pub fn bytes_to(s: &[u8], k: usize) -> &[u8]
-    ensures { result.now ≡ take k s.now }
-{
-    if k <= s.len() { &s[..k] } else { s }
-}
-
-// The result of arithmetic on words, where it is a word.
-#[derive(Clone, Copy)]
-pub enum Ranged {
-    Within(i32),
-    Outside,
-}
-
 // A wide number, if it is a word.
 #[tactic(auto, using(crate::proofs::Signed::narrow_below, crate::proofs::Signed::narrow_above, crate::proofs::Signed::narrow_within))]
-fn narrow(x: i64) -> Ranged
+fn narrow(x: i64) -> Option<i32>
     ensures { result ≡ ranged x }
 {
     if x < -2147483648 {
-        return Ranged::Outside;
+        return None;
     }
     if 2147483647 < x {
-        return Ranged::Outside;
+        return None;
     }
-    Ranged::Within(x as i32)
+    Some(x as i32)
 }
 
 // The sum of two words.
-pub fn plus(a: i32, b: i32) -> Ranged
+pub fn plus(a: i32, b: i32) -> Option<i32>
     ensures { result ≡ ranged (a +ℤ b) }
 {
     narrow((a as i64) + (b as i64))
 }
 
 // The difference of two words.
-pub fn minus(a: i32, b: i32) -> Ranged
+pub fn minus(a: i32, b: i32) -> Option<i32>
     ensures { result ≡ ranged (a -ℤ b) }
 {
     narrow((a as i64) - (b as i64))
 }
 
 // The product of two words.
-pub fn times(a: i32, b: i32) -> Ranged
+pub fn times(a: i32, b: i32) -> Option<i32>
     ensures { result ≡ ranged (a *ℤ b) }
 {
     narrow((a as i64) * (b as i64))
-}
-
-pub fn below(a: i32, b: i32) -> bool
-    ensures { result ≡ lt_z a b }
-{
-    a < b
-}
-
-pub fn at_most(a: i32, b: i32) -> bool
-    ensures { result ≡ le_z a b }
-{
-    a <= b
-}
-
-pub fn same(a: i32, b: i32) -> bool
-    ensures { result ≡ eq_z a b }
-{
-    a == b
 }

@@ -16,13 +16,10 @@ abbrev pub decreases-run_while : goal.decreases-run_while
 decreases-run_while l = 3 * l.d + 1
 
 abbrev pub invariant-run_block-loop-i : goal.invariant-run_block-loop-i
-invariant-run_block-loop-i l = Row l.program l.p l.proposals l.initial.environment l.initial.heap l.initial.constraints l.environment l.heap l.constraints l.budget l.d l.n l.initial.u l.u l.left l.i
+invariant-run_block-loop-i l = Row l.program l.p l.proposals l.initial.t l.t l.budget l.d l.n l.initial.u l.u l.left l.i
 
-abbrev pub decreases-run_block-loop-i : goal.decreases-run_block-loop-i
-decreases-run_block-loop-i l = l.n - l.i
+abbrev pub invariant-run_while-turns : goal.invariant-run_while-turns
+invariant-run_while-turns l = Turning l.program l.p l.proposals l.initial.t l.t l.q l.body l.budget l.d l.while_place l.initial.u l.u
 
-abbrev pub invariant-run_while-loop-number : goal.invariant-run_while-loop-number
-invariant-run_while-loop-number l = Turning l.program l.p l.proposals l.initial.environment l.initial.heap l.initial.constraints l.environment l.heap l.constraints l.q l.body l.budget l.d l.while_place l.initial.u l.u
-
-abbrev pub decreases-run_while-loop-number : goal.decreases-run_while-loop-number
-decreases-run_while-loop-number l = l.budget - l.u.steps
+abbrev pub decreases-run_while-turns : goal.decreases-run_while-turns
+decreases-run_while-turns l = l.budget - l.u.steps

@@ -1,16 +1,16 @@
 -- What every answer that the rules derive keeps to, whatever the program, the proposals, the budget and the tables are. Assumes nothing: this is a statement.
-use Rattle.std.specs.Prelude.{◌≡◌, ◌≢◌, ℕ, ◌+◌, ◌≤◌, ◌<◌, Bool, true, false, ℤ, pos, length, drop}
+use Rattle.std.specs.Prelude.{◌≡◌, ◌≢◌, ℕ, ◌+◌, ◌≤◌, ◌<◌, Bool, true, false, ℤ, pos, length, drop, None}
 use mathlib.Core.List.{List, [], ◌∷◌, Memᴰ as OneOf}
 use Rattle.words.specs.Words.{number_of, last_of}
 use Rattle.tables.specs.declared.Value.{Value}
 use Rattle.tables.specs.declared.Sort.TheVariants.{Values}
+use Rattle.tables.specs.declared.Kind.{Kind}
+use Rattle.tables.specs.declared.Kind.TheVariants.{Bool as is_bool}
 use Rattle.tables.specs.Cells.{Cells}
 use Rattle.program.specs.Forms.{most_words, expression_depth}
 use Rattle.program.specs.Grammar.{statement_of, Yields, Expression, Takes}
-use Rattle.program.specs.declared.Spot.TheVariants.{Nowhere}
 use Rattle.program.specs.Where.{statement_at}
 use Rattle.rules.specs.State.{State, positions}
-use Rattle.rules.specs.Evaluation.{Kind, is_bool}
 use Rattle.rules.specs.Start.{Ended}
 use Rattle.rules.specs.Statements.{Left, position_of}
 use Rattle.rules.specs.Rules.Expressions.{Holds, Lost, Comes, Unmade}
@@ -57,7 +57,7 @@ pub record Answer (program ws : List ℤ) (budget : ℤ) (S : State) (e : Ended)
   -- 2: "place is the first unfit word, or the length if words run out; over 4,096 words: always 4096"
   pub unread_place : e.outcome ≡ 2 → (e.place ≤ most_words) × ((e.place ≤ length program) × (most_words < length program → e.place ≡ most_words))
   -- "From 5 on, place is the statement's word", but for 7, 8, 9 and 15 (02, W2)
-  pub at_statement : 5 ≤ e.outcome → (OneOf e.outcome (7 ∷ 8 ∷ 9 ∷ 15 ∷ []) → ⊥) → statement_at program e.place ≡ Nowhere → ⊥
+  pub at_statement : 5 ≤ e.outcome → (OneOf e.outcome (7 ∷ 8 ∷ 9 ∷ 15 ∷ []) → ⊥) → statement_at program e.place ≡ None → ⊥
   pub inside : OneOf e.outcome (7 ∷ 8 ∷ 9 ∷ 15 ∷ []) → (p : List ℤ) × (AtStatement program p × Inside program e.state p e.place e.outcome)
   -- the counts, and the unread words "as a part of that slice"
   pub steps : e.steps ≤ number_of budget

@@ -1,7 +1,6 @@
 -- What is claimed of a list of entries (02, W3), as of runs. Assumes nothing: these are statements.
-use Rattle.std.specs.Prelude.{◌≡◌, ◌↔◌, ℕ, suc, ◌≤◌, true, ℤ, pos, length}
+use Rattle.std.specs.Prelude.{◌≡◌, ◌↔◌, ℕ, suc, ◌≤◌, true, ℤ, pos, length, None, Some}
 use mathlib.Core.List.{List, [], ◌∷◌, ◌++◌, Memᴰ as OneOf}
-use Rattle.std.proofs.Math.Option.{none, some}
 use Rattle.words.specs.Words.{number_of, last_of}
 use Rattle.tables.specs.declared.Value.{Value}
 use Rattle.tables.specs.Cells.{Cells, Sized}
@@ -98,7 +97,7 @@ pub record Moved (program : List ℤ) (S : State) (p : List ℤ) (Z : State) : T
   pub now : Cells
   pub gives : Gives S.cells p target prefix value S.cells
   pub phase : Phase program S.kept S.cells S.cells target prefix value now
-  pub proposed : Effect (asking none (some target) true) now Z.cells
+  pub proposed : Effect (asking None (Some target) true) now Z.cells
   pub kept : Z.kept ≡ S.kept
 
 abbrev pub EntriesMove : Type 0

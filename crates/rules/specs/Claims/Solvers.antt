@@ -1,7 +1,6 @@
 -- What is claimed of one statement with two proposals (02, W6), as of runs. Assumes nothing: these are statements.
-use Rattle.std.specs.Prelude.{◌≡◌, ◌↔◌, ◌⊎◌, ℕ, zero, suc, ◌≤◌, true, ℤ, pos, length, take}
+use Rattle.std.specs.Prelude.{◌≡◌, ◌↔◌, ◌⊎◌, ℕ, zero, suc, ◌≤◌, true, ℤ, pos, length, take, None, Some}
 use mathlib.Core.List.{List, [], ◌∷◌, Memᴰ as OneOf}
-use Rattle.std.proofs.Math.Option.{none, some}
 use Rattle.tables.specs.declared.Value.{Value}
 use Rattle.tables.specs.declared.Sort.TheVariants.{Values}
 use Rattle.tables.specs.Cells.{Cells}
@@ -74,10 +73,10 @@ SolversStand = (program : List ℤ) (word : ℤ) (first second : List ℤ) (S : 
 -- always keeps the position
 pub data Moves (program : List ℤ) (S : State) : List ℤ → State → Type 0 where
   given : {target : ℕ} {prefix : List ℕ} {v : Value} {N Y Z : Cells} {p : List ℤ}
-      → Gives S.cells p target prefix v N → Phase program S.kept S.cells N target prefix v Y → Effect (asking none (some target) true) Y Z → Moves program S p (record { cells = Z; kept = S.kept })
+      → Gives S.cells p target prefix v N → Phase program S.kept S.cells N target prefix v Y → Effect (asking None (Some target) true) Y Z → Moves program S p (record { cells = Z; kept = S.kept })
   always : {Z : Cells} {p kept : List ℤ}
-      → Effect (asking (some p) none true) S.cells Z → Keeps S.kept Values (position_of program (pos 3 ∷ p)) kept → Moves program S (pos 3 ∷ p) (record { cells = Z; kept = kept })
-  once : {Z : Cells} {p : List ℤ} → Effect (asking (some p) none true) S.cells Z → Moves program S (pos 4 ∷ p) (record { cells = Z; kept = S.kept })
+      → Effect (asking (Some p) None true) S.cells Z → Keeps S.kept Values (position_of program (pos 3 ∷ p)) kept → Moves program S (pos 3 ∷ p) (record { cells = Z; kept = kept })
+  once : {Z : Cells} {p : List ℤ} → Effect (asking (Some p) None true) S.cells Z → Moves program S (pos 4 ∷ p) (record { cells = Z; kept = S.kept })
 
 abbrev pub SolversMove : Type 0
 SolversMove = (program : List ℤ) (word : ℤ) (first second : List ℤ) (S : State) (e : Given)

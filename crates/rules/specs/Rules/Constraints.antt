@@ -1,13 +1,12 @@
 -- When a constraint reads, what its parts then are (000, T-PRIORITY and T-CONJUNCTION, as document 01 narrows them), and which parts count.
 -- Assumes nothing: these are definitions.
-use Rattle.std.specs.Prelude.{◌≡◌, ◌↔◌, ℕ, suc, ◌+◌, ◌≤◌, Bool, true, List, [], ◌∷◌, ◌++◌, ℤ, pos, drop}
-use Rattle.std.proofs.Math.Option.{Option, none as nothing, some}
+use Rattle.std.specs.Prelude.{◌≡◌, ◌↔◌, ℕ, suc, ◌+◌, ◌≤◌, Bool, true, List, [], ◌∷◌, ◌++◌, ℤ, pos, drop, Option, None, Some}
 use Rattle.tables.specs.declared.Value.TheVariants.{Bool as Truth}
 use Rattle.tables.specs.declared.Sort.TheVariants.{Values}
+use Rattle.tables.specs.declared.Kind.TheVariants.{Bool as is_bool}
 use Rattle.tables.specs.Cells.{Cells}
 use Rattle.program.specs.Forms.{expression_depth, most_parts, required}
 use Rattle.rules.specs.State.{Fault, positions}
-use Rattle.rules.specs.Evaluation.{is_bool}
 use Rattle.rules.specs.Constraints.{Part}
 use Rattle.rules.specs.Rules.Expressions.{Within, KindWithin, Untested}
 
@@ -33,8 +32,8 @@ pub data KeptAre (program : List ℤ) (S : Cells) : List ℕ → List Part → T
       → ConstraintIs S (drop (position + 1) program) xs → KeptAre program S more ys → KeptAre program S (position ∷ more) (xs ++ ys)
 
 pub data CountedAre (program kept : List ℤ) (S : Cells) : Option (List ℤ) → List Part → Type 0 where
-  kept_only : {xs : List Part} → KeptAre program S (positions kept Values) xs → CountedAre program kept S nothing xs
-  with_own : {p : List ℤ} {xs ys : List Part} → KeptAre program S (positions kept Values) xs → ConstraintIs S p ys → CountedAre program kept S (some p) (xs ++ ys)
+  kept_only : {xs : List Part} → KeptAre program S (positions kept Values) xs → CountedAre program kept S None xs
+  with_own : {p : List ℤ} {xs ys : List Part} → KeptAre program S (positions kept Values) xs → ConstraintIs S p ys → CountedAre program kept S (Some p) (xs ++ ys)
 
 -- ---- refusals: the C at p does not read, 7 or 8 as met; 8 of a part that is no boolean stands at its priority
 
@@ -59,6 +58,6 @@ pub data FirstNot {A : Type 0} (P : A → Type 0) : List A → A → Type 0 wher
 
 -- a statement's own C does not read; or, 15, "a kept value constraint no longer reads": the word at fault "in the first such kept constraint" (02, W2)
 pub data Uncounted (program kept : List ℤ) (S : Cells) : Option (List ℤ) → Fault → Type 0 where
-  own : {f : Fault} {p : List ℤ} → ConstraintMeets S p f → Uncounted program kept S (some p) f
-  kept : {own : Option (List ℤ)} {k : ℕ} {f : Fault} → ((p : List ℤ) → own ≡ some p → (xs : List Part) × ConstraintIs S p xs)
+  own : {f : Fault} {p : List ℤ} → ConstraintMeets S p f → Uncounted program kept S (Some p) f
+  kept : {own : Option (List ℤ)} {k : ℕ} {f : Fault} → ((p : List ℤ) → own ≡ Some p → (xs : List Part) × ConstraintIs S p xs)
       → FirstNot (Reads program S) (positions kept Values) k → ConstraintMeets S (drop (k + 1) program) f → Uncounted program kept S own (record { number = 15; word = f.word })

@@ -1,10 +1,11 @@
 -- The paper's rules of evaluation and typing (000, 6.1.2: the E- and T-rules, as document 01 narrows them), on the program's words.
 -- Assumes nothing: these are definitions.
-use Rattle.std.specs.Prelude.{◌≡◌, ◌≢◌, ℕ, suc, ◌<◌, ◌≤◌, Bool, true, false, List, [], ◌∷◌, ℤ, pos, drop}
+use Rattle.std.specs.Prelude.{◌≡◌, ◌≢◌, ℕ, suc, ◌<◌, ◌≤◌, Bool, true, false, List, [], ◌∷◌, ℤ, pos, drop, None, Some}
 use Rattle.words.specs.Words.{number_at}
 use Rattle.tables.specs.declared.Value.{Value}
 use Rattle.tables.specs.declared.Value.TheVariants.{Nil, Bool as Truth, Int, Ref}
-use Rattle.tables.specs.declared.Slot.TheVariants.{Absent, Has}
+use Rattle.tables.specs.declared.Kind.{Kind}
+use Rattle.tables.specs.declared.Kind.TheVariants.{Bool as is_bool}
 use Rattle.tables.specs.Sizes.{variables, field_location}
 use Rattle.tables.specs.Values.{cell_of}
 use Rattle.tables.specs.Cells.{Cells}
@@ -12,7 +13,7 @@ use Rattle.tables.specs.Records.{field_count, label_at}
 use Rattle.program.specs.Forms.{most_steps, operators, expression_depth}
 use Rattle.rules.specs.State.{Fault, refused, slot_at}
 use Rattle.rules.specs.Paths.{Way}
-use Rattle.rules.specs.Evaluation.{Kind, is_bool, kind_of}
+use Rattle.rules.specs.Evaluation.{kind_of}
 use Rattle.rules.specs.Rules.Operators.{Gives, Makes}
 
 -- ---- paths
@@ -24,7 +25,7 @@ pub data HasField (heap : List ℤ) (r label : ℕ) : ℕ → Type 0 where
 -- E-FIELD, n times: the n labels at p lead from the cell l to the cell `to`, through the prefix cells, l first
 pub data Leads (S : Cells) : ℕ → ℕ → List ℤ → ℕ → List ℕ → Type 0 where
   here : {l : ℕ} {p : List ℤ} → Leads S l 0 p l []
-  by : {l r next n to : ℕ} {p : List ℤ} {prefix : List ℕ} → slot_at S l ≡ Has (Ref r) → HasField S.heap r (number_at p 0) next → Leads S next n (drop 1 p) to prefix
+  by : {l r next n to : ℕ} {p : List ℤ} {prefix : List ℕ} → slot_at S l ≡ Some (Ref r) → HasField S.heap r (number_at p 0) next → Leads S next n (drop 1 p) to prefix
       → Leads S l (suc n) p to (l ∷ prefix)
 
 -- "L: variable, n (0 to 7), n labels": p begins with an L, whose cell, prefix cells and rest are w
@@ -34,7 +35,7 @@ pub data Names (S : Cells) : List ℤ → Way → Type 0 where
 
 -- E-VAR and E-FIELD: p begins with an L that names a cell holding v, and q follows it
 pub data Holds (S : Cells) : List ℤ → Value → List ℤ → Type 0 where
-  holds : {w : Way} {v : Value} {p : List ℤ} → Names S p w → slot_at S w.cell ≡ Has v → Holds S p v w.rest
+  holds : {w : Way} {v : Value} {p : List ℤ} → Names S p w → slot_at S w.cell ≡ Some v → Holds S p v w.rest
 
 -- ---- literals: p begins with one, whose value is v, and q follows it
 
@@ -76,7 +77,7 @@ pub data Astray (S : Cells) : List ℤ → Type 0 where
 -- 7: the L at p names no cell, or an "absent variable"
 pub data Lost (S : Cells) : List ℤ → Type 0 where
   nowhere : {p : List ℤ} → Astray S p → Lost S p
-  absent : {w : Way} {p : List ℤ} → Names S p w → slot_at S w.cell ≡ Absent → Lost S p
+  absent : {w : Way} {p : List ℤ} → Names S p w → slot_at S w.cell ≡ None → Lost S p
 
 -- what an operand comes to: inside C a kind, outside it a value of that kind
 pub data Comes (S : Cells) : Bool → ℕ → List ℤ → Kind → List ℤ → Type 0 where

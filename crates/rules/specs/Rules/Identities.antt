@@ -1,10 +1,9 @@
 -- The identity phase (01, "What a statement does"; 000, Definitions 1 to 5, stay_prefix): what is tied, what is frozen, what is updated.
 -- Assumes nothing: these are definitions.
-use Rattle.std.specs.Prelude.{ℕ, ◌+◌, ◌≡◌, ◌≢◌, ◌⊎◌, ℤ, length, drop}
+use Rattle.std.specs.Prelude.{ℕ, ◌+◌, ◌≡◌, ◌≢◌, ◌⊎◌, ℤ, length, drop, Some}
 use mathlib.Core.List.{List, [], ◌∷◌, ◌++◌, Memᴰ as OneOf}
 use Rattle.tables.specs.declared.Value.{Value}
 use Rattle.tables.specs.declared.Value.TheVariants.{Nil, Ref}
-use Rattle.tables.specs.declared.Slot.TheVariants.{Has}
 use Rattle.tables.specs.declared.Sort.TheVariants.{Identities}
 use Rattle.tables.specs.Values.{cell_of}
 use Rattle.tables.specs.Cells.{Cells, cell_at}
@@ -77,4 +76,4 @@ pub record Phase (program kept : List ℤ) (before now : Cells) (target : ℕ) (
 pub data PhaseFails (program kept : List ℤ) (before : Cells) (target : ℕ) (prefix : List ℕ) (v : Value) : ℕ → Type 0 where
   no_node : {ts : List Tie} → TiesAre program before (positions kept Identities) ts → IsNamed ts target → (Node v → ⊥) → PhaseFails program kept before target prefix v 13
   clash : {ts : List Tie} {l : ℕ} → TiesAre program before (positions kept Identities) ts → (IsNamed ts target → Node v)
-      → Tied ts target l → Frozen prefix ts l → (slot_at before l ≡ Has v → ⊥) → PhaseFails program kept before target prefix v 12
+      → Tied ts target l → Frozen prefix ts l → (slot_at before l ≡ Some v → ⊥) → PhaseFails program kept before target prefix v 12

@@ -5,8 +5,7 @@ use Rattle.tables.specs.declared.Sort.TheVariants.{Values, Identities}
 use Rattle.tables.specs.Sizes.{constraints_words}
 use Rattle.tables.specs.Cells.{Cells}
 use Rattle.fit.specs.Fit.{Fit}
-use Rattle.program.specs.Where.{statement_at, constraints_stand}
-use Rattle.program.specs.declared.Spot.TheVariants.{At}
+use Rattle.program.specs.Where.{spot_of, statement_at, constraints_stand}
 use Rattle.rules.specs.State.{State, positions}
 use Rattle.rules.specs.Constraints.{Part}
 use Rattle.rules.specs.Rules.Constraints.{ConstraintIs}
@@ -31,4 +30,4 @@ pub record Stands (program : List ℤ) (S : State) : Type 0 where
 
 -- p is the part of the program that begins at a statement of it
 pub data AtStatement (program : List ℤ) : List ℤ → Type 0 where
-  at : (k : ℕ) {verb nest : ℕ} → statement_at program k ≡ At verb nest → AtStatement program (drop k program)
+  at : (k : ℕ) {verb nest : ℕ} → statement_at program k ≡ spot_of verb nest → AtStatement program (drop k program)

@@ -5,7 +5,9 @@ use Rattle.std.specs.Int.Signed.{lt_z, le_z}
 use Rattle.words.specs.Range.{fits}
 use Rattle.tables.specs.declared.Value.{Value}
 use Rattle.tables.specs.declared.Value.TheVariants.{Bool as Truth, Int}
-use Rattle.rules.specs.Evaluation.{Kind, is_bool, is_int, is_ref, kind_of}
+use Rattle.tables.specs.declared.Kind.{Kind}
+use Rattle.tables.specs.declared.Kind.TheVariants.{Bool as is_bool, Int as is_int, Ref as is_ref}
+use Rattle.rules.specs.Evaluation.{kind_of}
 
 -- T-OP: the operator takes operands of the first two kinds, and gives the third: "Operators 1 to 5, 8 and 9 want integers, 10 and 11 booleans";
 -- 02, W4: "operators 6 and 7 want two integers, two booleans or two nils"

@@ -1,7 +1,6 @@
 -- A proposal, by plain facts (01, "Proposal"): its form, the conditions on it, when it is accepted, and the number with which it is refused.
 -- Assumes nothing: these are definitions.
-use Rattle.std.specs.Prelude.{ℕ, suc, ◌≤◌, ◌<◌, ◌≡◌, true, false, List, [], ◌∷◌, ℤ, pos}
-use Rattle.std.proofs.Math.Option.{Option, some}
+use Rattle.std.specs.Prelude.{ℕ, suc, ◌≤◌, ◌<◌, ◌≡◌, true, false, List, [], ◌∷◌, ℤ, pos, Option, Some}
 use Rattle.tables.specs.Sizes.{locations}
 use Rattle.tables.specs.Values.{cell}
 use Rattle.tables.specs.Cells.{Cells, cell_at, put_cell}
@@ -38,7 +37,7 @@ pub data Puts : Cells → List Entry → Cells → Type 0 where
 pub record Allowed (S : Cells) (target : Option ℕ) (e : Entry) : Type 0 where
   pub kind : OfKind (cell_at S e.location) e.payload
   pub different : e.payload ≡ (cell_at S e.location).payload → ⊥
-  pub other : target ≡ some e.location → ⊥
+  pub other : target ≡ Some e.location → ⊥
 
 abbrev pub Met : Part → Type 0
 Met x = x.priority ≡ required → x.satisfied ≡ true

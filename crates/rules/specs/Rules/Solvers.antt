@@ -2,8 +2,7 @@
 use Rattle.std.specs.Prelude.{◌≡◌, ◌≢◌, ℕ, ◌≤◌, ℤ, pos, drop}
 use mathlib.Core.List.{List, [], ◌∷◌, Memᴰ as OneOf}
 use Rattle.program.specs.Grammar.{Program}
-use Rattle.program.specs.Where.{statement_at}
-use Rattle.program.specs.declared.Spot.TheVariants.{At}
+use Rattle.program.specs.Where.{spot_of, statement_at}
 use Rattle.rules.specs.State.{State, Fault, refused}
 use Rattle.rules.specs.Proposals.{Entry}
 use Rattle.rules.specs.Statements.{Left, place_of}
@@ -14,7 +13,7 @@ use Rattle.rules.specs.Rules.Answers.{Measured, Unstarted, Passes}
 
 -- "one of statements 1 to 4, named by its word": p is the part of the program that begins at it
 pub data Named (program : List ℤ) : ℤ → List ℤ → Type 0 where
-  named : {k verb nest : ℕ} → 1 ≤ verb → verb ≤ 4 → statement_at program k ≡ At verb nest → Named program (pos k) (drop k program)
+  named : {k verb nest : ℕ} → 1 ≤ verb → verb ≤ 4 → statement_at program k ≡ spot_of verb nest → Named program (pos k) (drop k program)
 
 -- ---- the statement at p with one slice, "each one whole proposal"
 

@@ -1,7 +1,6 @@
 -- The rules of statements that hold no block (000, 6.1.2, narrowed by document 01): which are accepted and what they leave, which are refused and with which number.
 -- p is the part that begins at the statement's word. Assumes nothing: these are definitions.
-use Rattle.std.specs.Prelude.{◌≡◌, ◌≢◌, ◌↔◌, ℕ, suc, ◌+◌, ◌<◌, ◌≤◌, Bool, true, false, List, [], ◌∷◌, ℤ, pos, length, drop}
-use Rattle.std.proofs.Math.Option.{Option, none, some}
+use Rattle.std.specs.Prelude.{◌≡◌, ◌≢◌, ◌↔◌, ℕ, suc, ◌+◌, ◌<◌, ◌≤◌, Bool, true, false, List, [], ◌∷◌, ℤ, pos, length, drop, Option, None, Some}
 use Rattle.words.specs.Words.{number_at}
 use Rattle.tables.specs.declared.Value.{Value}
 use Rattle.tables.specs.declared.Value.TheVariants.{Ref}
@@ -85,11 +84,11 @@ pub data Steps (program : List ℤ) (S : State) (ws : List ℤ) : List ℤ → L
   -- S-ASGN, S-ASGNNEW: the identity phase to Y, the value phase to Z
   s_gives : {target : ℕ} {prefix : List ℕ} {v : Value} {N Y Z : Cells} {p rest : List ℤ}
       → Gives S.cells p target prefix v N → Phase program S.kept S.cells N target prefix v Y
-      → Settles program S.kept (asking none (some target) true) Y ws Z rest → Steps program S ws p (leaves Z S.kept rest 1)
+      → Settles program S.kept (asking None (Some target) true) Y ws Z rest → Steps program S ws p (leaves Z S.kept rest 1)
   -- S-ALWAYS, S-ONCE: always keeps the position
-  s_always : {Z : Cells} {p kept rest : List ℤ} → Settles program S.kept (asking (some p) none true) S.cells ws Z rest
+  s_always : {Z : Cells} {p kept rest : List ℤ} → Settles program S.kept (asking (Some p) None true) S.cells ws Z rest
       → Keeps S.kept Values (position_of program (pos 3 ∷ p)) kept → Steps program S ws (pos 3 ∷ p) (leaves Z kept rest 1)
-  s_once : {Z : Cells} {p rest : List ℤ} → Settles program S.kept (asking (some p) none true) S.cells ws Z rest → Steps program S ws (pos 4 ∷ p) (leaves Z S.kept rest 1)
+  s_once : {Z : Cells} {p rest : List ℤ} → Settles program S.kept (asking (Some p) None true) S.cells ws Z rest → Steps program S ws (pos 4 ∷ p) (leaves Z S.kept rest 1)
   -- S-ALWAYSIDENTITY, S-ONCEIDENTITY: "No proposal is read."
   s_always_identity : {p kept : List ℤ}
       → Same S.cells p → Keeps S.kept Identities (position_of program (pos 5 ∷ p)) kept → Steps program S ws (pos 5 ∷ p) (leaves S.cells kept ws 0)
@@ -106,9 +105,9 @@ pub data Refused (program : List ℤ) (S : State) (ws : List ℤ) : List ℤ →
   f_phase : {n target : ℕ} {prefix : List ℕ} {v : Value} {N : Cells} {p : List ℤ}
       → Gives S.cells p target prefix v N → PhaseFails program S.kept S.cells target prefix v n → Refused program S ws p (refused n p)
   f_given : {target : ℕ} {prefix : List ℕ} {v : Value} {N Y : Cells} {f : Fault} {p : List ℤ} → Gives S.cells p target prefix v N → Phase program S.kept S.cells N target prefix v Y
-      → Unsettled program S.kept (asking none (some target) true) p Y ws f → Refused program S ws p f
+      → Unsettled program S.kept (asking None (Some target) true) p Y ws f → Refused program S ws p f
   f_always : {b : Bool} {f : Fault} {p : List ℤ} → (b ≡ true) ↔ ((after : List ℤ) × Keeps S.kept Values (position_of program (pos 3 ∷ p)) after)
-      → Unsettled program S.kept (asking (some p) none b) (pos 3 ∷ p) S.cells ws f → Refused program S ws (pos 3 ∷ p) f
-  f_once : {f : Fault} {p : List ℤ} → Unsettled program S.kept (asking (some p) none true) (pos 4 ∷ p) S.cells ws f → Refused program S ws (pos 4 ∷ p) f
+      → Unsettled program S.kept (asking (Some p) None b) (pos 3 ∷ p) S.cells ws f → Refused program S ws (pos 3 ∷ p) f
+  f_once : {f : Fault} {p : List ℤ} → Unsettled program S.kept (asking (Some p) None true) (pos 4 ∷ p) S.cells ws f → Refused program S ws (pos 4 ∷ p) f
   f_identity : {verb : ℕ} {f : Fault} {p : List ℤ} → 5 ≤ verb → verb ≤ 6 → Unsame S.cells (pos verb ∷ p) p f → Refused program S ws (pos verb ∷ p) f
   f_unkept : {p : List ℤ} → Same S.cells p → ((after : List ℤ) → Keeps S.kept Identities (position_of program (pos 5 ∷ p)) after → ⊥) → Refused program S ws (pos 5 ∷ p) (refused 14 (pos 5 ∷ p))

@@ -3,12 +3,14 @@ use Rattle.std.specs.Prelude.{◌≡◌, ◌≢◌, ◌↔◌, ℕ, suc, ◌≤�
 use Rattle.words.specs.Answer.{got, stop}
 use Rattle.tables.specs.declared.Value.{Value}
 use Rattle.tables.specs.declared.Value.TheVariants.{Bool as Truth}
+use Rattle.tables.specs.declared.Kind.{Kind}
+use Rattle.tables.specs.declared.Kind.TheVariants.{Bool as is_bool}
 use Rattle.tables.specs.Cells.{Cells}
 use Rattle.fit.specs.Fit.{Fit}
 use Rattle.program.specs.Forms.{expression_depth, most_parts, required}
 use Rattle.rules.specs.State.{Fault, Res}
 use Rattle.rules.specs.Paths.{Way, way_at}
-use Rattle.rules.specs.Evaluation.{Kind, is_bool, kind_of, evaluate, kind}
+use Rattle.rules.specs.Evaluation.{kind_of, evaluate, kind}
 use Rattle.rules.specs.Constraints.{Part, constraint_at}
 use Rattle.rules.specs.Rules.Expressions.{Names, Holds, Within, KindWithin}
 use Rattle.rules.specs.Rules.Constraints.{ConstraintIs}

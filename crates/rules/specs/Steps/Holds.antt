@@ -6,10 +6,9 @@ use Rattle.tables.specs.declared.Sort.TheVariants.{Values, Identities}
 use Rattle.tables.specs.Sizes.{constraints_words}
 use Rattle.tables.specs.Cells.{Cells}
 use Rattle.fit.specs.Fit.{Fit}
-use Rattle.program.specs.declared.Spot.TheVariants.{At}
 use Rattle.program.specs.Forms.{most_words}
 use Rattle.program.specs.Reading.{read_statement}
-use Rattle.program.specs.Where.{statement_at, constraints_stand}
+use Rattle.program.specs.Where.{spot_of, statement_at, constraints_stand}
 use Rattle.rules.specs.State.{State, positions}
 use Rattle.rules.specs.Constraints.{Part, kept_at}
 use Rattle.rules.specs.Identities.{same_now}
@@ -45,4 +44,4 @@ pub record StatementThere (program p : List ℤ) : Type 0 where
   pub short : length program ≤ most_words
   pub part : drop (position_of program p) program ≡ p
   pub statement : StatementReads p
-  pub there : statement_at program (position_of program p) ≡ At (number_at p 0) statement.nest
+  pub there : statement_at program (position_of program p) ≡ spot_of (number_at p 0) statement.nest

@@ -1,8 +1,7 @@
 -- The identity phase changes least (demand 3 (e); 000, Lemma 7). Assumes nothing.
-use Rattle.std.specs.Prelude.{ℕ, ◌≡◌, true, List, ℤ}
+use Rattle.std.specs.Prelude.{ℕ, ◌≡◌, true, List, ℤ, Some}
 use Rattle.words.specs.Answer.{got}
 use Rattle.tables.specs.declared.Value.{Value}
-use Rattle.tables.specs.declared.Slot.TheVariants.{Has}
 use Rattle.tables.specs.Values.{Sound}
 use Rattle.tables.specs.Cells.{Cells}
 use Rattle.fit.specs.Fit.{Fit}
@@ -14,7 +13,7 @@ use Rattle.rules.specs.Steps.Phases.{Relevant, RelevantUpdate, Clash, Satisfies,
 -- `phase` is what the identity phase comes to, `ts` are the kept identities, followed in the state before the statement
 pub record LeastChange (phase : Res Cells) (before now : Cells) (word : List ℤ) (target : ℕ) (prefix : List ℕ) (v : Value) (ts : List Tie) : Type 0 where
   -- a table that keeps the frozen cells, satisfies the identities and has the value at the target has it at every cell of the class
-  pub forced : (Y : Cells) → Solves prefix ts target v before Y → (l : ℕ) → Relevant ts target l → slot_at Y l ≡ Has v
+  pub forced : (Y : Cells) → Solves prefix ts target v before Y → (l : ℕ) → Relevant ts target l → slot_at Y l ≡ Some v
   -- so a clash makes such a table impossible, and where the clash refuses the statement there is none
   pub impossible : Clash prefix ts target v before → (Y : Cells) → Solves prefix ts target v before Y → ⊥
   pub refused : phase ≡ refuse 12 word → (Y : Cells) → Solves prefix ts target v before Y → ⊥

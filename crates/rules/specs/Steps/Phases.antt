@@ -1,9 +1,8 @@
 -- Words for what is shown of the identity phase on the way to the claims. Assumes nothing: these are definitions.
-use Rattle.std.specs.Prelude.{ℕ, ◌<◌, ◌≤◌, ◌≡◌, true, ℤ}
+use Rattle.std.specs.Prelude.{ℕ, ◌<◌, ◌≤◌, ◌≡◌, true, ℤ, Some}
 use mathlib.Core.List.{List, [], Memᴰ as OneOf}
 use Rattle.words.specs.Answer.{got}
 use Rattle.tables.specs.declared.Value.{Value}
-use Rattle.tables.specs.declared.Slot.TheVariants.{Has}
 use Rattle.tables.specs.Sizes.{variables, most_records, most_fields}
 use Rattle.tables.specs.Cells.{Cells, cells}
 use Rattle.tables.specs.Records.{record_count, with_record}
@@ -26,7 +25,7 @@ pub record Clash (prefix : List ℕ) (ts : List Tie) (target : ℕ) (v : Value) 
   pub cell : ℕ
   pub in_class : Relevant ts target cell
   pub frozen : Frozen prefix ts cell
-  pub other : slot_at before cell ≡ Has v → ⊥
+  pub other : slot_at before cell ≡ Some v → ⊥
 
 -- every identity holds: both ends of every tie hold the same
 abbrev pub Satisfies : Cells → List Tie → Type 0
@@ -36,7 +35,7 @@ Satisfies S ts = (t : Tie) → OneOf t ts → slot_at S t.one ≡ slot_at S t.tw
 pub record Solves (prefix : List ℕ) (ts : List Tie) (target : ℕ) (v : Value) (before Z : Cells) : Type 0 where
   pub keeps : (l : ℕ) → Frozen prefix ts l → slot_at Z l ≡ slot_at before l
   pub satisfies : Satisfies Z ts
-  pub has : slot_at Z target ≡ Has v
+  pub has : slot_at Z target ≡ Some v
 
 -- the target of an assignment is named by an L, that of a new is a variable
 pub data Target (before : Cells) : ℕ → List ℕ → Type 0 where
@@ -53,5 +52,5 @@ pub record Computed (program kept : List ℤ) (before now : Cells) (target : ℕ
   pub tied : List Tie
   pub followed : ties program kept before ≡ got tied
   pub node : IsNamed tied target → is_node v ≡ true
-  pub free : (l : ℕ) → Relevant tied target l → Frozen prefix tied l → slot_at before l ≡ Has v
+  pub free : (l : ℕ) → Relevant tied target l → Frozen prefix tied l → slot_at before l ≡ Some v
   pub written : Z ≡ put_all now (class_of tied target) v

@@ -2,7 +2,6 @@ use mathlib.Core.Path.{refl}
 use Rattle.words.proofs.Signed.{back32}
 use Rattle.words.proofs.answer_with.Goals as goal
 
--- src/whole.rt:82:1
 pub returns : goal.returns
 returns c =
     rw (

@@ -1,10 +1,8 @@
 use Rattle.words.proofs.Laws.{part-from, part-past}
 use Rattle.words.proofs.part_from.Goals as goal
 
--- src/lib.rt:46:1
 pub returns-then-k-s : goal.returns-then-k-s
-returns-then-k-s c = part-from c.args.s.now c.args.k
+returns-then-k-s g c = part-from c.args.s.now c.args.k
 
--- src/lib.rt:46:1
 pub returns-else-k-s : goal.returns-else-k-s
-returns-else-k-s c = part-past c.args.s.now c.args.k c.if-k-s.false
+returns-else-k-s g c = part-past c.args.s.now c.args.k c.if-k-s.false

@@ -3,10 +3,8 @@ use native.Mathlib.Omega.{arith}
 use lib.Seq.{length-take-le, take_all}
 use Rattle.words.proofs.part_to.Goals as goal
 
--- src/lib.rt:56:23
 pub slice_bounds-result-end : goal.slice_bounds-result-end
-slice_bounds-result-end c = sym (length-take-le c.args.k c.args.s.now c.if-k-s.true)
+slice_bounds-result-end g c = sym (length-take-le c.args.k c.args.s.now c.if-k-s.true)
 
--- src/lib.rt:53:1
 pub returns-else-k-s : goal.returns-else-k-s
-returns-else-k-s c = sym (take_all c.args.k c.args.s.now (omega arith))
+returns-else-k-s g c = sym (take_all c.args.k c.args.s.now (omega arith))

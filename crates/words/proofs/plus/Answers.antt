@@ -2,19 +2,15 @@ use Rattle.words.proofs.Signed.{wide, as_wide, back64, sum_fits}
 use mathlib.Core.Path.{◌∙◌}
 use Rattle.words.proofs.plus.Goals as goal
 
--- src/lib.rt:114:13
 pub overflow_cast-a : goal.overflow_cast-a
 overflow_cast-a c = wide c.args.a c.ranges.a
 
--- src/lib.rt:114:26
 pub overflow_cast-b : goal.overflow_cast-b
 overflow_cast-b c = wide c.args.b c.ranges.b
 
--- src/lib.rt:114:12
 pub overflow_add-a : goal.overflow_add-a
 overflow_add-a c = rw (as_wide c.args.a c.ranges.a, as_wide c.args.b c.ranges.b) (sum_fits c.args.a c.args.b c.ranges.a c.ranges.b)
 
--- src/lib.rt:111:1
 pub returns : goal.returns
 returns c =
     let p = as_wide c.args.a c.ranges.a in

@@ -1,19 +1,19 @@
+use borrow.Author.Rules.{rules}
 use Rattle.words.proofs.Signed.{back32}
-use Rattle.phases.specs.Told.{tables}
-use Rattle.run.proofs.WholeLaws.{begins}
+use Rattle.phases.specs.Told.{tables, state_in}
+use Rattle.run.proofs.WholeLaws.{begins, moved}
 use Rattle.entries.proofs.WholeLaws.{meets-early, meets-listed}
 use Rattle.entries.proofs.whole.assign.Goals as goal
 
--- src/whole.rt:103:1
-pub returns-in-Early : goal.returns-in-Early
-returns-in-Early c =
+pub returns-in-Err : goal.returns-in-Err
+returns-in-Err c =
     let b = back32 c.args.budget c.ranges.budget in
-    meets-early c.args.program.now c.args.entries.now c.args.proposals.now c.args.budget (tables c.args.environment.now c.args.heap.now c.args.constraints.now) (rw b at c.starts.ensures) c.in-Early.is c.answer_with.ensures
+    meets-early c.args.program.now c.args.entries.now c.args.proposals.now c.args.budget (tables c.args.environment.now c.args.heap.now c.args.constraints.now) (rw (b, c.view-seen.ensures.cells, c.view-seen.ensures.kept) at c.starts.ensures) c.in-Err.is c.answer_with.ensures
 
--- src/whole.rt:103:1
-pub returns-in-Begins : goal.returns-in-Begins
-returns-in-Begins c =
+pub returns-in-Ok : goal.returns-in-Ok
+returns-in-Ok c =
     let b = back32 c.args.budget c.ranges.budget in
-    let x = begins c.args.program.now c.args.budget (tables c.args.environment.now c.args.heap.now c.args.constraints.now) (rw b at c.starts.ensures) c.in-Begins.is in
+    let x = begins c.args.program.now c.args.budget (tables c.args.environment.now c.args.heap.now c.args.constraints.now) (rw (b, c.view-seen.ensures.cells, c.view-seen.ensures.kept) at c.starts.ensures) c.in-Ok.is in
     rw c.part_last.ensures
-    (meets-listed c.args.program.now c.args.entries.now c.args.proposals.now c.args.budget (tables c.args.environment.now c.args.heap.now c.args.constraints.now) {Z = tables c.enter_all-t.new.environment c.enter_all-t.new.heap c.enter_all-t.new.constraints} _ x (rw (rw b at c.number.ensures) at c.enter_all-t.ensures) c.answer_with-in-Begins.ensures)
+    (moved c.enter_all-tally.new.t (search rules) (search rules) (search rules)
+    (meets-listed c.args.program.now c.args.entries.now c.args.proposals.now c.args.budget (tables c.args.environment.now c.args.heap.now c.args.constraints.now) {Z = state_in c.enter_all-tally.new.t} _ x (rw (rw b at c.number-most.ensures) at c.enter_all-tally.ensures.given) c.answer_with-in-Ok.ensures))

@@ -1,20 +1,21 @@
-use Rattle.tables.specs.Cells.{cells}
-use Rattle.expressions.specs.Judging.{own_of}
+use Rattle.std.proofs.lemmas.Result.{err_from_is_err_and}
+use Rattle.tables.specs.Lending.{seen}
+use Rattle.expressions.specs.Judging.{own_in}
 use Rattle.expressions.proofs.ConstraintLaws.{counted-own, counted-kept, counted-both}
 use Rattle.expressions.proofs.constraints.counted_at.Goals as goal
 
--- src/constraints.rt:126:1
-pub returns-in-Fails : goal.returns-in-Fails
-returns-in-Fails c = counted-own c.args.program.now (cells c.args.environment.now c.args.heap.now) c.args.constraints.now (own_of c.args.owns c.args.own.now) c.own_at.ensures c.in-Fails.is
+pub returns-in_err-ours : goal.returns-in_err-ours
+returns-in_err-ours c =
+    let e = err_from_is_err_and c.from_residual.result c.from_residual.ensures.1 in
+    rw (e.1, e.2) (counted-own c.args.program.now (seen c.args.t.now) c.args.t.now.constraints.now (own_in c.args.own) c.own_at.ensures c.in_err-ours.was)
 
--- src/constraints.rt:126:1
-pub returns-in-Fails-kept_at : goal.returns-in-Fails-kept_at
-returns-in-Fails-kept_at c =
-    counted-kept c.args.program.now (cells c.args.environment.now c.args.heap.now) c.args.constraints.now (own_of c.args.owns c.args.own.now) c.own_at.ensures c.in-Reads.is
-    c.kept_at.ensures c.in-Fails-kept_at.is
+pub returns-in_err-kept : goal.returns-in_err-kept
+returns-in_err-kept c =
+    let e = err_from_is_err_and c.from_residual-in_err-kept.result c.from_residual-in_err-kept.ensures.1 in
+    rw (e.1, e.2)
+    (counted-kept c.args.program.now (seen c.args.t.now) c.args.t.now.constraints.now (own_in c.args.own) c.own_at.ensures c.in_ok-ours.was c.kept_at.ensures c.in_err-kept.was)
 
--- src/constraints.rt:126:1
-pub returns-in-Reads-kept_at : goal.returns-in-Reads-kept_at
-returns-in-Reads-kept_at c =
-    counted-both c.args.program.now (cells c.args.environment.now c.args.heap.now) c.args.constraints.now (own_of c.args.owns c.args.own.now) c.own_at.ensures c.in-Reads.is
-    c.kept_at.ensures c.in-Reads-kept_at.is
+pub returns : goal.returns
+returns c =
+    counted-both c.args.program.now (seen c.args.t.now) c.args.t.now.constraints.now (own_in c.args.own) c.own_at.ensures c.in_ok-ours.was
+    c.kept_at.ensures c.in_ok-kept.was

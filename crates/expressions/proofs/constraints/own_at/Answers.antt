@@ -1,12 +1,10 @@
-use mathlib.Core.Path.{◌∙◌}
-use Rattle.tables.specs.Cells.{cells}
+use Rattle.std.proofs.Common.{◌∙◌}
+use Rattle.tables.specs.Lending.{seen}
 use Rattle.expressions.proofs.ConstraintLaws.{own-absent, own-there}
 use Rattle.expressions.proofs.constraints.own_at.Goals as goal
 
--- src/constraints.rt:120:9
-pub returns-then-not-owns : goal.returns-then-not-owns
-returns-then-not-owns c = rw c.if-not-owns.true (own-absent (cells c.args.environment.now c.args.heap.now) c.args.own.now)
+pub returns-in-Some : goal.returns-in-Some
+returns-in-Some c = rw c.in-Some.is (c.constraint_at.ensures ∙ own-there (seen c.args.t.now) c.in-Some.p.now)
 
--- src/constraints.rt:116:1
-pub returns : goal.returns
-returns c = rw c.if-not-owns.false (c.constraint_at.ensures ∙ own-there (cells c.args.environment.now c.args.heap.now) c.args.own.now)
+pub returns-in-None : goal.returns-in-None
+returns-in-None c = rw c.in-None.is (own-absent (seen c.args.t.now))

@@ -1,18 +1,17 @@
+use Rattle.std.proofs.lemmas.Result.{err_from_is_err_and}
 use Rattle.expressions.proofs.ConstraintLaws.{parts-start, parts-stop, parts-go-on, parts-end}
 use Rattle.expressions.proofs.constraints.parts_at.Goals as goal
 
--- src/constraints.rt:61:5
 pub loop-i-init : goal.loop-i-init
 loop-i-init c = parts-start
 
--- src/constraints.rt:64:17
-pub returns-in-Fails : goal.returns-in-Fails
-returns-in-Fails c = parts-stop c.loop-i.invariant c.loop-i-test.true c.part_last.ensures c.part_at.ensures c.in-Fails.is
+pub returns-in_err-part : goal.returns-in_err-part
+returns-in_err-part c =
+    let e = err_from_is_err_and c.from_residual.result c.from_residual.ensures.1 in
+    rw (e.1, e.2) (parts-stop c.loop-i.invariant c.loop-i-test.true c.part_last.ensures c.part_at.ensures c.in_err-part.was)
 
--- src/constraints.rt:61:5
 pub loop-i-preserved : goal.loop-i-preserved
-loop-i-preserved c = parts-go-on c.loop-i.invariant c.loop-i-test.true c.part_last.ensures c.part_at.ensures c.in-Part.is
+loop-i-preserved c = parts-go-on c.loop-i.invariant c.loop-i-test.true c.part_last.ensures c.part_at.ensures c.in_ok-part.was
 
--- src/constraints.rt:54:1
 pub returns : goal.returns
 returns c = parts-end c.loop-i.invariant c.loop-i-test.false

@@ -1,17 +1,19 @@
-use mathlib.Core.Path.{ap, ◌∙◌}
-use Rattle.tables.specs.Cells.{cells}
-use Rattle.tables.specs.Values.{slot_of}
+use Rattle.std.proofs.lemmas.Result.{err_from_is_err_and}
+use Rattle.tables.specs.Lending.{seen}
 use Rattle.expressions.proofs.PathLaws.{value-lost, value-named}
 use Rattle.expressions.proofs.paths.value_at.Goals as goal
 
--- src/paths.rt:70:1
-pub returns-in-Has : goal.returns-in-Has
-returns-in-Has c = rw c.in-Has.is at (value-named (cells c.args.environment.now c.args.heap.now) c.args.p.now c.cell_at.ensures c.in-Cell.is (c.slot_of-slot.ensures ∙ ap slot_of c.read_cell.ensures))
+pub returns-in_err-named : goal.returns-in_err-named
+returns-in_err-named c =
+    let e = err_from_is_err_and c.from_residual.result c.from_residual.ensures.1 in
+    rw (e.1, e.2) (value-lost (seen c.args.t.now) c.args.p.now c.cell_at.ensures c.in_err-named.was)
 
--- src/paths.rt:70:1
-pub returns-in-Absent : goal.returns-in-Absent
-returns-in-Absent c = rw c.in-Absent.is at (value-named (cells c.args.environment.now c.args.heap.now) c.args.p.now c.cell_at.ensures c.in-Cell.is (c.slot_of-slot.ensures ∙ ap slot_of c.read_cell.ensures))
+pub returns-in-Some : goal.returns-in-Some
+returns-in-Some c =
+    let e = value-named (seen c.args.t.now) c.args.p.now {n = c.in_ok-named.named} c.cell_at.ensures c.in_ok-named.was c.value.ensures in
+    rw c.in-Some.is at e
 
--- src/paths.rt:70:1
-pub returns-in-Lost : goal.returns-in-Lost
-returns-in-Lost c = value-lost (cells c.args.environment.now c.args.heap.now) c.args.p.now c.cell_at.ensures c.in-Lost.is
+pub returns-in-None : goal.returns-in-None
+returns-in-None c =
+    let e = value-named (seen c.args.t.now) c.args.p.now {n = c.in_ok-named.named} c.cell_at.ensures c.in_ok-named.was c.value.ensures in
+    rw c.at.ensures (rw c.in-None.is at e)

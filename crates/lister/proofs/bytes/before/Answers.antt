@@ -1,18 +1,14 @@
-use Rattle.lister.proofs.ByteLaws.{finding-starts, finding-found, finding-goes-on, finding-ends}
+use Rattle.std.proofs.Common.{rules, ap, ◌∙◌, length, nat_eq}
+use borrow.Author.Tests.{tests}
+use Rattle.std.specs.Option.{unwrap_or}
+use Rattle.std.proofs.lemmas.Iterator.{YieldsList-from_slice}
+use Rattle.std.proofs.lemmas.Iterator.Search.{position_from_yields_List}
+use Rattle.lister.proofs.ByteLaws.{first_place}
 use Rattle.lister.proofs.bytes.before.Goals as goal
 
--- src/bytes.rt:26:5
-pub loop-i-init : goal.loop-i-init
-loop-i-init c = finding-starts
-
--- src/bytes.rt:28:13
-pub returns-then-s-i : goal.returns-then-s-i
-returns-then-s-i c = finding-found c.loop-i.invariant c.loop-i-test.true c.if-s-i.true
-
--- src/bytes.rt:26:5
-pub loop-i-preserved : goal.loop-i-preserved
-loop-i-preserved c = finding-goes-on c.loop-i.invariant c.loop-i-test.true c.if-s-i.false
-
--- src/bytes.rt:22:1
 pub returns : goal.returns
-returns c = finding-ends c.loop-i.invariant c.loop-i-test.false
+returns c =
+    c.unwrap_or.ensures
+    ∙ ap (λ o. unwrap_or o (length c.args.s.now))
+    (position_from_yields_List (λ x. nat_eq x c.args.b) _ _ c.position.result c.position.ensures.ran (YieldsList-from_slice c.args.s.now cc) (λ x b q k. search (rules, tests)))
+    ∙ first_place c.args.b c.args.s.now

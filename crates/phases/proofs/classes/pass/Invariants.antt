@@ -1,11 +1,7 @@
-use Prim.Native.Nat.{◌-◌}
-use Rattle.tables.specs.Cells.{cells}
+use Rattle.tables.specs.Lending.{seen}
 use Rattle.phases.specs.Tying.{tie_no}
 use Rattle.phases.proofs.WalkLaws.{Walking}
 use Rattle.phases.proofs.classes.pass.Given as goal
 
 abbrev pub invariant-loop-i : goal.invariant-loop-i
-invariant-loop-i l = Walking (tie_no l.program l.constraints (cells l.environment l.heap)) l.n l.back l.target l.initial.class l.class l.names l.again l.apart l.i
-
-abbrev pub decreases-loop-i : goal.decreases-loop-i
-decreases-loop-i l = l.n - l.i
+invariant-loop-i l = Walking (tie_no l.program l.t.constraints.now (seen l.t)) l.n l.back l.target l.initial.class l.class l.names l.again l.apart l.i

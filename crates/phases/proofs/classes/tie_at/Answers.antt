@@ -1,15 +1,17 @@
-use Rattle.tables.specs.Cells.{cells}
+use Rattle.std.proofs.lemmas.Result.{err_from_is_err_and}
+use Rattle.tables.specs.Lending.{seen}
 use Rattle.phases.proofs.TieLaws.{tie-lost, tie-second-lost, tie-found}
 use Rattle.phases.proofs.classes.tie_at.Goals as goal
 
--- src/classes.rt:32:1
-pub returns-in-Lost : goal.returns-in-Lost
-returns-in-Lost c = tie-lost (cells c.args.environment.now c.args.heap.now) c.args.p.now c.cell_at.ensures c.in-Lost.is
+pub returns-in_err-one : goal.returns-in_err-one
+returns-in_err-one c =
+    let e = err_from_is_err_and c.from_residual.result c.from_residual.ensures.1 in
+    rw (e.1, e.2) (tie-lost (seen c.args.t.now) c.args.p.now c.cell_at.ensures c.in_err-one.was)
 
--- src/classes.rt:32:1
-pub returns-in-Lost-cell_at : goal.returns-in-Lost-cell_at
-returns-in-Lost-cell_at c = tie-second-lost (cells c.args.environment.now c.args.heap.now) c.args.p.now c.cell_at.ensures c.in-Cell.is c.part_last.ensures c.cell_at-in-Cell.ensures c.in-Lost-cell_at.is
+pub returns-in_err-two : goal.returns-in_err-two
+returns-in_err-two c =
+    let e = err_from_is_err_and c.from_residual-in_err-two.result c.from_residual-in_err-two.ensures.1 in
+    rw (e.1, e.2) (tie-second-lost (seen c.args.t.now) c.args.p.now c.cell_at.ensures c.in_ok-one.was c.part_last.ensures c.cell_at-2.ensures c.in_err-two.was)
 
--- src/classes.rt:32:1
-pub returns-in-Cell-cell_at : goal.returns-in-Cell-cell_at
-returns-in-Cell-cell_at c = tie-found (cells c.args.environment.now c.args.heap.now) c.args.p.now c.cell_at.ensures c.in-Cell.is c.part_last.ensures c.cell_at-in-Cell.ensures c.in-Cell-cell_at.is
+pub returns : goal.returns
+returns c = tie-found (seen c.args.t.now) c.args.p.now c.cell_at.ensures c.in_ok-one.was c.part_last.ensures c.cell_at-2.ensures c.in_ok-two.was

@@ -1,28 +1,28 @@
-use native.Mathlib.Omega.{arith}
+use mathlib.Core.Path.{ap, ◌∙◌}
+use Rattle.std.proofs.lemmas.Result.{err_from_is_err_and}
+use Rattle.tables.specs.Records.{record_count}
 use Rattle.phases.proofs.ClassLaws.{unmarked-none}
-use Rattle.phases.proofs.PhaseLaws.{does-same, new-nowhere, new-full, new-clash, new-moves}
+use Rattle.phases.proofs.PhaseLaws.{does-same, heap-seen, new-nowhere, new-full, new-clash, new-moves}
 use Rattle.phases.proofs.giving.give_new.Goals as goal
 
--- src/giving.rt:237:9
-pub returns-then-x-ge-VARIABLES : goal.returns-then-x-ge-VARIABLES
-returns-then-x-ge-VARIABLES c = new-nowhere c.args.program.now c.args.p.now c.args.constraints.now c.args.proposals.now c.args.environment.now c.args.heap.now c.args.x c.args.fields.now c.args.n c.if-x-ge-VARIABLES.true c.less.ensures
+pub returns-then-x-ge-VARIABLES-clause-does : goal.returns-then-x-ge-VARIABLES-clause-does
+returns-then-x-ge-VARIABLES-clause-does c = rw (c.at.ensures, c.part_from.ensures) (new-nowhere c.args.program.now c.args.p.now c.args.t.now.constraints.now c.args.proposals.now c.args.t.now.environment.now c.args.t.now.heap.now c.args.x c.args.fields.now c.args.n c.if-x-ge-VARIABLES.true)
 
--- src/giving.rt:241:9
-pub returns-then-r-ge-RECORDS : goal.returns-then-r-ge-RECORDS
-returns-then-r-ge-RECORDS c = new-full c.args.program.now c.args.p.now c.args.constraints.now c.args.proposals.now c.args.environment.now c.args.heap.now c.args.x c.args.fields.now c.args.n c.if-x-ge-VARIABLES.false (rw c.record_count-r.ensures at c.if-r-ge-RECORDS.true)
+pub returns-then-r-ge-RECORDS-clause-does : goal.returns-then-r-ge-RECORDS-clause-does
+returns-then-r-ge-RECORDS-clause-does c =
+    let r = c.record_count-r.ensures ∙ ap record_count (heap-seen c.view-seen.ensures.cells) in
+    rw c.at-then-r-ge-RECORDS.ensures (new-full c.args.program.now c.args.p.now c.args.t.now.constraints.now c.args.proposals.now c.args.t.now.environment.now c.args.t.now.heap.now c.args.x c.args.fields.now c.args.n c.if-x-ge-VARIABLES.false (rw r at c.if-r-ge-RECORDS.true))
 
--- src/giving.rt:244:11
-pub mark_class-requires : goal.mark_class-requires
-mark_class-requires c = record { target_lt_locations = omega (arith, c.if-x-ge-VARIABLES.false); unmarked = unmarked-none }
+pub mark_class-requires-clause-unmarked : goal.mark_class-requires-clause-unmarked
+mark_class-requires-clause-unmarked c = unmarked-none
 
--- src/giving.rt:255:25
-pub move_new-requires : goal.move_new-requires
-move_new-requires c = record { class_len = (c.mark_class.ensures.finds c.in-May.is).long; class_len_bound = (c.mark_class.ensures.finds c.in-May.is).few }
+pub returns-in_err-mark_class-clause-does : goal.returns-in_err-mark_class-clause-does
+returns-in_err-mark_class-clause-does c =
+    let r = c.record_count-r.ensures ∙ ap record_count (heap-seen c.view-seen.ensures.cells) in
+    let e = err_from_is_err_and c.from_residual.result c.from_residual.ensures.1 in
+    rw (e.1, e.2) (new-clash c.args.program.now c.args.p.now c.args.t.now.constraints.now c.args.proposals.now c.args.t.now.environment.now c.args.t.now.heap.now c.args.x c.args.fields.now c.args.n c.if-x-ge-VARIABLES.false (rw r at c.if-r-ge-RECORDS.false) (rw (c.view-seen.ensures.cells, c.view-seen.ensures.kept, r) at c.mark_class.ensures) c.in_err-mark_class.was)
 
--- src/giving.rt:223:1
-pub returns-in-Refuses : goal.returns-in-Refuses
-returns-in-Refuses c = new-clash c.args.program.now c.args.p.now c.args.constraints.now c.args.proposals.now c.args.environment.now c.args.heap.now c.args.x c.args.fields.now c.args.n c.if-x-ge-VARIABLES.false (rw c.record_count-r.ensures at c.if-r-ge-RECORDS.false) (rw c.record_count-r.ensures at c.mark_class.ensures) c.in-Refuses.is
-
--- src/giving.rt:223:1
-pub returns-in-May : goal.returns-in-May
-returns-in-May c = does-same (new-moves c.args.program.now c.args.p.now c.args.constraints.now c.args.proposals.now c.args.environment.now c.args.heap.now c.args.x c.args.fields.now c.args.n c.if-x-ge-VARIABLES.false (rw c.record_count-r.ensures at c.if-r-ge-RECORDS.false) (rw c.record_count-r.ensures at c.mark_class.ensures) c.in-May.is) c.move_new.ensures
+pub returns-clause-does : goal.returns-clause-does
+returns-clause-does c =
+    let r = c.record_count-r.ensures ∙ ap record_count (heap-seen c.view-seen.ensures.cells) in
+    does-same (new-moves c.args.program.now c.args.p.now c.args.t.now.constraints.now c.args.proposals.now c.args.t.now.environment.now c.args.t.now.heap.now c.args.x c.args.fields.now c.args.n c.if-x-ge-VARIABLES.false (rw r at c.if-r-ge-RECORDS.false) (rw (c.view-seen.ensures.cells, c.view-seen.ensures.kept, r) at c.mark_class.ensures) c.in_ok-mark_class.was) c.move_new.ensures.does

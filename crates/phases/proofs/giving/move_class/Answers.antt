@@ -1,19 +1,13 @@
-use native.Mathlib.Omega.{arith}
+use mathlib.Core.Path.{◌∙◌}
 use Rattle.phases.proofs.PhaseLaws.{move-takes, move-refuses}
 use Rattle.phases.proofs.giving.move_class.Goals as goal
 
--- src/giving.rt:117:5
-pub put_class-requires : goal.put_class-requires
-put_class-requires c = record { class_len = c.requires.class_len; class_in_bounds = omega (arith, c.requires.class_len_bound) }
+pub returns-in-Ok-clause-does : goal.returns-in-Ok-clause-does
+returns-in-Ok-clause-does c =
+    rw (c.settle.ensures.rest.kept ∙ c.put_class.ensures.rest.kept)
+    (move-takes c.args.program.now c.args.t.now.constraints.now c.args.p.now c.args.target c.args.proposals.now (rw c.put_class.ensures.rest.kept at c.settle.ensures.settles) c.put_class.ensures.gives c.in-Ok.is)
 
--- src/giving.rt:127:13
-pub take_back-requires : goal.take_back-requires
-take_back-requires c = c.requires.class_len
-
--- src/giving.rt:101:1
-pub returns-in-Takes : goal.returns-in-Takes
-returns-in-Takes c = move-takes c.args.program.now c.args.constraints.now c.args.p.now c.args.target c.args.proposals.now c.settle.ensures c.put_class.ensures c.in-Takes.is
-
--- src/giving.rt:101:1
-pub returns-in-Refuses : goal.returns-in-Refuses
-returns-in-Refuses c = move-refuses c.args.program.now c.args.constraints.now c.args.p.now c.args.target c.args.proposals.now c.settle.ensures c.put_class.ensures c.in-Refuses.is c.take_back.ensures
+pub returns-in-Err-clause-does : goal.returns-in-Err-clause-does
+returns-in-Err-clause-does c =
+    rw (c.take_back.ensures.rest.kept ∙ c.settle.ensures.rest.kept ∙ c.put_class.ensures.rest.kept)
+    (move-refuses c.args.program.now c.args.t.now.constraints.now c.args.p.now c.args.target c.args.proposals.now (rw c.put_class.ensures.rest.kept at c.settle.ensures.settles) c.put_class.ensures.gives c.in-Err.is c.take_back.ensures.cells)

@@ -1,19 +1,13 @@
-use Rattle.printing.proofs.FaultLaws.{counting-starts, counting-one, counting-none, counting-ends}
+use mathlib.Core.Path.{◌≡◌, sym, ◌∙◌}
+use lib.Dec.{ltb}
+use lib.ListN.{take, drop}
+use Rattle.std.proofs.Common.{rules}
+use Rattle.std.specs.List.{count_by}
+use Rattle.printing.specs.Naming.{rank}
+use Rattle.printing.proofs.FaultLaws.{used-count}
 use Rattle.printing.proofs.faults.used.Goals as goal
-use Rattle.printing.proofs.faults.used.Goals.{then-standing-gt0, else-standing-gt0}
 
--- src/faults.rt:152:5
-pub loop-i-init : goal.loop-i-init
-loop-i-init c = counting-starts
-
--- src/faults.rt:152:5
-pub loop-i-preserved : goal.loop-i-preserved
-loop-i-preserved c =
-    elim c.if-standing-gt0.branch [
-      | then-standing-gt0 w ↦ counting-one c.loop-i.invariant c.loop-i-test.true c.standing.ensures w.if-standing-gt0.true w.count-is
-      | else-standing-gt0 w ↦ counting-none c.loop-i.invariant c.loop-i-test.true c.standing.ensures w.if-standing-gt0.false w.count-is
-    ]
-
--- src/faults.rt:145:1
 pub returns : goal.returns
-returns c = counting-ends c.loop-i.invariant c.loop-i-test.false
+returns c =
+    let e : c.count.result ≡ count_by (λ x. ltb 0 (rank x)) (take c.args.n (drop c.args.from c.args.seen.now)) = search rules in
+    e ∙ sym (used-count c.args.seen.now c.args.from c.args.n)

@@ -1,16 +1,16 @@
 use Prim.Native.Nat.{◌-◌}
-use mathlib.Core.Path.{◌∙◌}
+use mathlib.Core.Path.{◌≡◌, ◌∙◌}
+use lib.ListN.{length}
+use Rattle.std.proofs.Common.{rules}
 use Rattle.printing.proofs.NameLaws.{put-short, default-variable, default-label}
 use Rattle.printing.proofs.names.default_name.Goals as goal
 
--- src/names.rt:46:9
-pub returns-then-i-lt-FIRST_LABEL : goal.returns-then-i-lt-FIRST_LABEL
-returns-then-i-lt-FIRST_LABEL c =
-    let w = put-short c.args.i c.put-arg-1.given.0.1 c.put-k.ensures c.put_natural.ensures in
-    record { b_after = w.0 ∙ default-variable c.args.i c.if-i-lt-FIRST_LABEL.true; b_len = w.1 }
+pub returns-then-i-lt-FIRST_LABEL-clause-b_after : goal.returns-then-i-lt-FIRST_LABEL-clause-b_after
+returns-then-i-lt-FIRST_LABEL-clause-b_after c =
+    let l : length c.args.b.now ≡ 24 = search rules in
+    put-short c.args.i l c.put-k.ensures c.put_natural.ensures ∙ default-variable c.args.i c.if-i-lt-FIRST_LABEL.true
 
--- src/names.rt:40:1
-pub returns : goal.returns
-returns c =
-    let w = put-short (c.args.i - 64) c.put-arg-2-1.given.0.1 c.put-k-2.ensures c.put_natural-2.ensures in
-    record { b_after = w.0 ∙ default-label c.args.i c.if-i-lt-FIRST_LABEL.false; b_len = w.1 }
+pub returns-clause-b_after : goal.returns-clause-b_after
+returns-clause-b_after c =
+    let l : length c.args.b.now ≡ 24 = search rules in
+    put-short (c.args.i - 64) l c.put-k-2.ensures c.put_natural-2.ensures ∙ default-label c.args.i c.if-i-lt-FIRST_LABEL.false

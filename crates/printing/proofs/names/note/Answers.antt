@@ -1,25 +1,13 @@
-use mathlib.Core.Path.{◌∙◌, sym, ap}
-use mathlib.Core.Bool.{Bool, cond}
-use native.Mathlib.Omega.{arith}
-use Rattle.printing.proofs.NameLaws.{noted-old, noted-new, noted-past}
+use mathlib.Core.Path.{sym, ◌∙◌}
+use Rattle.printing.specs.declared.names.Standing.TheVariants.{Led, Early}
+use Rattle.printing.proofs.FaultLaws.{noted-set}
 use Rattle.printing.proofs.names.note.Goals as goal
+use Rattle.printing.proofs.names.note.Goals.{then-is_led, else-is_led}
 
--- src/names.rt:89:9
-pub returns-then-standing-gt0 : goal.returns-then-standing-gt0
-returns-then-standing-gt0 c = noted-old _ _ c.standing.ensures c.if-standing-gt0.true
-
--- src/names.rt:92:9
-pub returns-then-i-ge-NUMBERS : goal.returns-then-i-ge-NUMBERS
-returns-then-i-ge-NUMBERS c = noted-past _ _ c.standing.ensures c.if-standing-gt0.false (omega (arith, c.standing-arg-2-1.given, c.if-i-ge-NUMBERS.true))
-
--- src/names.rt:96:9
-pub returns-then-is_led : goal.returns-then-is_led
-returns-then-is_led c =
-    noted-new _ _ c.standing.ensures c.if-standing-gt0.false
-    (ap (λ (b : Bool). cond b 1 2) (sym c.if-is_led.true ∙ c.is_led.ensures))
-
--- src/names.rt:85:1
-pub returns : goal.returns
-returns c =
-    noted-new _ _ c.standing.ensures c.if-standing-gt0.false
-    (ap (λ (b : Bool). cond b 1 2) (sym c.if-is_led.false ∙ c.is_led.ensures))
+pub returns-after-is_led : goal.returns-after-is_led
+returns-after-is_led c =
+    let u = sym (rw c.standing_at.ensures at c.is_used.ensures) ∙ c.if-not-is_used.true in
+    elim c.if-is_led.branch [
+      | then-is_led w ↦ rw w.seen-is (noted-set c.args.seen.now c.args.i Led u (rw (sym c.is_led.ensures ∙ w.if-is_led.true)))
+      | else-is_led w ↦ rw w.seen-is (noted-set c.args.seen.now c.args.i Early u (rw (sym c.is_led.ensures ∙ w.if-is_led.false)))
+    ]

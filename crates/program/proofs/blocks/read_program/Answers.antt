@@ -1,19 +1,15 @@
-use borrow.Author.Tests.{not-true, not-false}
 use Rattle.program.proofs.BlockLaws.{program-long, program-unfit, program-reads, program-extra}
+use Rattle.program.proofs.blocks.read_program.Goals.{in-Ok, in-Ok-2}
 use Rattle.program.proofs.blocks.read_program.Goals as goal
 
--- src/blocks.rt:144:9
 pub returns-then-p-gt-MOST_WORDS : goal.returns-then-p-gt-MOST_WORDS
 returns-then-p-gt-MOST_WORDS c = program-long c.args.p.now c.if-p-gt-MOST_WORDS.true
 
--- src/blocks.rt:148:9
-pub returns-then-not-a : goal.returns-then-not-a
-returns-then-not-a c = rw c.less.ensures (program-unfit c.args.p.now c.if-p-gt-MOST_WORDS.false c.read_block-a.ensures (not-true _ c.if-not-a.true))
+pub returns-in-Ok-eq0 : goal.returns-in-Ok-eq0
+returns-in-Ok-eq0 c = program-reads c.args.p.now c.if-p-gt-MOST_WORDS.false (rw c.in-Ok-eq0.field-0-test at c.in-Ok-eq0.ensures)
 
--- src/blocks.rt:151:9
-pub returns-then-a-eq0 : goal.returns-then-a-eq0
-returns-then-a-eq0 c = program-reads c.args.p.now c.if-p-gt-MOST_WORDS.false c.read_block-a.ensures (not-false _ c.if-not-a.false) c.if-a-eq0.true
-
--- src/blocks.rt:140:1
-pub returns : goal.returns
-returns c = rw c.less-2.ensures (program-extra c.args.p.now c.if-p-gt-MOST_WORDS.false c.read_block-a.ensures (not-false _ c.if-not-a.false) c.if-a-eq0.false)
+pub returns-in-Ok : goal.returns-in-Ok
+returns-in-Ok c = elim c.in-Ok-1.branch [
+  | in-Ok w ↦ rw c.less.ensures (program-extra c.args.p.now c.if-p-gt-MOST_WORDS.false (rw w.left-is w.in-Ok.ensures) (rw w.left-is w.in-Ok.left-test.1))
+  | in-Ok-2 w ↦ rw (c.less.ensures, w.left-is) (program-unfit c.args.p.now c.if-p-gt-MOST_WORDS.false w.in-Ok.ensures)
+]

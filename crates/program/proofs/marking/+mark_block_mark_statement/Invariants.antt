@@ -1,4 +1,4 @@
-use Prim.Native.Nat.{◌+◌, ◌-◌, ◌*◌}
+use Prim.Native.Nat.{◌+◌, ◌*◌}
 use Rattle.program.proofs.MarkingLaws.{Marking}
 use Rattle.program.proofs.marking.+mark_block_mark_statement.Given as goal
 
@@ -8,8 +8,5 @@ decreases-mark_block l = 2 * l.d
 abbrev pub decreases-mark_statement : goal.decreases-mark_statement
 decreases-mark_statement l = 2 * l.d + 1
 
-abbrev pub invariant-mark_block-loop-i : goal.invariant-mark_block-loop-i
-invariant-mark_block-loop-i l = Marking l.d l.total l.n l.p l.i l.here l.initial.marks l.marks
-
-abbrev pub decreases-mark_block-loop-i : goal.decreases-mark_block-loop-i
-decreases-mark_block-loop-i l = l.n - l.i
+abbrev pub invariant-mark_block-loop : goal.invariant-mark_block-loop
+invariant-mark_block-loop l = Marking l.d l.total l.n l.p l.counter l.here l.initial.marks l.marks

@@ -1,4 +1,4 @@
-use Prim.Native.Nat.{◌+◌, ◌-◌, ◌*◌}
+use Prim.Native.Nat.{◌+◌, ◌*◌}
 use Rattle.program.proofs.WhereLaws.{Looking}
 use Rattle.program.proofs.places.+spot_block_spot_statement.Given as goal
 
@@ -8,8 +8,5 @@ decreases-spot_block l = 2 * l.d
 abbrev pub decreases-spot_statement : goal.decreases-spot_statement
 decreases-spot_statement l = 2 * l.d + 1
 
-abbrev pub invariant-spot_block-loop-i : goal.invariant-spot_block-loop-i
-invariant-spot_block-loop-i l = Looking l.d l.left l.n l.p l.i l.here
-
-abbrev pub decreases-spot_block-loop-i : goal.decreases-spot_block-loop-i
-decreases-spot_block-loop-i l = l.n - l.i
+abbrev pub invariant-spot_block-loop : goal.invariant-spot_block-loop
+invariant-spot_block-loop l = Looking l.d l.left l.n l.p l.counter l.here

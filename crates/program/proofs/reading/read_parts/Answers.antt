@@ -1,21 +1,19 @@
 use native.Mathlib.Omega.{arith}
-use borrow.Author.Tests.{not-true, not-false}
+use Rattle.std.proofs.lemmas.Result.{err_from_is_err_and}
 use Rattle.program.proofs.LengthLaws.{after-part, uses-keeps, part-uses}
 use Rattle.program.proofs.RowLaws.{last-all, parts-many, row-starts, row-stops, row-goes-on, row_ends}
 use Rattle.program.proofs.reading.read_parts.Goals as goal
 
--- src/reading.rt:145:5
-pub loop-i-init : goal.loop-i-init
-loop-i-init c = row-starts (omega arith) (rw (last-all c.args.p.now) (parts-many c.args.m c.args.p.now))
+pub loop-init : goal.loop-init
+loop-init c = row-starts (omega arith) (rw (last-all c.args.p.now) (parts-many c.args.m c.args.p.now))
 
--- src/reading.rt:149:13
-pub returns-then-not-a : goal.returns-then-not-a
-returns-then-not-a c = row-stops c.loop-i.invariant c.loop-i-test.true c.part_last.ensures c.read_part-a.ensures (not-true _ c.if-not-a.true)
+pub returns-in_err-left : goal.returns-in_err-left
+returns-in_err-left c =
+    let e = err_from_is_err_and c.from_residual.result c.from_residual.ensures.1 in
+    rw (e.1, e.2) (row-stops c.loop.invariant c.loop-test.true c.part_last.ensures c.in_err-left.ensures)
 
--- src/reading.rt:145:5
-pub loop-i-preserved : goal.loop-i-preserved
-loop-i-preserved c = row-goes-on c.loop-i.invariant c.loop-i-test.true c.part_last.ensures c.read_part-a.ensures (not-false _ c.if-not-a.false) (after-part _ (uses-keeps (part-uses _)))
+pub loop-preserved : goal.loop-preserved
+loop-preserved c = row-goes-on c.loop.invariant c.loop-test.true c.part_last.ensures c.in_ok-left.ensures (after-part _ (uses-keeps (part-uses _)))
 
--- src/reading.rt:140:1
 pub returns : goal.returns
-returns c = row_ends c.loop-i.invariant c.loop-i-test.false
+returns c = row_ends c.loop.invariant c.loop-test.false

@@ -1,16 +1,8 @@
-use mathlib.Core.Path.{◌∙◌}
-use borrow.Author.Tests.{not-true, not-false}
-use Rattle.program.specs.Reading.{read_path}
+use Rattle.program.specs.Reading.{read_path, read_paths}
 use Rattle.program.proofs.LengthLaws.{after-part, uses-keeps, path-uses}
-use Rattle.program.proofs.ReadLaws.{onward, paths-first, paths-second}
+use Rattle.program.proofs.ReadLaws.{onward}
 use Rattle.program.proofs.reading.read_paths.Goals as goal
 
--- src/reading.rt:72:9
-pub returns-then-not-a : goal.returns-then-not-a
-returns-then-not-a c = paths-first c.args.p.now c.read_path-a.ensures (not-true _ c.if-not-a.true)
-
--- src/reading.rt:67:1
 pub returns : goal.returns
-returns c =
-    c.read_path.ensures ∙ paths-second c.args.p.now
-    (onward (read_path c.args.p.now) (after-part _ (uses-keeps (path-uses c.args.p.now))) c.read_path-a.ensures (not-false _ c.if-not-a.false) c.part_last.ensures)
+unfolding read_paths
+returns c = rw (onward (read_path c.args.p.now) (after-part _ (uses-keeps (path-uses c.args.p.now))) c.in_ok-left.ensures c.part_last.ensures) c.read_path-2.ensures

@@ -1,41 +1,39 @@
-use mathlib.Core.Path.{sym}
-use Rattle.tables.specs.Cells.{cells}
+use borrow.Author.Tests.{not-true, not-false}
+use Rattle.tables.specs.Lending.{cells_in}
 use Rattle.proposals.specs.Told.{asks_of}
 use Rattle.proposals.proofs.ProposalLaws.{judge-unmet, judge-takes, judge-unfit, judge-needless, judge-tries}
 use Rattle.proposals.proofs.settling.judge.Goals as goal
 
--- src/settling.rt:182:13
-pub returns-then-not-required : goal.returns-then-not-required
-returns-then-not-required c =
+pub returns-then-not-parts-clause-settles : goal.returns-then-not-parts-clause-settles
+returns-then-not-parts-clause-settles c =
     let a = c.args in
-    judge-unmet a.program.now a.constraints.now (asks_of a.asked a.p.now) a.p.now (cells a.environment.now a.heap.now) a.proposals.now a.n a.all
-    (sym c.requires.heap_value) c.if-n-eq0.true c.if-not-required.true
+    rw c.at.ensures
+    (judge-unmet a.program.now a.t.now.constraints.now (asks_of a.asked) a.p.now (cells_in a.t.now) a.proposals.now a.n
+    c.requires.heap_value c.if-n-eq0.true (not-true _ c.if-not-parts.true))
 
--- src/settling.rt:184:9
-pub returns-then-n-eq0 : goal.returns-then-n-eq0
-returns-then-n-eq0 c =
+pub returns-then-n-eq0-clause-settles : goal.returns-then-n-eq0-clause-settles
+returns-then-n-eq0-clause-settles c =
     let a = c.args in
     rw c.less.ensures
-    (judge-takes a.program.now a.constraints.now (asks_of a.asked a.p.now) a.p.now (cells a.environment.now a.heap.now) a.proposals.now a.n a.all
-    (sym c.requires.heap_value) c.if-n-eq0.true c.if-not-required.false)
+    (judge-takes a.program.now a.t.now.constraints.now (asks_of a.asked) a.p.now (cells_in a.t.now) a.proposals.now a.n
+    c.requires.heap_value c.if-n-eq0.true (not-false _ c.if-not-parts.false))
 
--- src/settling.rt:194:9
-pub returns-then-not-entries_fit : goal.returns-then-not-entries_fit
-returns-then-not-entries_fit c =
+pub returns-then-not-entries_fit-clause-settles : goal.returns-then-not-entries_fit-clause-settles
+returns-then-not-entries_fit-clause-settles c =
     let a = c.args in
-    judge-unfit a.program.now a.constraints.now (asks_of a.asked a.p.now) a.p.now (cells a.environment.now a.heap.now) a.proposals.now a.n a.all
-    (rw c.part_from.ensures at c.entries_fit.ensures) c.if-not-entries_fit.true
+    rw c.at-then-not-entries_fit.ensures
+    (judge-unfit a.program.now a.t.now.constraints.now (asks_of a.asked) a.p.now (cells_in a.t.now) a.proposals.now a.n a.parts.all
+    (rw (c.part_from.ensures, c.view-v.ensures.cells) at c.entries_fit.ensures) c.if-not-entries_fit.true)
 
--- src/settling.rt:197:9
-pub returns-then-all : goal.returns-then-all
-returns-then-all c =
+pub returns-then-parts-clause-settles : goal.returns-then-parts-clause-settles
+returns-then-parts-clause-settles c =
     let a = c.args in
-    judge-needless a.program.now a.constraints.now (asks_of a.asked a.p.now) a.p.now (cells a.environment.now a.heap.now) a.proposals.now a.n a.all
-    (rw c.part_from.ensures at c.entries_fit.ensures) c.if-n-eq0.false c.if-not-entries_fit.false c.if-all.true
+    rw c.at-then-parts.ensures
+    (judge-needless a.program.now a.t.now.constraints.now (asks_of a.asked) a.p.now (cells_in a.t.now) a.proposals.now a.n a.parts.all
+    (rw (c.part_from.ensures, c.view-v.ensures.cells) at c.entries_fit.ensures) c.if-n-eq0.false c.if-not-entries_fit.false c.if-parts.true)
 
--- src/settling.rt:164:1
-pub returns : goal.returns
-returns c =
+pub returns-clause-settles : goal.returns-clause-settles
+returns-clause-settles c =
     let a = c.args in
-    judge-tries a.program.now a.constraints.now (asks_of a.asked a.p.now) a.p.now (cells a.environment.now a.heap.now) a.proposals.now a.n a.all
-    (rw c.part_from.ensures at c.entries_fit.ensures) c.if-not-entries_fit.false c.if-all.false c.try_pairs.ensures
+    judge-tries a.program.now a.t.now.constraints.now (asks_of a.asked) a.p.now (cells_in a.t.now) a.proposals.now a.n a.parts.all
+    (rw (c.part_from.ensures, c.view-v.ensures.cells) at c.entries_fit.ensures) c.if-not-entries_fit.false c.if-parts.false c.try_pairs.ensures.settles

@@ -1,26 +1,24 @@
-use borrow.Author.Rules.{rules}
+use Rattle.std.proofs.Common.{rules, arith, ap, ◌∙◌, pos}
+use borrow.Author.Tests.{eq-eqb, ne_eqb}
 use Rattle.words.specs.Words.{number_of}
-use mathlib.Core.Path.{ap, ◌∙◌}
-use Rattle.words.proofs.Signed.{back32}
+use Rattle.words.proofs.Signed.{back32, same_bits}
 use Rattle.proposals.proofs.ProposalLaws.{take_same, take-bit, take-integer}
 use Rattle.proposals.proofs.settling.may_take.Goals as goal
 
--- src/settling.rt:67:9
-pub returns-then-same : goal.returns-then-same
-returns-then-same c =
+pub returns-then-w-c : goal.returns-then-w-c
+returns-then-w-c c =
     let a = c.args in
-    take_same a.c a.w (back32 a.w c.ranges.w) (back32 a.c.payload (search rules)) c.same.ensures c.if-same.true
+    take_same a.c a.w (same_bits a.w a.c.payload c.ranges.w (search rules)) (eq-eqb _ _ c.if-w-c.true)
 
--- src/settling.rt:71:9
 pub returns-then-kind-eq2 : goal.returns-then-kind-eq2
 returns-then-kind-eq2 c =
     let a = c.args in
-    take-bit a.c a.w (back32 a.w c.ranges.w) (back32 a.c.payload (search rules)) c.same.ensures c.if-same.false
-    (c.number-kind.ensures ∙ ap number_of (back32 a.c.kind (search rules))) c.if-kind-eq2.true c.same-then-kind-eq2.ensures c.same-then-kind-eq2-2.ensures
+    take-bit a.c a.w (same_bits a.w a.c.payload c.ranges.w (search rules)) (ne_eqb _ _ c.if-w-c.false)
+    (c.number-kind.ensures ∙ ap number_of (back32 a.c.kind (search rules))) c.if-kind-eq2.true
+    (same_bits a.w (pos 0) c.ranges.w (record { sfits = omega arith })) (same_bits a.w (pos 1) c.ranges.w (record { sfits = omega arith }))
 
--- src/settling.rt:63:1
 pub returns : goal.returns
 returns c =
     let a = c.args in
-    take-integer a.c a.w (back32 a.w c.ranges.w) (back32 a.c.payload (search rules)) c.same.ensures c.if-same.false
+    take-integer a.c a.w (same_bits a.w a.c.payload c.ranges.w (search rules)) (ne_eqb _ _ c.if-w-c.false)
     (c.number-kind.ensures ∙ ap number_of (back32 a.c.kind (search rules))) c.if-kind-eq2.false

@@ -1,39 +1,39 @@
-use mathlib.Core.Path.{sym, ◌∙◌}
-use borrow.Author.Tests.{not-true, not-false}
-use Rattle.tables.specs.Cells.{cells}
+use Rattle.std.proofs.Common.{sym, ◌∙◌}
+use Rattle.std.proofs.lemmas.Result.{err_from_is_err_and}
+use Rattle.tables.specs.Lending.{cells_in}
 use Rattle.proposals.specs.Told.{asks_of}
 use Rattle.proposals.proofs.FormLaws.{proposed}
 use Rattle.proposals.proofs.ProposalLaws.{settle-stops, settle-full, settle-unformed, settle-judged}
 use Rattle.proposals.proofs.settling.settle.Goals as goal
 
--- src/settling.rt:234:17
-pub returns-then-not-asked : goal.returns-then-not-asked
-returns-then-not-asked c =
+pub returns-in_err-parts-clause-settles : goal.returns-in_err-parts-clause-settles
+returns-in_err-parts-clause-settles c =
     let a = c.args in
-    settle-full a.program.now a.constraints.now (asks_of a.asked a.p.now) a.p.now (cells a.environment.now a.heap.now) a.proposals.now
-    (rw c.part_from.ensures at c.counted_at.ensures) c.in-Reads.is (not-true _ c.if-not-asked.true)
+    let e = err_from_is_err_and c.from_residual.result c.from_residual.ensures.1 in
+    rw (e.1, e.2)
+    (settle-stops a.program.now a.t.now.constraints.now (asks_of a.asked) a.p.now (cells_in a.t.now) a.proposals.now
+    (rw (c.view-v.ensures.cells, c.view-v.ensures.kept) at c.counted_at.ensures) c.in_err-parts.was)
 
--- src/settling.rt:238:37
-pub judge-requires : goal.judge-requires
-judge-requires c = record { n_le_locations = (proposed (sym c.in-Pairs.is ∙ c.form_of.ensures)).few; heap_value = sym (rw c.part_from.ensures at (sym c.in-Reads.is ∙ c.counted_at.ensures)) }
-
--- src/settling.rt:212:1
-pub returns-in-Fails : goal.returns-in-Fails
-returns-in-Fails c =
+pub returns-then-not-asked-clause-settles : goal.returns-then-not-asked-clause-settles
+returns-then-not-asked-clause-settles c =
     let a = c.args in
-    settle-stops a.program.now a.constraints.now (asks_of a.asked a.p.now) a.p.now (cells a.environment.now a.heap.now) a.proposals.now
-    (rw c.part_from.ensures at c.counted_at.ensures) c.in-Fails.is
+    rw c.at.ensures
+    (settle-full a.program.now a.t.now.constraints.now (asks_of a.asked) a.p.now (cells_in a.t.now) a.proposals.now
+    (rw (c.view-v.ensures.cells, c.view-v.ensures.kept) at c.counted_at.ensures) c.in_ok-parts.was c.if-not-asked.true)
 
--- src/settling.rt:212:1
-pub returns-in-Not : goal.returns-in-Not
-returns-in-Not c =
-    let a = c.args in
-    settle-unformed a.program.now a.constraints.now (asks_of a.asked a.p.now) a.p.now (cells a.environment.now a.heap.now) a.proposals.now
-    (rw c.part_from.ensures at c.counted_at.ensures) c.in-Reads.is (not-false _ c.if-not-asked.false) (sym c.in-Not.is ∙ c.form_of.ensures)
+pub judge-requires-clause-n_le_locations : goal.judge-requires-clause-n_le_locations
+judge-requires-clause-n_le_locations c = (proposed (sym c.in-Ok.is ∙ c.form_of.ensures)).few
 
--- src/settling.rt:212:1
-pub returns-in-Pairs : goal.returns-in-Pairs
-returns-in-Pairs c =
+pub returns-in-Err-clause-settles : goal.returns-in-Err-clause-settles
+returns-in-Err-clause-settles c =
     let a = c.args in
-    settle-judged a.program.now a.constraints.now (asks_of a.asked a.p.now) a.p.now (cells a.environment.now a.heap.now) a.proposals.now
-    (rw c.part_from.ensures at c.counted_at.ensures) c.in-Reads.is (not-false _ c.if-not-asked.false) (sym c.in-Pairs.is ∙ c.form_of.ensures) c.judge.ensures
+    rw c.at-in-Err.ensures
+    (settle-unformed a.program.now a.t.now.constraints.now (asks_of a.asked) a.p.now (cells_in a.t.now) a.proposals.now
+    (rw (c.view-v.ensures.cells, c.view-v.ensures.kept) at c.counted_at.ensures) c.in_ok-parts.was c.if-not-asked.false (sym c.in-Err.is ∙ c.form_of.ensures))
+
+pub returns-in-Ok-clause-settles : goal.returns-in-Ok-clause-settles
+returns-in-Ok-clause-settles c =
+    let a = c.args in
+    settle-judged a.program.now a.t.now.constraints.now (asks_of a.asked) a.p.now (cells_in a.t.now) a.proposals.now
+    (rw (c.view-v.ensures.cells, c.view-v.ensures.kept) at c.counted_at.ensures) c.in_ok-parts.was c.if-not-asked.false (sym c.in-Ok.is ∙ c.form_of.ensures)
+    c.judge.ensures.settles

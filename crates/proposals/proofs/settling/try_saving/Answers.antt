@@ -1,27 +1,29 @@
-use lib.ListN.{drop}
-use Rattle.tables.specs.Cells.{cells}
-use Rattle.expressions.specs.Judging.{own_of}
+use borrow.Author.Tests.{not-true, not-false}
+use Rattle.tables.specs.Lending.{cells_in}
+use Rattle.expressions.specs.Judging.{own_in}
 use Rattle.proposals.proofs.ProposalLaws.{try-stops, try-unmet, try-takes}
 use Rattle.proposals.proofs.settling.try_saving.Goals as goal
 
--- src/settling.rt:156:17
-pub returns-then-not-required : goal.returns-then-not-required
-returns-then-not-required c =
+pub returns-in-Err-clause-settles : goal.returns-in-Err-clause-settles
+returns-in-Err-clause-settles c =
     let a = c.args in
-    try-unmet a.program.now a.constraints.now (own_of a.owns (drop 1 a.p.now)) a.p.now (cells a.environment.now a.heap.now) a.proposals.now a.n
-    (rw c.part_from-pairs.ensures at c.apply.ensures) (rw c.part_from.ensures at c.counted_at.ensures) c.in-Reads.is c.if-not-required.true (rw c.part_from-pairs.ensures at c.put_back-then-not-required.ensures)
+    let parts = rw (c.view-v.ensures.cells, c.view-v.ensures.kept, c.apply.ensures.rest.kept) at c.counted_at.ensures in
+    try-stops a.program.now a.t.now.constraints.now (own_in a.own) a.p.now (cells_in a.t.now) a.proposals.now a.n
+    (rw c.part_from-pairs.ensures at c.apply.ensures.applies) parts c.in-Err.is (rw c.part_from-pairs.ensures at c.put_back.ensures.cells)
 
--- src/settling.rt:124:1
-pub returns-in-Fails : goal.returns-in-Fails
-returns-in-Fails c =
+pub returns-then-not-parts-clause-settles : goal.returns-then-not-parts-clause-settles
+returns-then-not-parts-clause-settles c =
     let a = c.args in
-    try-stops a.program.now a.constraints.now (own_of a.owns (drop 1 a.p.now)) a.p.now (cells a.environment.now a.heap.now) a.proposals.now a.n
-    (rw c.part_from-pairs.ensures at c.apply.ensures) (rw c.part_from.ensures at c.counted_at.ensures) c.in-Fails.is (rw c.part_from-pairs.ensures at c.put_back.ensures)
+    let parts = rw (c.view-v.ensures.cells, c.view-v.ensures.kept, c.apply.ensures.rest.kept) at c.counted_at.ensures in
+    rw c.at.ensures
+    (try-unmet a.program.now a.t.now.constraints.now (own_in a.own) a.p.now (cells_in a.t.now) a.proposals.now a.n
+    (rw c.part_from-pairs.ensures at c.apply.ensures.applies) parts c.in-Ok.is (not-true _ c.if-not-parts.true)
+    (rw c.part_from-pairs.ensures at c.put_back-then-not-parts.ensures.cells))
 
--- src/settling.rt:124:1
-pub returns-else-not-required : goal.returns-else-not-required
-returns-else-not-required c =
+pub returns-else-not-parts-clause-settles : goal.returns-else-not-parts-clause-settles
+returns-else-not-parts-clause-settles c =
     let a = c.args in
+    let parts = rw (c.view-v.ensures.cells, c.view-v.ensures.kept, c.apply.ensures.rest.kept) at c.counted_at.ensures in
     rw c.less.ensures
-    (try-takes a.program.now a.constraints.now (own_of a.owns (drop 1 a.p.now)) a.p.now (cells a.environment.now a.heap.now) a.proposals.now a.n
-    (rw c.part_from-pairs.ensures at c.apply.ensures) (rw c.part_from.ensures at c.counted_at.ensures) c.in-Reads.is c.if-not-required.false)
+    (try-takes a.program.now a.t.now.constraints.now (own_in a.own) a.p.now (cells_in a.t.now) a.proposals.now a.n
+    (rw c.part_from-pairs.ensures at c.apply.ensures.applies) parts c.in-Ok.is (not-false _ c.if-not-parts.false))

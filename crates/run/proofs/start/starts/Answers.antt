@@ -5,36 +5,32 @@ use Rattle.words.specs.Answer.{◌>>◌}
 use Rattle.words.proofs.Signed.{back32}
 use Rattle.program.specs.Reading.{read_program}
 use Rattle.rules.proofs.StartClauses.{starts_is}
-use Rattle.phases.specs.Told.{tables}
+use Rattle.phases.specs.Told.{state_seen}
 use Rattle.run.proofs.BeginLaws.{test-stop, test_on, read-stop, read-on, and-false}
 use Rattle.tables.proofs.SearchLaws.{and-true, and-false as and_second}
 use Rattle.run.proofs.start.starts.Goals as goal
 
--- src/start.rt:127:9
 pub returns-then-not-are_sized : goal.returns-then-not-are_sized
 returns-then-not-are_sized c =
-    rw (starts_is c.args.program.now c.args.budget (tables c.args.environment.now c.args.heap.now c.args.constraints.now))
+    rw (starts_is c.args.program.now c.args.budget (state_seen c.args.t.now))
     (test-stop 1 0 _ (and-false _ _ (sym c.are_sized.ensures ∙ c.if-not-are_sized.true)))
 
--- src/start.rt:130:9
 pub returns-then-not-budget_fits : goal.returns-then-not-budget_fits
 returns-then-not-budget_fits c =
-    rw (starts_is c.args.program.now c.args.budget (tables c.args.environment.now c.args.heap.now c.args.constraints.now))
-    (test-stop 1 0 _ (and_second (sized c.args.environment.now c.args.heap.now c.args.constraints.now) (budget_fits c.args.budget) (rw (back32 c.args.budget c.ranges.budget) at (sym c.budget_fits.ensures) ∙ c.if-not-budget_fits.true)))
+    rw (starts_is c.args.program.now c.args.budget (state_seen c.args.t.now))
+    (test-stop 1 0 _ (and_second (sized c.args.t.now.environment.now c.args.t.now.heap.now c.args.t.now.constraints.now) (budget_fits c.args.budget) (rw (back32 c.args.budget c.ranges.budget) at (sym c.budget_fits.ensures) ∙ c.if-not-budget_fits.true)))
 
--- src/start.rt:117:1
-pub returns-in-Unfit : goal.returns-in-Unfit
-returns-in-Unfit c =
-    let k = tables_at_start c.args.program.now (tables c.args.environment.now c.args.heap.now c.args.constraints.now) in
-    rw (starts_is c.args.program.now c.args.budget (tables c.args.environment.now c.args.heap.now c.args.constraints.now))
-    (read-stop (read_program c.args.program.now) k c.read_program.ensures c.in-Unfit.is
+pub returns-in-Err : goal.returns-in-Err
+returns-in-Err c =
+    let k = tables_at_start c.args.program.now (state_seen c.args.t.now) in
+    rw (starts_is c.args.program.now c.args.budget (state_seen c.args.t.now))
+    (read-stop (read_program c.args.program.now) k c.read_program.ensures c.in-Err.is
     ∙ test_on 1 0 (early 2 (read_program c.args.program.now) >> k) (and-true _ _ (sym c.are_sized.ensures ∙ c.if-not-are_sized.false) (rw (back32 c.args.budget c.ranges.budget) at (sym c.budget_fits.ensures) ∙ c.if-not-budget_fits.false)))
 
--- src/start.rt:117:1
-pub returns-in-Reads : goal.returns-in-Reads
-returns-in-Reads c =
-    let k = tables_at_start c.args.program.now (tables c.args.environment.now c.args.heap.now c.args.constraints.now) in
-    rw (starts_is c.args.program.now c.args.budget (tables c.args.environment.now c.args.heap.now c.args.constraints.now))
+pub returns-in-Ok : goal.returns-in-Ok
+returns-in-Ok c =
+    let k = tables_at_start c.args.program.now (state_seen c.args.t.now) in
+    rw (starts_is c.args.program.now c.args.budget (state_seen c.args.t.now))
     (c.fits_at_start.ensures
-    ∙ read-on (read_program c.args.program.now) k c.read_program.ensures c.in-Reads.is
+    ∙ read-on (read_program c.args.program.now) k c.read_program.ensures c.in-Ok.is
     ∙ test_on 1 0 (early 2 (read_program c.args.program.now) >> k) (and-true _ _ (sym c.are_sized.ensures ∙ c.if-not-are_sized.false) (rw (back32 c.args.budget c.ranges.budget) at (sym c.budget_fits.ensures) ∙ c.if-not-budget_fits.false)))

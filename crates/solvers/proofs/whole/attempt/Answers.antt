@@ -1,35 +1,33 @@
 use mathlib.Core.Path.{sym, ◌∙◌}
+use Rattle.std.proofs.lemmas.Result.{err_from_is_err_and}
 use Rattle.words.proofs.Signed.{back32}
-use Rattle.phases.specs.Told.{tables}
+use Rattle.phases.specs.Told.{state_in}
 use Rattle.solvers.proofs.AskLaws.{tries-first, tries-neither, tries-second, tries-empty, tries-both}
 use Rattle.solvers.proofs.whole.attempt.Goals as goal
 
--- src/whole.rt:36:17
-pub returns-then-not-turns_down : goal.returns-then-not-turns_down
-returns-then-not-turns_down c =
+pub returns-in_default-clause-given : goal.returns-in_default-clause-given
+returns-in_default-clause-given c =
     let a = rw (back32 c.args.word c.ranges.word) at c.number-at.ensures in
-    tries-neither c.args.program.now c.args.word c.args.first.now c.args.second.now (tables c.args.environment.now c.args.heap.now c.args.constraints.now) {Y = tables c.alone.new.environment c.alone.new.heap c.alone.new.constraints} (rw a at c.alone.ensures) c.in-Refused.is (sym c.turns_down.ensures ∙ c.if-not-turns_down.true)
+    tries-first c.args.program.now c.args.word c.args.first.now c.args.second.now (state_in c.args.t.now) {Y = state_in c.alone.new.t} (rw a at c.alone.ensures.does) c.in_default.is
 
--- src/whole.rt:39:17
-pub returns-then-second-eq0 : goal.returns-then-second-eq0
-returns-then-second-eq0 c =
+pub returns-then-not-turns_down-clause-given : goal.returns-then-not-turns_down-clause-given
+returns-then-not-turns_down-clause-given c =
     let a = rw (back32 c.args.word c.ranges.word) at c.number-at.ensures in
-    tries-empty c.args.program.now c.args.word c.args.first.now c.args.second.now (tables c.args.environment.now c.args.heap.now c.args.constraints.now) {Y = tables c.alone.new.environment c.alone.new.heap c.alone.new.constraints} (rw a at c.alone.ensures) c.in-Refused.is c.if-second-eq0.true
+    tries-neither c.args.program.now c.args.word c.args.first.now c.args.second.now (state_in c.args.t.now) {Y = state_in c.alone.new.t} (rw a at c.alone.ensures.does) c.in-Err.is (sym c.turns_down.ensures ∙ c.if-not-turns_down.true)
 
--- src/whole.rt:20:1
-pub returns-in-Accepted : goal.returns-in-Accepted
-returns-in-Accepted c =
+pub returns-then-second-eq0-clause-given : goal.returns-then-second-eq0-clause-given
+returns-then-second-eq0-clause-given c =
     let a = rw (back32 c.args.word c.ranges.word) at c.number-at.ensures in
-    tries-first c.args.program.now c.args.word c.args.first.now c.args.second.now (tables c.args.environment.now c.args.heap.now c.args.constraints.now) {Y = tables c.alone.new.environment c.alone.new.heap c.alone.new.constraints} (rw a at c.alone.ensures) c.in-Accepted.is
+    tries-empty c.args.program.now c.args.word c.args.first.now c.args.second.now (state_in c.args.t.now) {Y = state_in c.alone.new.t} (rw a at c.alone.ensures.does) c.in-Err.is c.if-second-eq0.true
 
--- src/whole.rt:20:1
-pub returns-in-Accepted-alone : goal.returns-in-Accepted-alone
-returns-in-Accepted-alone c =
+pub returns-in_err-alone-clause-given : goal.returns-in_err-alone-clause-given
+returns-in_err-alone-clause-given c =
+    let e = err_from_is_err_and c.from_residual.result c.from_residual.ensures.1 in
     let a = rw (back32 c.args.word c.ranges.word) at c.number-at.ensures in
-    tries-second c.args.program.now c.args.word c.args.first.now c.args.second.now (tables c.args.environment.now c.args.heap.now c.args.constraints.now) {Y = tables c.alone.new.environment c.alone.new.heap c.alone.new.constraints} (rw a at c.alone.ensures) c.in-Refused.is (sym c.turns_down.ensures ∙ c.if-not-turns_down.false) c.if-second-eq0.false {Z = tables c.alone-in-Refused.new.environment c.alone-in-Refused.new.heap c.alone-in-Refused.new.constraints} (rw a at c.alone-in-Refused.ensures) c.in-Accepted-alone.is
+    rw (e.1, e.2)
+    (tries-both c.args.program.now c.args.word c.args.first.now c.args.second.now (state_in c.args.t.now) {Y = state_in c.alone.new.t} (rw a at c.alone.ensures.does) c.in-Err.is (sym c.turns_down.ensures ∙ c.if-not-turns_down.false) c.if-second-eq0.false {Z = state_in c.alone-2.new.t} (rw a at c.alone-2.ensures.does) c.in_err-alone.was)
 
--- src/whole.rt:20:1
-pub returns-in-Refused-alone : goal.returns-in-Refused-alone
-returns-in-Refused-alone c =
+pub returns-clause-given : goal.returns-clause-given
+returns-clause-given c =
     let a = rw (back32 c.args.word c.ranges.word) at c.number-at.ensures in
-    tries-both c.args.program.now c.args.word c.args.first.now c.args.second.now (tables c.args.environment.now c.args.heap.now c.args.constraints.now) {Y = tables c.alone.new.environment c.alone.new.heap c.alone.new.constraints} (rw a at c.alone.ensures) c.in-Refused.is (sym c.turns_down.ensures ∙ c.if-not-turns_down.false) c.if-second-eq0.false {Z = tables c.alone-in-Refused.new.environment c.alone-in-Refused.new.heap c.alone-in-Refused.new.constraints} (rw a at c.alone-in-Refused.ensures) c.in-Refused-alone.is
+    tries-second c.args.program.now c.args.word c.args.first.now c.args.second.now (state_in c.args.t.now) {Y = state_in c.alone.new.t} (rw a at c.alone.ensures.does) c.in-Err.is (sym c.turns_down.ensures ∙ c.if-not-turns_down.false) c.if-second-eq0.false {Z = state_in c.alone-2.new.t} (rw a at c.alone-2.ensures.does) c.in_ok-alone.was

@@ -1,5 +1,4 @@
 use Rattle.statements.proofs.simple.alone.Goals as goal
 
--- src/simple.rt:226:1
-pub returns : goal.returns
-returns c = rw (c.number_at.ensures, c.part_from-p.ensures) at c.simple_at.ensures
+pub returns-clause-does : goal.returns-clause-does
+returns-clause-does c = rw (c.from.ensures, c.number_at.ensures, c.part_from-p.ensures) at c.simple_at.ensures.does

@@ -1,26 +1,30 @@
-use Rattle.tables.specs.Cells.{cells}
+use Rattle.std.proofs.lemmas.Result.{err_from_is_err_and}
+use Rattle.tables.specs.Lending.{cells_in}
 use Rattle.phases.proofs.PhaseLaws.{does-same}
 use Rattle.statements.proofs.SimpleLaws.{new-variable, new-many, new-fails, new-gives}
 use Rattle.statements.proofs.simple.make_new.Goals as goal
 
--- src/simple.rt:99:9
-pub returns-then-x-ge-VARIABLES : goal.returns-then-x-ge-VARIABLES
-returns-then-x-ge-VARIABLES c =
-    new-variable c.args.program.now c.args.p.now c.args.constraints.now c.args.proposals.now (cells c.args.environment.now c.args.heap.now) c.part_from-q.ensures c.number_at-x.ensures c.if-x-ge-VARIABLES.true
+pub returns-then-x-ge-VARIABLES-clause-does : goal.returns-then-x-ge-VARIABLES-clause-does
+returns-then-x-ge-VARIABLES-clause-does c =
+    rw c.at.ensures
+    (new-variable c.args.program.now c.args.p.now c.args.t.now.constraints.now c.args.proposals.now (cells_in c.args.t.now) c.part_from-q.ensures c.number_at-x.ensures c.if-x-ge-VARIABLES.true)
 
--- src/simple.rt:104:9
-pub returns-then-n-gt-FIELDS : goal.returns-then-n-gt-FIELDS
-returns-then-n-gt-FIELDS c =
-    new-many c.args.program.now c.args.p.now c.args.constraints.now c.args.proposals.now (cells c.args.environment.now c.args.heap.now) c.part_from-q.ensures c.number_at-x.ensures c.if-x-ge-VARIABLES.false c.part_from-r.ensures c.number_at-n.ensures c.if-n-gt-FIELDS.true
+pub returns-then-n-gt-FIELDS-clause-does : goal.returns-then-n-gt-FIELDS-clause-does
+returns-then-n-gt-FIELDS-clause-does c =
+    rw c.at-then-n-gt-FIELDS.ensures
+    (new-many c.args.program.now c.args.p.now c.args.t.now.constraints.now c.args.proposals.now (cells_in c.args.t.now) c.part_from-q.ensures c.number_at-x.ensures c.if-x-ge-VARIABLES.false
+    c.part_from-r.ensures c.number_at-n.ensures c.if-n-gt-FIELDS.true)
 
--- src/simple.rt:86:1
-pub returns-in-Fails : goal.returns-in-Fails
-returns-in-Fails c =
-    new-fails c.args.program.now c.args.p.now c.args.constraints.now c.args.proposals.now (cells c.args.environment.now c.args.heap.now) c.part_from-q.ensures c.number_at-x.ensures c.if-x-ge-VARIABLES.false c.part_from-r.ensures c.number_at-n.ensures c.if-n-gt-FIELDS.false c.part_from.ensures c.field_words.ensures c.in-Fails.is
+pub returns-in_err-field_words-clause-does : goal.returns-in_err-field_words-clause-does
+returns-in_err-field_words-clause-does c =
+    let e = err_from_is_err_and c.from_residual.result c.from_residual.ensures.1 in
+    rw (e.1, e.2)
+    (new-fails c.args.program.now c.args.p.now c.args.t.now.constraints.now c.args.proposals.now (cells_in c.args.t.now) c.part_from-q.ensures c.number_at-x.ensures c.if-x-ge-VARIABLES.false
+    c.part_from-r.ensures c.number_at-n.ensures c.if-n-gt-FIELDS.false c.part_from.ensures (rw c.view-seen.ensures.cells at c.field_words.ensures) c.in_err-field_words.was)
 
--- src/simple.rt:86:1
-pub returns-in-All : goal.returns-in-All
-returns-in-All c =
+pub returns-clause-does : goal.returns-clause-does
+returns-clause-does c =
     does-same
-    (new-gives c.args.program.now c.args.p.now c.args.constraints.now c.args.proposals.now (cells c.args.environment.now c.args.heap.now) c.part_from-q.ensures c.number_at-x.ensures c.if-x-ge-VARIABLES.false c.part_from-r.ensures c.number_at-n.ensures c.if-n-gt-FIELDS.false c.part_from.ensures c.field_words.ensures c.in-All.is)
-    c.give_new.ensures
+    (new-gives c.args.program.now c.args.p.now c.args.t.now.constraints.now c.args.proposals.now (cells_in c.args.t.now) c.part_from-q.ensures c.number_at-x.ensures c.if-x-ge-VARIABLES.false
+    c.part_from-r.ensures c.number_at-n.ensures c.if-n-gt-FIELDS.false c.part_from.ensures (rw c.view-seen.ensures.cells at c.field_words.ensures) c.in_ok-field_words.was)
+    c.give_new.ensures.does

@@ -1,63 +1,40 @@
-use mathlib.Core.Path.{refl}
-use native.Mathlib.Omega.{arith}
-use Rattle.program.specs.Forms.{skip, assign, new, always, once, always_same, once_same}
+use mathlib.Core.Path.{refl, sym}
 use Rattle.rules.proofs.StatementClauses.{simple-skip, simple-assign, simple-new, simple-always, simple-once, simple-always-same, simple-once-same}
-use Rattle.phases.specs.Told.{tables}
+use Rattle.phases.specs.Told.{state_in}
 use Rattle.phases.proofs.PhaseLaws.{does-same, refuses}
-use Rattle.statements.proofs.VerbLaws.{simple-by, simple-other}
+use Rattle.statements.proofs.VerbLaws.{simple-other}
 use Rattle.statements.proofs.simple.simple_at.Goals as goal
 
--- src/simple.rt:202:1
-pub returns-in-0 : goal.returns-in-0
-returns-in-0 c =
-    does-same
-    (simple-by c.args.program.now c.args.p.now (tables c.args.environment.now c.args.heap.now c.args.constraints.now) c.args.proposals.now skip c.in-0.is (omega arith) (simple-skip c.args.program.now c.args.p.now (tables c.args.environment.now c.args.heap.now c.args.constraints.now) c.args.proposals.now))
-    (record { is = refl; leaves = refl })
+pub returns-in-Skip-clause-does : goal.returns-in-Skip-clause-does
+returns-in-Skip-clause-does c =
+    rw c.in-Skip.is (does-same (sym (simple-skip c.args.program.now c.args.p.now (state_in c.args.t.now) c.args.proposals.now)) (record { is = refl; leaves = refl }))
 
--- src/simple.rt:202:1
-pub returns-in-1 : goal.returns-in-1
-returns-in-1 c =
-    does-same
-    (simple-by c.args.program.now c.args.p.now (tables c.args.environment.now c.args.heap.now c.args.constraints.now) c.args.proposals.now assign c.in-1.is (omega arith) (simple-assign c.args.program.now c.args.p.now (tables c.args.environment.now c.args.heap.now c.args.constraints.now) c.args.proposals.now))
-    c.assign.ensures
+pub returns-in-Assign-clause-does : goal.returns-in-Assign-clause-does
+returns-in-Assign-clause-does c =
+    rw c.in-Assign.is (does-same (sym (simple-assign c.args.program.now c.args.p.now (state_in c.args.t.now) c.args.proposals.now)) c.assign.ensures.does)
 
--- src/simple.rt:202:1
-pub returns-in-2 : goal.returns-in-2
-returns-in-2 c =
-    does-same
-    (simple-by c.args.program.now c.args.p.now (tables c.args.environment.now c.args.heap.now c.args.constraints.now) c.args.proposals.now new c.in-2.is (omega arith) (simple-new c.args.program.now c.args.p.now (tables c.args.environment.now c.args.heap.now c.args.constraints.now) c.args.proposals.now))
-    c.make_new.ensures
+pub returns-in-New-clause-does : goal.returns-in-New-clause-does
+returns-in-New-clause-does c =
+    rw c.in-New.is (does-same (sym (simple-new c.args.program.now c.args.p.now (state_in c.args.t.now) c.args.proposals.now)) c.make_new.ensures.does)
 
--- src/simple.rt:202:1
-pub returns-in-3 : goal.returns-in-3
-returns-in-3 c =
-    does-same
-    (simple-by c.args.program.now c.args.p.now (tables c.args.environment.now c.args.heap.now c.args.constraints.now) c.args.proposals.now always c.in-3.is (omega arith) (simple-always c.args.program.now c.args.p.now (tables c.args.environment.now c.args.heap.now c.args.constraints.now) c.args.proposals.now))
-    c.constrain.ensures
+pub returns-in-Always-clause-does : goal.returns-in-Always-clause-does
+returns-in-Always-clause-does c =
+    rw c.in-Always.is (does-same (sym (simple-always c.args.program.now c.args.p.now (state_in c.args.t.now) c.args.proposals.now)) c.constrain.ensures.does)
 
--- src/simple.rt:202:1
-pub returns-in-4 : goal.returns-in-4
-returns-in-4 c =
-    does-same
-    (simple-by c.args.program.now c.args.p.now (tables c.args.environment.now c.args.heap.now c.args.constraints.now) c.args.proposals.now once c.in-4.is (omega arith) (simple-once c.args.program.now c.args.p.now (tables c.args.environment.now c.args.heap.now c.args.constraints.now) c.args.proposals.now))
-    c.constrain-in-4.ensures
+pub returns-in-Once-clause-does : goal.returns-in-Once-clause-does
+returns-in-Once-clause-does c =
+    rw c.in-Once.is (does-same (sym (simple-once c.args.program.now c.args.p.now (state_in c.args.t.now) c.args.proposals.now)) c.constrain-in-Once.ensures.does)
 
--- src/simple.rt:202:1
-pub returns-in-5 : goal.returns-in-5
-returns-in-5 c =
-    does-same
-    (simple-by c.args.program.now c.args.p.now (tables c.args.environment.now c.args.heap.now c.args.constraints.now) c.args.proposals.now always_same c.in-5.is (omega arith) (simple-always-same c.args.program.now c.args.p.now (tables c.args.environment.now c.args.heap.now c.args.constraints.now) c.args.proposals.now))
-    c.identify.ensures
+pub returns-in-AlwaysSame-clause-does : goal.returns-in-AlwaysSame-clause-does
+returns-in-AlwaysSame-clause-does c =
+    rw c.in-AlwaysSame.is (does-same (sym (simple-always-same c.args.program.now c.args.p.now (state_in c.args.t.now) c.args.proposals.now)) c.identify.ensures.does)
 
--- src/simple.rt:202:1
-pub returns-in-6 : goal.returns-in-6
-returns-in-6 c =
-    does-same
-    (simple-by c.args.program.now c.args.p.now (tables c.args.environment.now c.args.heap.now c.args.constraints.now) c.args.proposals.now once_same c.in-6.is (omega arith) (simple-once-same c.args.program.now c.args.p.now (tables c.args.environment.now c.args.heap.now c.args.constraints.now) c.args.proposals.now))
-    c.identify-in-6.ensures
+pub returns-in-OnceSame-clause-does : goal.returns-in-OnceSame-clause-does
+returns-in-OnceSame-clause-does c =
+    rw c.in-OnceSame.is (does-same (sym (simple-once-same c.args.program.now c.args.p.now (state_in c.args.t.now) c.args.proposals.now)) c.identify-in-OnceSame.ensures.does)
 
--- src/simple.rt:202:1
-pub returns-in_default : goal.returns-in_default
-returns-in_default c =
-    let z = c.in_default.in_default-own.rest in
-    refuses (simple-other c.args.program.now c.args.p.now (tables c.args.environment.now c.args.heap.now c.args.constraints.now) c.args.proposals.now z.0.0.0.0.0.0.1 z.0.0.0.0.0.1 z.0.0.0.0.1 z.0.0.0.1 z.0.0.1 z.0.1 z.1)
+pub returns-in_default-clause-does : goal.returns-in_default-clause-does
+returns-in_default-clause-does c =
+    rw c.at.ensures
+    (refuses (simple-other c.args.program.now c.args.p.now (state_in c.args.t.now) c.args.proposals.now c.args.verb
+    c.in_default.not-Skip c.in_default.not-Assign c.in_default.not-New c.in_default.not-Always c.in_default.not-Once c.in_default.not-AlwaysSame c.in_default.not-OnceSame))

@@ -2,7 +2,6 @@ use Rattle.tables.specs.Sizes.{field_word}
 use Rattle.tables.specs.Cells.{location_word}
 use Rattle.tables.proofs.cells.location_word.Goals as goal
 
--- src/cells.rt:60:1
 pub returns : goal.returns
 unfolding location_word field_word
 returns c = rw c.less-k.ensures

@@ -2,7 +2,6 @@ use borrow.Author.Rules.{rules}
 use Rattle.words.proofs.Signed.{back32}
 use Rattle.tables.proofs.cells.put_pair.Goals as goal
 
--- src/cells.rt:84:1
 pub returns : goal.returns
 returns c =
     let k = back32 c.args.c.kind (search rules) in

@@ -7,15 +7,12 @@ use Rattle.tables.proofs.KeptLaws.{most-small, first_small}
 use Rattle.tables.proofs.ClearLaws.{clear-part, positions-clear, positions-full}
 use Rattle.tables.proofs.kept.are_blank_from.Goals as goal
 
--- src/kept.rt:73:9
 pub returns-then-most-n : goal.returns-then-most-n
 returns-then-most-n c = positions-full c.args.constraints.now c.args.s c.args.n (rw c.most_kept-most.ensures at c.if-most-n.true)
 
--- src/kept.rt:75:59
 pub overflow_add-first_kept : goal.overflow_add-first_kept
 overflow_add-first_kept c = omega (arith, c.first_kept.ensures, first_small c.args.s, c.most_kept-most.ensures, most-small c.args.s, c.if-most-n.false)
 
--- src/kept.rt:68:1
 pub returns : goal.returns
 returns c =
     let z : c.is_clear.result ≡ zeros c.args.constraints.now (first_kept c.args.s + c.args.n) (most_kept c.args.s - c.args.n) =

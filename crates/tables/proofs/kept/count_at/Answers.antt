@@ -1,7 +1,6 @@
 use Rattle.tables.specs.Kept.{kept_number}
 use Rattle.tables.proofs.kept.count_at.Goals as goal
 
--- src/kept.rt:40:1
 pub returns : goal.returns
 unfolding kept_number
 returns c = rw c.kept_word.ensures at c.number_at.ensures

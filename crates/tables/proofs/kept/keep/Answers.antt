@@ -1,24 +1,15 @@
-use Prim.Native.Nat.{◌+◌, ◌<◌, ◌≤◌}
+use Prim.Native.Nat.{◌+◌, ◌<◌}
 use native.Mathlib.Omega.{arith}
-use borrow.Author.Tests.{lt-ltb, le-ltb}
+use borrow.Author.Tests.{lt-ltb}
 use Rattle.words.proofs.Signed.{back32}
 use Rattle.words.proofs.Laws.{word-is}
 use Rattle.tables.specs.Kept.{with_position, most_kept, kept_count}
 use Rattle.tables.proofs.KeptLaws.{most-small, first_small}
 use Rattle.tables.proofs.kept.keep.Goals as goal
 
--- src/kept.rt:79:9
-pub returns-then-most_kept-n : goal.returns-then-most_kept-n
-unfolding with_position
-returns-then-most_kept-n c =
-    let l : most_kept c.args.s ≤ kept_count c.args.constraints.now c.args.s = rw (c.most_kept.ensures, c.kept_count-n.ensures) at c.if-most_kept-n.true in
-    rw (le-ltb _ _ l)
-
--- src/kept.rt:81:31
 pub overflow_add-first_kept : goal.overflow_add-first_kept
 overflow_add-first_kept c = omega (arith, c.first_kept.ensures, first_small c.args.s, c.most_kept.ensures, most-small c.args.s, c.if-most_kept-n.false)
 
--- src/kept.rt:74:1
 pub returns : goal.returns
 unfolding with_position
 returns c =

@@ -1,12 +1,10 @@
 use Rattle.tables.specs.Kept.{kept_word}
 use Rattle.tables.proofs.kept.kept_word.Goals as goal
 
--- src/kept.rt:10:1
 pub returns-in-Values : goal.returns-in-Values
 unfolding kept_word
 returns-in-Values c = rw c.in-Values.is
 
--- src/kept.rt:10:1
 pub returns-in-Identities : goal.returns-in-Identities
 unfolding kept_word
 returns-in-Identities c = rw c.in-Identities.is

@@ -1,6 +1,6 @@
-use Prim.Native.Nat.{◌-◌, ◌<◌, ◌≤◌}
+use Prim.Native.Nat.{◌-◌, ◌<◌}
 use native.Mathlib.Omega.{arith}
-use borrow.Author.Tests.{lt-ltb, le-ltb}
+use borrow.Author.Tests.{lt-ltb}
 use Rattle.words.proofs.Signed.{back32}
 use Rattle.words.proofs.Laws.{word-is}
 use Rattle.tables.specs.Kept.{without_position, kept_count}
@@ -8,18 +8,9 @@ use Rattle.tables.proofs.KeptLaws.{most-small, first_small}
 use Rattle.tables.proofs.FindLaws.{kept_in}
 use Rattle.tables.proofs.kept.unkeep.Goals as goal
 
--- src/kept.rt:91:9
-pub returns-then-n-eq0 : goal.returns-then-n-eq0
-unfolding without_position
-returns-then-n-eq0 c =
-    let l : kept_count c.args.constraints.now c.args.s ≤ 0 = omega (arith, c.kept_count-n.ensures, c.if-n-eq0.true) in
-    rw (le-ltb _ _ l)
-
--- src/kept.rt:93:31
 pub overflow_add-first_kept : goal.overflow_add-first_kept
 overflow_add-first_kept c = omega (arith, c.first_kept.ensures, first_small c.args.s, most-small c.args.s, c.kept_count-n.ensures, kept_in c.args.constraints.now c.args.s)
 
--- src/kept.rt:86:1
 pub returns : goal.returns
 unfolding without_position
 returns c =

@@ -1,23 +1,12 @@
 use Prim.Native.Nat.{◌+◌, ◌<◌}
 use native.Mathlib.Omega.{arith}
-use borrow.Author.Tests.{lt-ltb, le-ltb, le-leb, lt-leb}
+use borrow.Author.Tests.{lt-ltb, le-leb}
 use Rattle.words.proofs.Signed.{back32}
 use Rattle.words.proofs.Laws.{word-is}
 use Rattle.tables.specs.Sizes.{count_word}
 use Rattle.tables.specs.Records.{record_count, with_record}
 use Rattle.tables.proofs.records.add_record.Goals as goal
 
--- src/records.rt:65:9
-pub returns-then-r-ge-RECORDS : goal.returns-then-r-ge-RECORDS
-unfolding with_record
-returns-then-r-ge-RECORDS c = rw (le-ltb _ 64 (rw c.record_count-r.ensures at c.if-r-ge-RECORDS.true))
-
--- src/records.rt:68:9
-pub returns-then-n-gt-FIELDS : goal.returns-then-n-gt-FIELDS
-unfolding with_record
-returns-then-n-gt-FIELDS c = rw (lt-ltb _ 64 (rw c.record_count-r.ensures at c.if-r-ge-RECORDS.false), lt-leb c.args.n 8 c.if-n-gt-FIELDS.true)
-
--- src/records.rt:60:1
 pub returns : goal.returns
 unfolding with_record count_word
 returns c =

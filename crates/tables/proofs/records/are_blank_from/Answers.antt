@@ -5,11 +5,9 @@ use Rattle.tables.specs.Sizes.{count_word}
 use Rattle.tables.proofs.ClearLaws.{clear-part, from-clear, from-full}
 use Rattle.tables.proofs.records.are_blank_from.Goals as goal
 
--- src/records.rt:92:9
 pub returns-then-n-ge-RECORDS : goal.returns-then-n-ge-RECORDS
 returns-then-n-ge-RECORDS c = from-full c.args.heap.now c.args.n c.if-n-ge-RECORDS.true
 
--- src/records.rt:88:1
 pub returns : goal.returns
 unfolding count_word
 returns c =

@@ -1,27 +1,12 @@
 use Prim.Native.Nat.{◌-◌, ◌<◌, ◌≤◌}
 use native.Mathlib.Omega.{arith}
-use borrow.Author.Tests.{lt-ltb, le-ltb, le-leb, lt-leb}
+use borrow.Author.Tests.{lt-ltb, le-leb}
 use Rattle.words.proofs.Signed.{back32}
 use Rattle.words.proofs.Laws.{word-is}
 use Rattle.tables.specs.Sizes.{count_word}
 use Rattle.tables.specs.Records.{record_count, without_record}
 use Rattle.tables.proofs.records.drop_record.Goals as goal
 
--- src/records.rt:82:9
-pub returns-then-n-eq0 : goal.returns-then-n-eq0
-unfolding without_record
-returns-then-n-eq0 c =
-    let l : record_count c.args.heap.now ≤ 0 = omega (arith, c.record_count-n.ensures, c.if-n-eq0.true) in
-    rw (le-ltb 0 _ l)
-
--- src/records.rt:85:9
-pub returns-then-n-gt-RECORDS : goal.returns-then-n-gt-RECORDS
-unfolding without_record
-returns-then-n-gt-RECORDS c =
-    let l : 0 < record_count c.args.heap.now = omega (arith, c.record_count-n.ensures, c.if-n-eq0.false) in
-    rw (lt-ltb 0 _ l, lt-leb _ 64 (rw c.record_count-n.ensures at c.if-n-gt-RECORDS.true))
-
--- src/records.rt:77:1
 pub returns : goal.returns
 unfolding without_record count_word
 returns c =

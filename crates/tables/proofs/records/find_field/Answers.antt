@@ -1,36 +1,40 @@
-use mathlib.Core.Path.{sym, ◌∙◌}
-use native.Mathlib.Omega.{arith}
-use borrow.Author.Tests.{ne_eqb}
+use mathlib.Core.Path.{◌≡◌, refl, ◌∙◌}
+use mathlib.Core.Bool.{Bool}
+use Prim.Native.Nat.{ℕ, ◌<◌}
+use borrow.Author.Tests.{tests, lt-ltb, le-ltb}
+use lib.Dec.{eqb}
+use Rattle.std.proofs.Common.{rules, arith}
+use Rattle.std.proofs.lemmas.Iterator.{YieldsList-from_range}
 use Rattle.tables.specs.Sizes.{field_location}
-use Rattle.tables.proofs.SearchLaws.{seeking-starts, seeking-goes-on}
-use Rattle.tables.proofs.FindLaws.{field_in, find-hits, find-ends}
+use Rattle.tables.specs.Search.{first}
+use Rattle.tables.specs.Records.{label_at, place_with, field_with}
+use Rattle.tables.proofs.FindLaws.{field_in}
+use Rattle.tables.proofs.RangeLaws.{position_range}
 use Rattle.tables.proofs.records.find_field.Goals as goal
 
--- src/records.rt:50:5
-pub loop-f-init : goal.loop-f-init
-loop-f-init c = (c.field_count-n.ensures, seeking-starts)
+pub returns-in_err-f : goal.returns-in_err-f
+unfolding field_with place_with
+returns-in_err-f c =
+    let n = c.field_count-n.result in
+    let t : ℕ → Bool = λ f. eqb (label_at c.args.heap.now c.args.r f) c.args.label in
+    let e : first t 0 n ≡ n = position_range _ _ _ t n c.in_err-f.ensures.ran (YieldsList-from_range 0 n n refl (omega arith)) (λ x b q k. search (rules, tests)) in
+    c.from_residual.ensures ∙ rw (← c.field_count-n.ensures, e, le-ltb n n (omega arith))
 
--- src/records.rt:52:42
 pub overflow_mul-result : goal.overflow_mul-result
-overflow_mul-result c = omega (arith, (field_in c.args.heap.now c.args.r c.loop-f.f (rw c.loop-f.invariant.0 at c.loop-f-test.true)).0)
+overflow_mul-result c = omega (arith, (field_in c.args.heap.now c.args.r c.in_ok-f.f (omega (arith, c.field_count-n.ensures, c.in_ok-f.ensures.bound))).0)
 
--- src/records.rt:52:30
 pub overflow_add-result : goal.overflow_add-result
-overflow_add-result c = omega (arith, (field_in c.args.heap.now c.args.r c.loop-f.f (rw c.loop-f.invariant.0 at c.loop-f-test.true)).0)
+overflow_add-result c = omega (arith, (field_in c.args.heap.now c.args.r c.in_ok-f.f (omega (arith, c.field_count-n.ensures, c.in_ok-f.ensures.bound))).0)
 
--- src/records.rt:52:30
-pub overflow_add-result-then-label_at-label : goal.overflow_add-result-then-label_at-label
-overflow_add-result-then-label_at-label c = omega (arith, (field_in c.args.heap.now c.args.r c.loop-f.f (rw c.loop-f.invariant.0 at c.loop-f-test.true)).0, (field_in c.args.heap.now c.args.r c.loop-f.f (rw c.loop-f.invariant.0 at c.loop-f-test.true)).1)
+pub overflow_add-result-2 : goal.overflow_add-result-2
+overflow_add-result-2 c =
+    let i = field_in c.args.heap.now c.args.r c.in_ok-f.f (omega (arith, c.field_count-n.ensures, c.in_ok-f.ensures.bound)) in
+    omega (arith, i.0, i.1)
 
--- src/records.rt:52:13
-pub returns-then-label_at-label : goal.returns-then-label_at-label
-unfolding field_location
-returns-then-label_at-label c = find-hits c.args.heap.now c.args.r c.args.label c.loop-f.f c.loop-f.invariant.1 (rw c.loop-f.invariant.0 at c.loop-f-test.true) (sym c.label_at.ensures ∙ c.if-label_at-label.true)
-
--- src/records.rt:50:5
-pub loop-f-preserved : goal.loop-f-preserved
-loop-f-preserved c = (c.loop-f.invariant.0, seeking-goes-on c.loop-f.invariant.1 (rw c.loop-f.invariant.0 at c.loop-f-test.true) (ne_eqb _ c.args.label (λ q. c.if-label_at-label.false (c.label_at.ensures ∙ q))))
-
--- src/records.rt:45:1
 pub returns : goal.returns
-returns c = find-ends c.args.heap.now c.args.r c.args.label c.loop-f.f c.loop-f.invariant.1 (rw c.loop-f.invariant.0 at c.loop-f-test.false)
+unfolding field_with place_with field_location
+returns c =
+    let n = c.field_count-n.result in
+    let t : ℕ → Bool = λ f. eqb (label_at c.args.heap.now c.args.r f) c.args.label in
+    let e : (c.in_ok-f.f < n) × (first t 0 n ≡ c.in_ok-f.f) = position_range _ _ _ t n c.in_ok-f.ensures.ran (YieldsList-from_range 0 n n refl (omega arith)) (λ x b q k. search (rules, tests)) in
+    rw (← c.field_count-n.ensures, e.1, lt-ltb c.in_ok-f.f n e.0)

@@ -1,6 +1,4 @@
-use Prim.Native.Nat.{◌+◌, ◌-◌, ◌*◌}
-use Rattle.text.specs.Told.{carried}
-use Rattle.text.specs.Pieces.{lent}
+use Prim.Native.Nat.{◌+◌, ◌*◌}
 use Rattle.text.proofs.BlockCode.{Round}
 use Rattle.text.proofs.blocks.+block_conditional_repeated_statement_statements.Given as goal
 
@@ -21,7 +19,4 @@ decreases-statements l = 4 * l.d + 3
 
 abbrev pub invariant-statements-loop-n : goal.invariant-statements-loop-n
 invariant-statements-loop-n l =
-    Round l.text l.d l.p l.from (lent l.initial.names l.initial.words l.initial.origins) (carried l.initial.s) (lent l.names l.words l.origins) (carried l.s) l.n
-
-abbrev pub decreases-statements-loop-n : goal.decreases-statements-loop-n
-decreases-statements-loop-n l = 256 - l.n
+    Round l.text l.d l.p l.from l.initial.r.lent l.initial.r.carried l.r.lent l.r.carried l.n

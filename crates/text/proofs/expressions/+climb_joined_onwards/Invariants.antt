@@ -1,8 +1,5 @@
-use mathlib.Core.Path.{◌≡◌}
-use Prim.Native.Nat.{suc, ◌+◌, ◌-◌, ◌*◌}
-use lib.ListN.{length}
-use Rattle.text.specs.Told.{carried, Ahead}
-use Rattle.text.specs.Pieces.{lent}
+use Prim.Native.Nat.{◌+◌, ◌*◌}
+use Rattle.text.specs.Told.{Ahead}
 use Rattle.text.proofs.OnwardsCode.{Turns}
 use Rattle.text.proofs.expressions.+climb_joined_onwards.Given as goal
 
@@ -17,8 +14,4 @@ decreases-onwards l = 3 * l.left + 2
 
 abbrev pub invariant-onwards-loop-round : goal.invariant-onwards-loop-round
 invariant-onwards-loop-round l =
-    (length l.names ≡ length l.initial.names) × (length l.words ≡ length l.initial.words) × (length l.origins ≡ length l.initial.origins) ×
-    (Ahead l.text (carried l.initial.s) → Ahead l.text (carried l.s) × Turns l.text l.from l.left l.in_c l.low l.brackets (lent l.initial.names l.initial.words l.initial.origins) (carried l.initial.s) (lent l.names l.words l.origins) (carried l.s) l.b l.round)
-
-abbrev pub decreases-onwards-loop-round : goal.decreases-onwards-loop-round
-decreases-onwards-loop-round l = suc (length l.text) - l.round
+    Ahead l.text l.initial.r.carried → Ahead l.text l.r.carried × Turns l.text l.from l.left l.in_c l.low l.brackets l.initial.r.lent l.initial.r.carried l.r.lent l.r.carried l.b l._round

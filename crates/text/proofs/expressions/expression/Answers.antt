@@ -1,7 +1,6 @@
 use Rattle.text.specs.Reading.{expression}
 use Rattle.text.proofs.expressions.expression.Goals as goal
 
--- src/expressions.rt:346:1
 pub returns : goal.returns
 unfolding expression
 returns c = let e = c.climb.ensures in record { expression = e.expression; ahead = e.ahead }

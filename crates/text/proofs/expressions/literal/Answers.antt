@@ -1,44 +1,28 @@
-use Rattle.text.specs.Told.{carried}
+use native.Mathlib.Omega.{arith}
 use Rattle.text.proofs.DoesLaws.{does-stopped}
 use Rattle.text.proofs.LiteralCode.{literal-nil, literal-false, literal-true, literal-number, literal-none}
 use Rattle.text.proofs.AheadLaws.{ahead-refused}
 use Rattle.text.proofs.expressions.literal.Goals as goal
 
--- src/expressions.rt:78:9
-pub returns-then-s-ne0 : goal.returns-then-s-ne0
-unfolding carried
-returns-then-s-ne0 c = record { piece = λ h names. does-stopped c.if-s-ne0.true; ahead = λ h. h }
+pub returns-then-r-ne0-clause-piece : goal.returns-then-r-ne0-clause-piece
+returns-then-r-ne0-clause-piece c = λ h. does-stopped c.if-r-ne0.true
 
--- src/expressions.rt:83:9
-pub returns-then-code-eq-NIL : goal.returns-then-code-eq-NIL
-unfolding carried
-returns-then-code-eq-NIL c =
-    record { piece = λ h names. literal-nil c.args.text.now names h c.if-code-eq-NIL.true (c.constant.ensures.piece h names); ahead = λ h. c.constant.ensures.ahead h }
+pub returns-in-24-clause-piece : goal.returns-in-24-clause-piece
+returns-in-24-clause-piece c = λ h. literal-nil c.args.text.now c.args.r.now.lent.names h c.in-24.is (c.constant.ensures.piece h)
 
--- src/expressions.rt:87:9
-pub returns-then-code-eq-FALSE : goal.returns-then-code-eq-FALSE
-unfolding carried
-returns-then-code-eq-FALSE c =
-    record { piece = λ h names. literal-false c.args.text.now names h c.if-code-eq-FALSE.true (c.constant-then-code-eq-FALSE.ensures.piece h names); ahead = λ h. c.constant-then-code-eq-FALSE.ensures.ahead h }
+pub returns-in-23-clause-piece : goal.returns-in-23-clause-piece
+returns-in-23-clause-piece c = λ h. literal-false c.args.text.now c.args.r.now.lent.names h c.in-23.is (c.constant-in-23.ensures.piece h)
 
--- src/expressions.rt:91:9
-pub returns-then-code-eq-TRUE : goal.returns-then-code-eq-TRUE
-unfolding carried
-returns-then-code-eq-TRUE c =
-    record { piece = λ h names. literal-true c.args.text.now names h c.if-code-eq-TRUE.true (c.constant-then-code-eq-TRUE.ensures.piece h names); ahead = λ h. c.constant-then-code-eq-TRUE.ensures.ahead h }
+pub returns-in-22-clause-piece : goal.returns-in-22-clause-piece
+returns-in-22-clause-piece c = λ h. literal-true c.args.text.now c.args.r.now.lent.names h c.in-22.is (c.constant-in-22.ensures.piece h)
 
--- src/expressions.rt:95:9
-pub returns-then-code-eq-NUMBER : goal.returns-then-code-eq-NUMBER
-unfolding carried
-returns-then-code-eq-NUMBER c =
-    record { piece = λ h names. literal-number c.args.text.now names h c.if-code-eq-NUMBER.true (c.number.ensures.piece h names); ahead = λ h. c.number.ensures.ahead h }
+pub returns-in-2-clause-piece : goal.returns-in-2-clause-piece
+returns-in-2-clause-piece c = λ h. literal-number c.args.text.now c.args.r.now.lent.names h c.in-2.is (c.number.ensures.piece h)
 
--- src/expressions.rt:73:1
-pub returns : goal.returns
-unfolding carried
-returns c =
-    record {
-      piece = λ h names.
-          literal-none c.args.text.now names h c.if-s-ne0.false c.if-code-eq-NIL.false c.if-code-eq-FALSE.false c.if-code-eq-TRUE.false c.if-code-eq-NUMBER.false c.refused.ensures;
-      ahead = λ h. ahead-refused c.args.text.now (carried c.args.s.now) c.refused.ensures h;
-    }
+pub returns-in_default-clause-piece : goal.returns-in_default-clause-piece
+returns-in_default-clause-piece c =
+    λ h.
+    literal-none c.args.text.now c.args.r.now.lent.names h c.if-r-ne0.false (λ e. omega (arith, c.in_default, e)) (λ e. omega (arith, c.in_default, e)) (λ e. omega (arith, c.in_default, e)) (λ e. omega (arith, c.in_default, e)) c.refused.ensures
+
+pub returns-in_default-clause-ahead : goal.returns-in_default-clause-ahead
+returns-in_default-clause-ahead c = λ h. ahead-refused c.args.text.now c.args.r.now.carried c.refused.ensures h

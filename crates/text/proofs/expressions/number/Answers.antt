@@ -1,30 +1,27 @@
 use mathlib.Core.Bool.{true}
+use mathlib.Core.Path.{◌∙◌}
+use Rattle.text.proofs.DoesLaws.{does-to}
 use Rattle.words.proofs.Signed.{back32}
-use Rattle.text.specs.Told.{carried}
 use Rattle.text.proofs.WrittenLaws.{passes}
 use Rattle.text.proofs.LiteralCode.{number-outside, number-within}
 use Rattle.text.proofs.AheadLaws.{ahead-wrote, ahead-passed}
 use Rattle.text.proofs.expressions.number.Goals as goal
 
--- src/expressions.rt:44:1
-pub returns-in-Outside : goal.returns-in-Outside
-unfolding carried
-returns-in-Outside c =
+pub returns-in-None : goal.returns-in-None
+returns-in-None c =
     record {
-      piece = λ h names. number-outside c.args.text.now names h c.value.ensures c.in-Outside.is
-          (passes true (carried c.args.s.now) c.pass.ensures)
-          (c.take.ensures.follows (ahead-passed c.args.text.now (carried c.args.s.now) true c.pass.ensures h));
-      ahead = λ h. c.take.ensures.ahead (ahead-passed c.args.text.now (carried c.args.s.now) true c.pass.ensures h);
+      piece = λ h. number-outside c.args.text.now c.args.r.now.lent.names h c.value.ensures c.in-None.is
+          (passes true c.args.r.now.carried c.pass.ensures)
+          (c.take.ensures.follows (ahead-passed c.args.text.now c.args.r.now.carried true c.pass.ensures h));
+      ahead = λ h. c.take.ensures.ahead (ahead-passed c.args.text.now c.args.r.now.carried true c.pass.ensures h);
     }
 
--- src/expressions.rt:44:1
-pub returns-in-Within : goal.returns-in-Within
-unfolding carried
-returns-in-Within c =
+pub returns-in-Some : goal.returns-in-Some
+returns-in-Some c =
     record {
-      piece = λ h names.
-          number-within c.args.text.now names h c.value.ensures c.in-Within.is (c.take-in-Within.ensures.follows h) c.write.ensures.words_after c.write.ensures.origins_after
-          c.write.ensures.s_after (rw (back32 c.in-Within.w (record { sfits = c.in-Within.known_told-1-own.given.0.1 })) at c.write-in-Within.ensures.words_after)
-          c.write-in-Within.ensures.origins_after c.write-in-Within.ensures.s_after;
-      ahead = λ h. ahead-wrote c.args.text.now _ c.write-in-Within.ensures.s_after (ahead-wrote c.args.text.now _ c.write.ensures.s_after (c.take-in-Within.ensures.ahead h));
+      piece = λ h. does-to (c.write-in-Some.ensures.names_after ∙ c.write.ensures.names_after)
+          (number-within c.args.text.now c.args.r.now.lent.names h c.value.ensures c.in-Some.is (c.take-in-Some.ensures.follows h) c.write.ensures.words_after c.write.ensures.origins_after
+          c.write.ensures.carried_after (rw (back32 c.in-Some.w search) at c.write-in-Some.ensures.words_after)
+          c.write-in-Some.ensures.origins_after c.write-in-Some.ensures.carried_after);
+      ahead = λ h. ahead-wrote c.args.text.now _ c.write-in-Some.ensures.carried_after (ahead-wrote c.args.text.now _ c.write.ensures.carried_after (c.take-in-Some.ensures.ahead h));
     }

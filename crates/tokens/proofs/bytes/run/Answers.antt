@@ -1,21 +1,15 @@
-use mathlib.Core.Path.{sym, ◌∙◌}
-use Rattle.tokens.proofs.ByteLaws.{running-starts, running-stops, running-goes-on, running-ends}
+use Rattle.std.proofs.Common.{rules, ap, ◌∙◌, not, length}
+use borrow.Author.Tests.{tests}
+use Rattle.std.specs.Option.{unwrap_or}
+use Rattle.std.proofs.lemmas.Iterator.{YieldsList-from_slice}
+use Rattle.std.proofs.lemmas.Iterator.Search.{position_from_yields_List}
+use Rattle.tokens.specs.Bytes.{is_of}
+use Rattle.tokens.proofs.ByteLaws.{run_position}
 use Rattle.tokens.proofs.bytes.run.Goals as goal
 
--- src/bytes.rt:84:5
-pub loop-i-init : goal.loop-i-init
-loop-i-init c = running-starts
-
--- src/bytes.rt:86:13
-pub returns-then-not-is_of : goal.returns-then-not-is_of
-returns-then-not-is_of c =
-    running-stops c.loop-i.invariant c.loop-i-test.true (sym c.is_of.ensures ∙ c.if-not-is_of.true)
-
--- src/bytes.rt:84:5
-pub loop-i-preserved : goal.loop-i-preserved
-loop-i-preserved c =
-    running-goes-on c.loop-i.invariant c.loop-i-test.true (sym c.is_of.ensures ∙ c.if-not-is_of.false)
-
--- src/bytes.rt:80:1
 pub returns : goal.returns
-returns c = running-ends c.loop-i.invariant c.loop-i-test.false
+returns c =
+    c.unwrap_or.ensures
+    ∙ ap (λ o. unwrap_or o (length c.args.s.now))
+    (position_from_yields_List (λ b. not (is_of c.args.class b)) _ _ c.position.result c.position.ensures.ran (YieldsList-from_slice c.args.s.now cc) (λ x b q k. search (rules, tests)))
+    ∙ run_position (is_of c.args.class) c.args.s.now

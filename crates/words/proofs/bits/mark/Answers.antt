@@ -7,11 +7,9 @@ use Rattle.words.specs.Bits.{with_mark}
 use Rattle.words.proofs.BitLaws.{one_shifted, mark-past}
 use Rattle.words.proofs.bits.mark.Goals as goal
 
--- src/bits.rt:17:1
 pub returns-then-i-s : goal.returns-then-i-s
 unfolding with_mark
 returns-then-i-s c = ap (λ (x : ℕ). set c.args.s.now (c.args.l / 64) (bit_or (get_or c.args.s.now (c.args.l / 64) 0) x)) (one_shifted (c.args.l % 64) (omega arith))
 
--- src/bits.rt:17:1
 pub returns-else-i-s : goal.returns-else-i-s
 returns-else-i-s c = mark-past c.args.s.now c.args.l c.if-i-s.false

@@ -1,7 +1,0 @@
-use mathlib.Core.Path.{refl, ◌∙◌}
-use Rattle.printing.proofs.TextLaws.{number_put}
-use Rattle.printing.proofs.page.add_number.Goals as goal
-
--- src/page.rt:33:1
-pub returns : goal.returns
-returns c = rw (c.bytes_to.ensures ∙ number_put c.args.w c.ranges.w c.put_number-n.ensures refl) at c.add.ensures

@@ -1,0 +1,26 @@
+use mathlib.Core.Path.{refl}
+use Rattle.text.specs.Told.{next_of}
+use Rattle.text.proofs.ToldLaws.{follows-stopped, need-refused, need-taken}
+use Rattle.text.proofs.StateLaws.{took-follows}
+use Rattle.text.proofs.AheadLaws.{ahead-refused, ahead-took}
+use Rattle.text.proofs.Carried.need.Goals as goal
+
+pub returns-then-self-ne0-clause-follows : goal.returns-then-self-ne0-clause-follows
+returns-then-self-ne0-clause-follows c =
+    λ h. follows-stopped c.if-self-ne0.true
+
+pub returns-then-self-c : goal.returns-then-self-c
+returns-then-self-c c =
+    let a = c.args in
+    let r = a.self.now in record {
+      follows = λ h. need-refused a.text.now r (next_of r) a.k c.if-self-ne0.false h a.c c.if-self-c.true c.refused.ensures;
+      ahead = λ h. ahead-refused a.text.now r c.refused.ensures h;
+    }
+
+pub returns : goal.returns
+returns c =
+    let a = c.args in
+    let r = a.self.now in record {
+      follows = λ h. took-follows a.text.now a.k r c.taken.ensures (need-taken a.text.now r (next_of r) a.k c.if-self-ne0.false h a.c c.if-self-c.false refl);
+      ahead = λ h. ahead-took a.text.now r a.k c.taken.ensures h;
+    }
