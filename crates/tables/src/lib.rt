@@ -6,6 +6,7 @@ pub mod cells; // cells.rt: values, and the cell at a location
 pub mod records; // records.rt: counts, labels, cells, a record more and a record less
 pub mod kept; // kept.rt: kept positions of both sorts
 pub mod lending; // lending.rt: the three tables as they are lent
+pub mod moved; // moved.rt: the cells lent to be changed, beside what is kept
 
 pub const VARIABLES: usize = 64;
 
@@ -81,4 +82,12 @@ pub struct Tables<'a> {
     pub environment: &'a mut [i32],
     pub heap: &'a mut [i32],
     pub constraints: &'a mut [i32],
+}
+
+// The cells lent to be changed, beside what is kept, lent to be read: what a value or a proposal moves.
+#[derive(Drop)]
+pub struct Moving<'a> {
+    pub environment: &'a mut [i32],
+    pub heap: &'a mut [i32],
+    pub constraints: &'a [i32],
 }
