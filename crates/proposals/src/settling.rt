@@ -1,7 +1,7 @@
 // The one judge of a proposal: 6, 16, 17, 18, 19.
 ghost use Rattle.std.specs.Prelude.{◌≡◌, ◌≤◌, ◌+◌, ◌*◌, length, drop, Ok};
 ghost use Rattle.tables.specs.Sizes.{locations};
-ghost use Rattle.tables.specs.Lending.{seen, cells_in, OnlyCells};
+ghost use Rattle.tables.specs.Lending.{seen, cells_moved, StillMoved};
 ghost use Rattle.rules.specs.Constraints.{counted};
 ghost use Rattle.rules.specs.Proposals.{entries, proposal, may_take, is_target, entries_fit};
 ghost use Rattle.rules.specs.Proposals.{settle as settle_by};
@@ -14,7 +14,7 @@ use crate::{Asked, FEW_PAIRS, SAVED_WORDS};
 use expressions::Weighed;
 use expressions::constraints::counted_at;
 use program::Refusal;
-use tables::{Tables, View};
+use tables::{Moving, View};
 
 // n pairs, whose locations rise.
 fn are_pairs(pairs: &[i32], n: usize) -> bool
@@ -98,11 +98,11 @@ fn entries_fit(t: &View<'_>, pairs: &[i32], n: usize, target: Option<usize>) -> 
 }
 
 // The cells of n pairs take their payloads and keep their kinds; the payloads that were there are laid by.
-fn apply(t: &mut Tables<'_>, pairs: &[i32], n: usize, saved: &mut [i32])
+fn apply(t: &mut Moving<'_>, pairs: &[i32], n: usize, saved: &mut [i32])
     requires n_le_locations { n ≤ locations }
     requires n_in_bounds { n ≤ length saved.old }
-    ensures applies { Applies (cells_in t.old) (cells_in t.new) pairs.now saved.new n }
-    ensures rest { OnlyCells t.old t.new }
+    ensures applies { Applies (cells_moved t.old) (cells_moved t.new) pairs.now saved.new n }
+    ensures rest { StillMoved t.old t.new }
 {
     for i in 0..n {
         let l = words::number_at(pairs, 2 * i);
@@ -114,7 +114,7 @@ fn apply(t: &mut Tables<'_>, pairs: &[i32], n: usize, saved: &mut [i32])
 // The parts that count, once n pairs are applied: 15, 19. The tables are as they were where it refuses.
 fn try_saving(
     program: &[i32],
-    t: &mut Tables<'_>,
+    t: &mut Moving<'_>,
     proposals: &[i32],
     n: usize,
     p: &[i32],
@@ -123,8 +123,8 @@ fn try_saving(
 ) -> Result<usize, Refusal>
     requires n_le_locations { n ≤ locations }
     requires n_in_bounds { n ≤ length saved.old }
-    ensures settles { Settles (cells_in t.old) (cells_in t.new) result (tried program.now t.old.constraints.now (own_in own.entry) p.now (cells_in t.old) (entries_in (drop 1 proposals.now) n) (drop (1 + 2 * n) proposals.now)) }
-    ensures rest { OnlyCells t.old t.new }
+    ensures settles { Settles (cells_moved t.old) (cells_moved t.new) result (tried program.now t.old.constraints.now (own_in own.entry) p.now (cells_moved t.old) (entries_in (drop 1 proposals.now) n) (drop (1 + 2 * n) proposals.now)) }
+    ensures rest { StillMoved t.old t.new }
 {
     let pairs = words::part_from(proposals, 1);
     apply(t, pairs, n, saved);
@@ -147,15 +147,15 @@ fn try_saving(
 // As try_saving; the payloads of a few pairs are laid by in a few words.
 fn try_pairs(
     program: &[i32],
-    t: &mut Tables<'_>,
+    t: &mut Moving<'_>,
     proposals: &[i32],
     n: usize,
     p: &[i32],
     own: Option<&[i32]>,
 ) -> Result<usize, Refusal>
     requires { n ≤ locations }
-    ensures settles { Settles (cells_in t.old) (cells_in t.new) result (tried program.now t.old.constraints.now (own_in own.entry) p.now (cells_in t.old) (entries_in (drop 1 proposals.now) n) (drop (1 + 2 * n) proposals.now)) }
-    ensures rest { OnlyCells t.old t.new }
+    ensures settles { Settles (cells_moved t.old) (cells_moved t.new) result (tried program.now t.old.constraints.now (own_in own.entry) p.now (cells_moved t.old) (entries_in (drop 1 proposals.now) n) (drop (1 + 2 * n) proposals.now)) }
+    ensures rest { StillMoved t.old t.new }
 {
     if n <= FEW_PAIRS {
         let mut few = [0i32; FEW_PAIRS];
@@ -168,7 +168,7 @@ fn try_pairs(
 // A proposal of n pairs, where the parts that count come to this.
 fn judge(
     program: &[i32],
-    t: &mut Tables<'_>,
+    t: &mut Moving<'_>,
     proposals: &[i32],
     n: usize,
     p: &[i32],
@@ -176,9 +176,9 @@ fn judge(
     parts: Weighed,
 ) -> Result<usize, Refusal>
     requires n_le_locations { n ≤ locations }
-    requires heap_value { weighed_of (counted program.now t.old.constraints.now (own_in asked.own) (cells_in t.old)) ≡ Ok parts }
-    ensures settles { Settles (cells_in t.old) (cells_in t.new) result (judged program.now t.old.constraints.now (asks_of asked.entry) p.now (cells_in t.old) parts.all (entries_in (drop 1 proposals.now) n) (drop (1 + 2 * n) proposals.now)) }
-    ensures rest { OnlyCells t.old t.new }
+    requires heap_value { weighed_of (counted program.now t.old.constraints.now (own_in asked.own) (cells_moved t.old)) ≡ Ok parts }
+    ensures settles { Settles (cells_moved t.old) (cells_moved t.new) result (judged program.now t.old.constraints.now (asks_of asked.entry) p.now (cells_moved t.old) parts.all (entries_in (drop 1 proposals.now) n) (drop (1 + 2 * n) proposals.now)) }
+    ensures rest { StillMoved t.old t.new }
 {
     if n == 0 {
         if !parts.required {
@@ -200,13 +200,13 @@ fn judge(
 // after it. The statement is at p.
 pub fn settle(
     program: &[i32],
-    t: &mut Tables<'_>,
+    t: &mut Moving<'_>,
     proposals: &[i32],
     p: &[i32],
     asked: Asked<'_>,
 ) -> Result<usize, Refusal>
-    ensures settles { Settles (cells_in t.old) (cells_in t.new) result (settle_by program.now t.old.constraints.now (asks_of asked.entry) p.now (cells_in t.old) proposals.now) }
-    ensures rest { OnlyCells t.old t.new }
+    ensures settles { Settles (cells_moved t.old) (cells_moved t.new) result (settle_by program.now t.old.constraints.now (asks_of asked.entry) p.now (cells_moved t.old) proposals.now) }
+    ensures rest { StillMoved t.old t.new }
 {
     let v = t.view();
     let parts = counted_at(program, &v, asked.own)?;

@@ -1,15 +1,15 @@
 // A payload put in a cell that keeps its kind; and payloads put back, one for each pair of words whose first is a location.
 ghost use Rattle.std.specs.Prelude.{◌≡◌, ◌≤◌};
 ghost use Rattle.tables.specs.Sizes.{locations};
-ghost use Rattle.tables.specs.Lending.{cells_in, OnlyCells};
+ghost use Rattle.tables.specs.Lending.{cells_moved, StillMoved};
 ghost use Rattle.proposals.specs.Undoing.{undone, Swaps};
 
-use tables::{Cell, Tables};
+use tables::{Cell, Moving};
 
 // The cell at l takes the payload w and keeps its kind; the answer is the payload that it had.
-pub(crate) fn put_payload(t: &mut Tables<'_>, l: usize, w: i32) -> i32
-    ensures swaps { Swaps (cells_in t.old) (cells_in t.new) l w result }
-    ensures rest { OnlyCells t.old t.new }
+pub(crate) fn put_payload(t: &mut Moving<'_>, l: usize, w: i32) -> i32
+    ensures swaps { Swaps (cells_moved t.old) (cells_moved t.new) l w result }
+    ensures rest { StillMoved t.old t.new }
 {
     let old = t.view().cell(l);
     t.put(
@@ -23,10 +23,10 @@ pub(crate) fn put_payload(t: &mut Tables<'_>, l: usize, w: i32) -> i32
 }
 
 // The n payloads that were laid by are put back, the last first.
-pub(crate) fn put_back(t: &mut Tables<'_>, pairs: &[i32], n: usize, saved: &[i32])
+pub(crate) fn put_back(t: &mut Moving<'_>, pairs: &[i32], n: usize, saved: &[i32])
     requires { n ≤ locations }
-    ensures cells { cells_in t.new ≡ undone pairs.now saved.now n (cells_in t.old) }
-    ensures rest { OnlyCells t.old t.new }
+    ensures cells { cells_moved t.new ≡ undone pairs.now saved.now n (cells_moved t.old) }
+    ensures rest { StillMoved t.old t.new }
 {
     for i in (0..n).rev() {
         let l = words::number_at(pairs, 2 * i);
