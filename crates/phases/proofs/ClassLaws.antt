@@ -3,7 +3,7 @@ use Rattle.std.specs.Prelude.{Result, Ok, Err}
 use mathlib.Core.Path.{◌≡◌, refl, sym, ◌∙◌}
 use mathlib.Core.Bool.{Bool, true, false, not, ◌&&◌, ◌||◌}
 use mathlib.Core.List.{List, Memᴰ as OneOf}
-use mathlib.Core.Logic.{inl, inr}
+use mathlib.Core.Logic.{◌⊎◌, inl, inr}
 use Prim.Native.Nat.{ℕ, ◌<◌}
 use native.Mathlib.Omega.{arith}
 use borrow.Author.Tests.{eqb-true, eq-eqb}
@@ -15,6 +15,7 @@ use Rattle.words.specs.Bits.{marked, with_mark}
 use Rattle.words.proofs.BitLaws.{none-marked}
 use Rattle.tables.specs.declared.Sort.TheVariants.{Identities}
 use Rattle.tables.specs.declared.Value.{Value}
+use Rattle.tables.specs.declared.Value.TheVariants.{Nil, Bool as Truth, Int, Ref}
 use Rattle.tables.specs.Sizes.{locations}
 use Rattle.tables.specs.Cells.{Cells}
 use Rattle.tables.specs.Kept.{kept_count}
@@ -25,6 +26,7 @@ use Rattle.rules.specs.State.{Res, refused}
 use Rattle.rules.specs.Identities.{Tie, is_node, ties, member, frozen_by, class_of, names, clash_free}
 use Rattle.rules.specs.Rules.Identities.{IsNamed, by_tie, backwards, onwards}
 use Rattle.rules.proofs.ClassLaws.{or_left, or_right, or_cases, false≢true, class-all, class-target, class-iff}
+use Rattle.rules.proofs.IdentityClauses.{node-nil, node-bool, node-int, node-ref}
 use Rattle.rules.proofs.PhaseLaws.{names-iff}
 use Rattle.phases.specs.declared.Passed.{Passed}
 use Rattle.phases.specs.Sizes.{marks_words}
@@ -35,6 +37,17 @@ use Rattle.phases.proofs.CountLaws.{many-least}
 use Rattle.phases.proofs.MarkLaws.{both_ways, mark-long, cells-size, cells-member, first-only, first-there, first-size, grows_none, grows_then}
 use Rattle.phases.proofs.TieLaws.{ties-found, ties-lost, ties-have, ties-number}
 use Rattle.phases.proofs.FreeLaws.{free-clash, ties-free, ties-none-free}
+
+-- references and nil, and the others
+pub node-of : {v : Value} → (v ≡ Nil) ⊎ ((r : ℕ) × v ≡ Ref r) → true ≡ is_node v
+node-of (inl e) = rw e (sym node-nil)
+node-of (inr (r, e)) = rw e (sym (node-ref r))
+
+pub node-other : (v : Value) → (v ≡ Nil → ⊥) → ((r : ℕ) → v ≡ Ref r → ⊥) → false ≡ is_node v
+node-other Nil n r = absurd (n refl)
+node-other (Truth b) n r = sym (node-bool b)
+node-other (Int i) n r = sym (node-int i)
+node-other (Ref k) n r = absurd (r k refl)
 
 -- marks as they are made
 pub unmarked-none : Unmarked (replicate marks_words 0)

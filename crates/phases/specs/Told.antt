@@ -4,6 +4,7 @@ use Rattle.std.specs.Prelude.{◌≡◌, List, ℤ, length, Result, Ok, Err}
 use Rattle.words.specs.Answer.{got, stop}
 use Rattle.tables.specs.declared.View.{View}
 use Rattle.tables.specs.declared.Tables.{Tables}
+use Rattle.tables.specs.declared.Moving.{Moving}
 use Rattle.tables.specs.Cells.{cells}
 use Rattle.program.specs.declared.Refusal.{Refusal}
 use Rattle.rules.specs.State.{State, Res}
@@ -14,12 +15,15 @@ use Rattle.phases.specs.declared.Done.{Done}
 abbrev pub tables : List ℤ → List ℤ → List ℤ → State
 tables e h c = record { cells = cells e h; kept = c }
 
--- as they are lent to be read, and to be changed
+-- as they are lent to be read, to be changed, and with the cells alone to be changed
 abbrev pub state_seen : View → State
 state_seen v = tables v.environment.now v.heap.now v.constraints.now
 
 abbrev pub state_in : Tables → State
 state_in t = tables t.environment.now t.heap.now t.constraints.now
+
+abbrev pub state_moved : Moving → State
+state_moved m = tables m.environment.now m.heap.now m.constraints.now
 
 abbrev pub done_of : Res Left → Result Done Refusal
 done_of (got l) = Ok (record { unread = length l.unread; accepted = l.accepted })

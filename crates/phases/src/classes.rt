@@ -40,7 +40,6 @@ fn identity_at<'a>(program: &'a [i32], constraints: &[i32], k: usize) -> &'a [i3
 }
 
 // References and nil.
-#[tactic(auto, unfolding(rules::specs::Identities::is_node))]
 pub fn is_node(v: Value) -> bool
     ensures { result ≡ is_node v }
 {
@@ -48,7 +47,6 @@ pub fn is_node(v: Value) -> bool
 }
 
 // The cell at l holds v.
-#[tactic(auto, unfolding(rules::specs::State::slot_at))]
 fn holds(t: &View<'_>, l: usize, v: Value) -> bool
     ensures { result ≡ is (slot_at (seen t.now) l) v }
 {

@@ -3,12 +3,12 @@ ghost use Rattle.std.specs.Prelude.{◌≡◌, ◌≤◌, ◌*◌, length};
 ghost use Rattle.words.specs.Bits.{next_marked};
 ghost use Rattle.tables.specs.declared.Value.TheVariants.{Ref};
 ghost use Rattle.tables.specs.Cells.{cells, put_pair};
-ghost use Rattle.tables.specs.Lending.{cells_in, StillLent, OnlyCells};
+ghost use Rattle.tables.specs.Lending.{cells_moved, StillMoved};
 ghost use Rattle.tables.specs.Records.{record_count, with_record};
 ghost use Rattle.rules.specs.Identities.{put_all};
 ghost use Rattle.rules.specs.Statements.{value_phase};
 ghost use Rattle.phases.specs.Sizes.{class_cells};
-ghost use Rattle.phases.specs.Told.{state_in, Does};
+ghost use Rattle.phases.specs.Told.{state_moved, Does};
 ghost use Rattle.phases.specs.Taking.{cells_of, held_again, Gives};
 ghost use Rattle.phases.specs.Classing.{gives, gives_new};
 
@@ -18,7 +18,7 @@ use expressions::paths::cell_at;
 use program::Refusal;
 use proposals::Asked;
 use proposals::settling::settle;
-use tables::{Cell, Tables, Value};
+use tables::{Cell, Moving, Value};
 
 // The first marked cell from l on; no location where none is.
 fn next_marked(class: &Class, l: usize) -> usize
@@ -53,10 +53,10 @@ fn lay_by(saved: &mut [i32], i: usize, c: Cell)
 }
 
 // The marked cells take the value; what was there is laid by, in their order.
-fn put_class(t: &mut Tables<'_>, class: &Class, v: Value, saved: &mut [i32])
+fn put_class(t: &mut Moving<'_>, class: &Class, v: Value, saved: &mut [i32])
     requires { 2 * length (cells_of class.now) ≤ length saved.old }
-    ensures gives { Gives (cells_in t.old) (cells_in t.new) class.now saved.new v }
-    ensures rest { OnlyCells t.old t.new }
+    ensures gives { Gives (cells_moved t.old) (cells_moved t.new) class.now saved.new v }
+    ensures rest { StillMoved t.old t.new }
 {
     let mut i: usize = 0;
     let mut l = next_marked(class, 0);
@@ -69,9 +69,9 @@ fn put_class(t: &mut Tables<'_>, class: &Class, v: Value, saved: &mut [i32])
 }
 
 // The marked cells hold again what was laid by.
-fn take_back(t: &mut Tables<'_>, class: &Class, saved: &[i32])
-    ensures cells { cells_in t.new ≡ held_again saved.now (cells_of class.now) 0 (cells_in t.old) }
-    ensures rest { OnlyCells t.old t.new }
+fn take_back(t: &mut Moving<'_>, class: &Class, saved: &[i32])
+    ensures cells { cells_moved t.new ≡ held_again saved.now (cells_of class.now) 0 (cells_moved t.old) }
+    ensures rest { StillMoved t.old t.new }
 {
     let mut i: usize = 0;
     let mut at = next_marked(class, 0);
@@ -85,7 +85,7 @@ fn take_back(t: &mut Tables<'_>, class: &Class, saved: &[i32])
 // The marked cells, the target among them, take the value, and then the value phase.
 fn move_class(
     program: &[i32],
-    t: &mut Tables<'_>,
+    t: &mut Moving<'_>,
     proposals: &[i32],
     class: &Class,
     target: usize,
@@ -93,8 +93,8 @@ fn move_class(
     p: &[i32],
 ) -> Result<Done, Refusal>
     requires { length (cells_of class.now) ≤ class_cells }
-    ensures does { Does (state_in t.old) (state_in t.new) result (value_phase program.now t.old.constraints.now p.now target (put_all (cells_in t.old) (cells_of class.now) v) proposals.now) }
-    ensures lent { StillLent t.old t.new }
+    ensures does { Does (state_moved t.old) (state_moved t.new) result (value_phase program.now t.old.constraints.now p.now target (put_all (cells_moved t.old) (cells_of class.now) v) proposals.now) }
+    ensures rest { StillMoved t.old t.new }
 {
     let mut saved = [0i32; CLASS_WORDS];
     put_class(t, class, v, &mut saved);
@@ -118,13 +118,13 @@ fn move_class(
 // The L of the assignment at p takes the value v: 7, 13, 12, and then the value phase.
 pub fn give(
     program: &[i32],
-    t: &mut Tables<'_>,
+    t: &mut Moving<'_>,
     proposals: &[i32],
     p: &[i32],
     v: Value,
 ) -> Result<Done, Refusal>
-    ensures does { Does (state_in t.old) (state_in t.new) result (gives program.now p.now (state_in t.old) proposals.now v) }
-    ensures lent { StillLent t.old t.new }
+    ensures does { Does (state_moved t.old) (state_moved t.new) result (gives program.now p.now (state_moved t.old) proposals.now v) }
+    ensures rest { StillMoved t.old t.new }
 {
     let q = words::part_from(p, 1);
     let seen = t.view();
@@ -140,7 +140,7 @@ pub fn give(
 // A record of n fields is added, and the cells of a class take a reference to it; the record is taken away where that is refused.
 fn move_new(
     program: &[i32],
-    t: &mut Tables<'_>,
+    t: &mut Moving<'_>,
     proposals: &[i32],
     class: &Class,
     x: usize,
@@ -149,8 +149,8 @@ fn move_new(
     p: &[i32],
 ) -> Result<Done, Refusal>
     requires { length (cells_of class.now) ≤ class_cells }
-    ensures does { Does (state_in t.old) (state_in t.new) result (value_phase program.now t.old.constraints.now p.now x (put_all (cells t.old.environment.now (with_record t.old.heap.now fields.now n)) (cells_of class.now) (Ref (record_count t.old.heap.now))) proposals.now) }
-    ensures lent { StillLent t.old t.new }
+    ensures does { Does (state_moved t.old) (state_moved t.new) result (value_phase program.now t.old.constraints.now p.now x (put_all (cells t.old.environment.now (with_record t.old.heap.now fields.now n)) (cells_of class.now) (Ref (record_count t.old.heap.now))) proposals.now) }
+    ensures rest { StillMoved t.old t.new }
 {
     let seen = t.view();
     let v = Value::Ref(tables::records::record_count(seen.heap));
@@ -170,15 +170,15 @@ fn move_new(
 // 2 where there is no such variable, 10, 13, 12, and then the value phase.
 pub fn give_new(
     program: &[i32],
-    t: &mut Tables<'_>,
+    t: &mut Moving<'_>,
     proposals: &[i32],
     p: &[i32],
     x: usize,
     fields: &[i32],
     n: usize,
 ) -> Result<Done, Refusal>
-    ensures does { Does (state_in t.old) (state_in t.new) result (gives_new program.now p.now (state_in t.old) proposals.now x fields.now n) }
-    ensures lent { StillLent t.old t.new }
+    ensures does { Does (state_moved t.old) (state_moved t.new) result (gives_new program.now p.now (state_moved t.old) proposals.now x fields.now n) }
+    ensures rest { StillMoved t.old t.new }
 {
     if tables::VARIABLES <= x {
         return Err(Refusal::at(2, words::part_from(p, 1)));
