@@ -11,6 +11,7 @@ use lib.ListN.{length, drop}
 use Rattle.words.specs.Words.{number_at, last_of}
 use Rattle.words.specs.Answer.{got, stop, ◌>>=◌, ◌>>◌, want}
 use Rattle.words.proofs.AnswerLaws.{either}
+use Rattle.tables.specs.declared.Moving.{Moving}
 use Rattle.tables.specs.declared.Value.{Value}
 use Rattle.tables.specs.declared.Sort.{Sort}
 use Rattle.tables.specs.declared.Sort.TheVariants.{Values, Identities}
@@ -24,7 +25,7 @@ use Rattle.program.specs.Told.{told, words_left}
 use Rattle.program.proofs.NumberLaws.{number_fits_lem, number-high}
 use Rattle.program.proofs.LengthLaws.{after-part, uses-keeps, path-uses}
 use Rattle.program.proofs.WhereLaws.{after_is}
-use Rattle.rules.specs.State.{Res, refused, reads}
+use Rattle.rules.specs.State.{State, Res, refused, reads}
 use Rattle.rules.specs.Paths.{value_at}
 use Rattle.rules.specs.Evaluation.{same, evaluate}
 use Rattle.rules.specs.Identities.{is_node, same_now}
@@ -36,11 +37,17 @@ use Rattle.expressions.specs.declared.Evaluated.{Evaluated}
 use Rattle.expressions.specs.Told.{evaluated_of}
 use Rattle.proposals.specs.Told.{settled_of, settled_cells, Settles}
 use Rattle.proposals.proofs.FormLaws.{unlike}
-use Rattle.phases.specs.Told.{Does}
+use Rattle.phases.specs.declared.Done.{Done}
+use Rattle.phases.specs.Told.{tables, Does}
 use Rattle.phases.specs.Classing.{gives, gives_new}
 use Rattle.phases.proofs.PhaseLaws.{state_of, refuses, assign-by, new_by, new-same}
 use Rattle.statements.specs.Told.{sameness_of}
 use Rattle.statements.specs.Filling.{filled_of, Fills}
+
+-- the tables hold the cells that were moved
+pub moved : (m : Moving) {S : State} {r : Result Done Refusal} {x : Res Left} {e h k kept : List ℤ}
+    → e ≡ m.environment.now → h ≡ m.heap.now → k ≡ kept → Does S (tables m.environment.now m.heap.now kept) r x → Does S (tables e h k) r x
+moved m a b c d = rw (a, b, c) d
 
 -- an expression that is refused ends the whole
 fails-then : {A : Type 0} {r : Result Evaluated Refusal} {f : Refusal} (m : Res (Value × List ℤ)) (g : Value × List ℤ → Res A) → r ≡ evaluated_of m → r ≡ Err f → (m >>= g) ≡ stop f

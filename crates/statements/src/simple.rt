@@ -17,7 +17,7 @@ use program::reading::{read_path, words_left};
 use program::{Refusal, Verb};
 use proposals::Asked;
 use proposals::settling::settle;
-use tables::{Sort, Tables, View};
+use tables::{Moving, Sort, Tables, View};
 
 // The assignment at p: its expression, and then its target.
 fn assign(
@@ -34,7 +34,13 @@ fn assign(
     let e = words::part_last(q, left);
     let seen = t.view();
     let v = find_value(&seen, e)?.value;
-    give(program, t, proposals, p, v)
+    let kept = &mut *t.constraints;
+    let mut m = Moving {
+        environment: &mut *t.environment,
+        heap: &mut *t.heap,
+        constraints: kept,
+    };
+    give(program, &mut m, proposals, p, v)
 }
 
 // n times label and e, at p: the label, kind and payload of each field.
@@ -83,7 +89,13 @@ fn make_new(
     let seen = t.view();
     let mut fields = [0i32; FIELDS_WORDS];
     field_words(&seen, words::part_from(r, 1), n, &mut fields)?;
-    give_new(program, t, proposals, p, x, &fields, n)
+    let kept = &mut *t.constraints;
+    let mut m = Moving {
+        environment: &mut *t.environment,
+        heap: &mut *t.heap,
+        constraints: kept,
+    };
+    give_new(program, &mut m, proposals, p, x, &fields, n)
 }
 
 // There is room for a position not yet kept.
@@ -124,7 +136,13 @@ fn constrain(
         target: None,
         room: !keeps | has_room(seen.constraints, Sort::Values, position),
     };
-    let unread = settle(program, t, proposals, p, asked)?;
+    let kept = &mut *t.constraints;
+    let mut m = Moving {
+        environment: &mut *t.environment,
+        heap: &mut *t.heap,
+        constraints: kept,
+    };
+    let unread = settle(program, &mut m, proposals, p, asked)?;
     if keeps {
         keep_once(t.constraints, Sort::Values, position);
     }

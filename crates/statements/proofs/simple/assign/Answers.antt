@@ -1,7 +1,8 @@
+use Rattle.std.proofs.Common.{rules, sym}
 use Rattle.std.proofs.lemmas.Result.{err_from_is_err_and}
 use Rattle.tables.specs.Lending.{cells_in}
 use Rattle.phases.proofs.PhaseLaws.{does-same}
-use Rattle.statements.proofs.SimpleLaws.{path-after, assign-fails, assign-gives}
+use Rattle.statements.proofs.SimpleLaws.{moved, path-after, assign-fails, assign-gives}
 use Rattle.statements.proofs.simple.assign.Goals as goal
 
 pub returns-in_err-v-clause-does : goal.returns-in_err-v-clause-does
@@ -14,6 +15,7 @@ returns-in_err-v-clause-does c =
 pub returns-clause-does : goal.returns-clause-does
 returns-clause-does c =
     let a = path-after c.args.p.now c.part_from-q.ensures c.read_path.ensures c.words_left-left.ensures c.part_last-e.ensures in
-    does-same
+    moved c.give.new.t (search rules) (search rules) (sym c.give.ensures.rest.kept)
+    (does-same
     (assign-gives c.args.program.now c.args.p.now c.args.t.now.constraints.now c.args.proposals.now (cells_in c.args.t.now) a (rw c.view-seen.ensures.cells at c.find_value.ensures) c.in_ok-v.was)
-    c.give.ensures.does
+    c.give.ensures.does)
