@@ -38,9 +38,19 @@ use Rattle.lent.proofs.LentLaws.{is-loop}
 use Rattle.lent.proofs.CodeClaims.{as-in-a-run}
 use Rattle.block.proofs.TestLaws.{Forgets, then-untold, then-forgets, paid-forgets, turns-forget, turn-forgets, statements-forget, block-forgets}
 
--- what is still lent after one step, and after the next
+-- what is still lent before a step, and after one step and the next
+pub lent-same : {a : Tables} → StillLent a a
+lent-same = record { environment = refl; heap = refl; constraints = refl; environment_length = refl; heap_length = refl; constraints_length = refl }
+
 pub lent-then : {a b c : Tables} → StillLent a b → StillLent b c → StillLent a c
-lent-then x y = record { environment = y.environment ∙ x.environment; heap = y.heap ∙ x.heap; constraints = y.constraints ∙ x.constraints }
+lent-then x y = record {
+  environment = y.environment ∙ x.environment;
+  heap = y.heap ∙ x.heap;
+  constraints = y.constraints ∙ x.constraints;
+  environment_length = y.environment_length ∙ x.environment_length;
+  heap_length = y.heap_length ∙ x.heap_length;
+  constraints_length = y.constraints_length ∙ x.constraints_length;
+}
 
 -- the parts after the test, and after a block
 pub past-test : {r : Result ℕ ℕ} {left : ℕ} (p : List ℤ) {q first : List ℤ} → q ≡ drop 1 p → r ≡ told (read_expression 16 false q) → left ≡ words_left r → first ≡ last_of left q → first ≡ past_test p
@@ -80,7 +90,7 @@ row-starts {program} {p} {ws} {T} {budget} {d} {t} ne k b =
     let z : number_at p 0 - 0 ≡ number_at p 0 = omega arith in
     record {
       inside = omega arith;
-      lent = record { environment = refl; heap = refl; constraints = refl };
+      lent = lent-same;
       begins = b;
       grows = omega arith;
       rest = rw (z, last-but-one p) (ap untold_out (opened program budget p (carries ws (state_in T) t) d ne k));
@@ -196,7 +206,7 @@ turning-starts {program} {p} {ws} {T} {q} {body} {budget} {d} {place} {t} is a l
     record {
       fuel = suc budget;
       enough = omega arith;
-      lent = record { environment = refl; heap = refl; constraints = refl };
+      lent = lent-same;
       begins = b;
       grows = omega arith;
       rest = rw (is, a, l) (ap untold_out (sym (verb-loop (λ r v. do_block d program budget r v) (λ r. after (read_block d r)) program budget p (carries ws (state_in T) t))));

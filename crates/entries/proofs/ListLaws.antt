@@ -29,7 +29,7 @@ use Rattle.rules.proofs.StatementClauses.{simple-assign}
 use Rattle.rules.proofs.EntryClauses.{entry-unpaid, entry-goes, entry-stops, onwards-on, onwards-end, next-unfit, next-got, entries_none, entries-open}
 use Rattle.rules.proofs.EntryWords.{entry-reads, entry-short, takes-shorter, takes-last, assigning-is, entry-verb}
 use Rattle.phases.specs.Told.{state_in}
-use Rattle.block.proofs.RunLaws.{lent-then}
+use Rattle.block.proofs.RunLaws.{lent-same, lent-then}
 use Rattle.lent.specs.declared.Tally.{Tally}
 use Rattle.lent.specs.Tallied.{carries, out_of, untold_out, Begins, Goes, ended_at}
 use Rattle.lent.specs.Lending.{holds_blocks, one_statement}
@@ -101,7 +101,7 @@ starts program entries ws budget T = record {
   fuel = length entries;
   enough = omega arith;
   inside = omega arith;
-  lent = record { environment = refl; heap = refl; constraints = refl };
+  lent = lent-same;
   begins = record { few = omega arith; inside = omega arith; going = refl; nowhere = refl };
   rest = rw (last-all entries, last-all ws);
 }
