@@ -136,11 +136,11 @@ fn constrain(
         target: None,
         room: !keeps | has_room(seen.constraints, Sort::Values, position),
     };
-    let kept = &mut *t.constraints;
+    let positions = &mut *t.constraints;
     let mut m = Moving {
         environment: &mut *t.environment,
         heap: &mut *t.heap,
-        constraints: kept,
+        constraints: positions,
     };
     let unread = settle(program, &mut m, proposals, p, asked)?;
     if keeps {
