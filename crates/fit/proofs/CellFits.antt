@@ -1,12 +1,13 @@
 -- The cells that fit, and the values that they hold. Assumes nothing.
 use Rattle.std.specs.Prelude.{None, Some}
 use mathlib.Core.Path.{◌≡◌, refl, sym, ◌∙◌}
-use mathlib.Core.Bool.{Bool, true, false, cond, ◌||◌}
+use mathlib.Core.Bool.{Bool, true, false, cond, ◌&&◌, ◌||◌}
 use Prim.Native.Nat.{ℕ, ◌<◌, ◌≤◌}
 use native.Mathlib.Omega.{arith}
-use borrow.Author.Tests.{lt-ltb, ltb-true, ltb-false, eqb-true}
+use borrow.Author.Tests.{le-leb, lt-ltb, ltb-true, ltb-false, eqb-true}
 use lib.Dec.{ltb, eqb}
 use lib.IntN.{ℤ, pos, negsuc}
+use lib.Signed.{lt_z, le_z}
 use Rattle.words.specs.Words.{number_of, eq_z}
 use Rattle.words.proofs.Laws.{word-is, word-greatest, eq_z-true}
 use Rattle.tables.specs.Sizes.{no_number}
@@ -18,6 +19,13 @@ use Rattle.tables.proofs.SearchLaws.{cases}
 use Rattle.tables.proofs.WordLaws.{word_number}
 use Rattle.tables.proofs.ValueLaws.{slot-absent, slot-nil, slot-boolean, slot-integer, slot-reference, cell-nil, cell-truth, cell-integer, cell-reference}
 use Rattle.fit.specs.Fit.{admits, cell_fits}
+
+-- a reference from 0 on and below the count
+pub admits-is : (count p : ℤ) → le_z (pos 0) p && lt_z p count ≡ admits count p
+admits-is (pos n) (pos r) = rw (le-leb 0 r (omega arith))
+admits-is (pos n) (negsuc r) = refl
+admits-is (negsuc n) (pos r) = rw (le-leb 0 r (omega arith))
+admits-is (negsuc n) (negsuc r) = refl
 
 -- ---- the cells that fit
 

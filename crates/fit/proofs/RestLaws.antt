@@ -33,6 +33,10 @@ clear-cells count e z = every-all (λ x. cell_fits count (pair_at e (2 * x))) 64
 
 -- a heap of n records that fit, whose other records are blank or not
 module _ (h : List ℤ) (n : ℕ) where
+  pub number-refused : (r : ℕ) → r < n → record_fits h r ≡ false → number_fits h n r ≡ false
+  unfolding number_fits
+  number-refused r l e = rw (lt-ltb r n l) e
+
   number-passed : every (number_fits h n) 64 ≡ true → (r : ℕ) → r < n → n ≤ 64 → record_fits h r ≡ true
   unfolding number_fits
   number-passed e r l m = rw (lt-ltb r n l) at (every-at (number_fits h n) 64 e r (omega arith))
@@ -60,6 +64,10 @@ module _ (h : List ℤ) (n : ℕ) where
 
 -- a sort of n positions that fit, whose other positions are blank or not
 module _ (c : List ℤ) (s : Sort) (n : ℕ) where
+  pub room-refused : (i : ℕ) → i < n → position_fits c s i ≡ false → room_fits c s n i ≡ false
+  unfolding room_fits
+  room-refused i l e = rw (lt-ltb i n l) e
+
   room-passed : every (room_fits c s n) (most_kept s) ≡ true → (i : ℕ) → i < n → n ≤ most_kept s → position_fits c s i ≡ true
   unfolding room_fits
   room-passed e i l m = rw (lt-ltb i n l) at (every-at (room_fits c s n) (most_kept s) e i (omega arith))
