@@ -17,11 +17,34 @@ use Rattle.tables.proofs.SearchLaws.{cases}
 use Rattle.program.specs.Forms.{verb_of}
 use Rattle.program.specs.declared.Verb.TheVariants.{Unknown as no_verb}
 use Rattle.program.specs.Told.{told, words_left, verdict_of}
-use Rattle.program.specs.Reading.{Reading, read_expression, among, read_fields, read_verb, read_with, read_block, read_statement, ends, place_in, read_program, after}
+use Rattle.program.specs.Reading.{Reading, read_path, read_expression, among, read_fields, read_new, read_assign, read_verb, read_with, read_block, read_statement, ends, place_in, read_program, after}
 use Rattle.program.proofs.NumberLaws.{number_fits_lem, number-high, verb-high}
 use Rattle.program.proofs.LengthLaws.{Part, part-trans, part-drop}
 use Rattle.program.proofs.ReadLaws.{halted, onward, told-left, past}
 use Rattle.program.proofs.RowLaws.{many, statements-many, last-part, last-length, last-all, last-but-one}
+
+-- ---- assign and new
+
+module _ (p : List ℤ) where
+  pub assign-first : {k : ℕ} → Err k ≡ told (read_path p) → Err k ≡ told (read_assign p)
+  unfolding read_assign
+  assign-first e = halted (read_path p) _ e
+
+  pub assign-second : {q : List ℤ} → read_path p ≡ got q → told (read_expression 16 false q) ≡ told (read_assign p)
+  unfolding read_assign
+  assign-second e = rw e
+
+  pub new-variable : 64 ≤ number_at p 0 → told (stop p) ≡ told (read_new p)
+  unfolding read_new
+  new-variable h = rw (number-high 0 63 p (omega arith) (omega arith))
+
+  pub new-count : number_at p 0 < 64 → 8 < number_at (drop 1 p) 0 → told (stop (drop 1 p)) ≡ told (read_new p)
+  unfolding read_new
+  new-count h l = rw (number_fits_lem 0 63 p (omega arith) (omega arith), number-high 0 8 (drop 1 p) (omega arith) l)
+
+  pub new-fields : number_at p 0 < 64 → number_at (drop 1 p) 0 ≤ 8 → told (read_fields (number_at (drop 1 p) 0) [] (drop 1 (drop 1 p))) ≡ told (read_new p)
+  unfolding read_new
+  new-fields h l = rw (number_fits_lem 0 63 p (omega arith) (omega arith), number_fits_lem 0 8 (drop 1 p) (omega arith) l)
 
 -- ---- the loop over the fields of new: i are read, and the marks tell the labels that came before
 
@@ -118,6 +141,9 @@ module _ (d : ℕ) (p : List ℤ) where
     unfolding verb_of read_verb
     branches = statement-at 7 is
 
+    pub branch-test : {k : ℕ} → Err k ≡ told (read_expression 16 false (drop 1 p)) → Err k ≡ told (read_statement d p)
+    branch-test e = halted (read_expression 16 false (drop 1 p)) _ e ∙ ap told branches
+
     pub branch-first : {q : List ℤ} {k : ℕ} → read_expression 16 false (drop 1 p) ≡ got q → Err k ≡ told (read_block d q) → Err k ≡ told (read_statement d p)
     branch-first {q = q} t e = halted (read_block d q) _ e ∙ ap told (rw t at branches)
 
@@ -128,6 +154,9 @@ module _ (d : ℕ) (p : List ℤ) where
     body : (read_expression 16 false (drop 1 p) >>= λ q. read_block d q) ≡ read_statement d p
     unfolding verb_of read_verb
     body = statement-at 8 is
+
+    pub loop-test : {k : ℕ} → Err k ≡ told (read_expression 16 false (drop 1 p)) → Err k ≡ told (read_statement d p)
+    loop-test e = halted (read_expression 16 false (drop 1 p)) _ e ∙ ap told body
 
     pub loop-body : {q : List ℤ} → read_expression 16 false (drop 1 p) ≡ got q → told (read_block d q) ≡ told (read_statement d p)
     loop-body t = ap told (rw t at body)
@@ -144,6 +173,14 @@ module _ (d : ℕ) (p : List ℤ) where
   block_at zero ne h = absurd (ne refl)
   block_at (suc e) ne h =
       statements-many (λ r. read_block (suc e - 1) r) (number_at p 0) (drop 1 p) ∙ rw (sub-one (suc e), number_fits_lem 0 255 p (omega arith) h)
+
+  block-off : (e : ℕ) → (e ≡ 0 → ⊥) → 255 < number_at p 0 → told (stop p) ≡ told (read_block e p)
+  unfolding read_block
+  block-off zero ne h = absurd (ne refl)
+  block-off (suc e) ne h = rw (number-high 0 255 p (omega arith) h)
+
+  pub block-long : (d ≡ 0 → ⊥) → 255 < number_at p 0 → told (stop p) ≡ told (read_block d p)
+  block-long ne h = block-off d ne h
 
   pub block_row : (d ≡ 0 → ⊥) → number_at p 0 ≤ 255 → many (read_statement (d - 1)) (number_at p 0) (last_of (length p - 1) p) ≡ read_block d p
   block_row ne h = rw (last-but-one p) (block_at d ne h)

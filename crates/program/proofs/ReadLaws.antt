@@ -16,8 +16,8 @@ use Rattle.words.proofs.Laws.{number-drop}
 use Rattle.program.specs.Forms.{form_of}
 use Rattle.program.specs.declared.Form.TheVariants.{Unknown as no_form}
 use Rattle.program.specs.Told.{told, words_left}
-use Rattle.program.specs.Reading.{Reading, read_labels, read_paths, read_form, read_expression, after}
-use Rattle.program.proofs.NumberLaws.{number_fits_lem, number-high, form-low, form-high}
+use Rattle.program.specs.Reading.{Reading, any_word, read_labels, read_path, read_paths, read_form, read_expression, read_part, read_parts, read_constraint, after}
+use Rattle.program.proofs.NumberLaws.{number_fits_lem, number-low, number-high, any-fits, any-short, form-low, form-high}
 use Rattle.program.proofs.LengthLaws.{Part}
 
 -- ---- a piece and what follows it
@@ -39,6 +39,14 @@ pub told-left : {r : Result ℕ ℕ} (m : Reading (List ℤ)) → r ≡ told m �
 unfolding after
 told-left (got q) e = ap words_left e
 told-left (stop q) e = ap words_left e
+
+-- ---- any word
+
+pub word-short : (p : List ℤ) → length p ≡ 0 → told (stop p) ≡ told (any_word p)
+word-short p h = ap told (sym (any-short p (omega arith)))
+
+pub word-there : (p : List ℤ) → (length p ≡ 0 → ⊥) → Ok (length p - 1) ≡ told (any_word p)
+word-there p h = rw (any-fits p (omega (arith, h)), length-drop 1 p)
 
 -- ---- labels, of which i are read
 
@@ -82,6 +90,29 @@ module _ {n i : ℕ} {p : List ℤ} (inv : Labelling n p i) where
       let e : i ≡ n = omega (arith, inv.inside) in
       let k : length (drop i p) ≡ length p - n = length-drop i p ∙ rw e in
       rw k at (ap told (sym (labels-end n i p h) ∙ inv.rest))
+
+-- ---- L and L == L
+
+module _ (p : List ℤ) where
+  pub path-variable : 64 ≤ number_at p 0 → told (stop p) ≡ told (read_path p)
+  unfolding read_path
+  path-variable h = rw (number-high 0 63 p (omega arith) (omega arith))
+
+  pub path-steps : number_at p 0 < 64 → 7 < number_at (drop 1 p) 0 → told (stop (drop 1 p)) ≡ told (read_path p)
+  unfolding read_path
+  path-steps h l = rw (number_fits_lem 0 63 p (omega arith) (omega arith), number-high 0 7 (drop 1 p) (omega arith) l)
+
+  pub path-labels : number_at p 0 < 64 → number_at (drop 1 p) 0 ≤ 7 → told (read_labels (number_at (drop 1 p) 0) (drop 1 (drop 1 p))) ≡ told (read_path p)
+  unfolding read_path
+  path-labels h l = rw (number_fits_lem 0 63 p (omega arith) (omega arith), number_fits_lem 0 7 (drop 1 p) (omega arith) l)
+
+  pub paths-first : {k : ℕ} → Err k ≡ told (read_path p) → Err k ≡ told (read_paths p)
+  unfolding read_paths
+  paths-first e = halted (read_path p) _ e
+
+  pub paths-second : {q : List ℤ} → read_path p ≡ got q → told (read_path q) ≡ told (read_paths p)
+  unfolding read_paths
+  paths-second e = rw e
 
 -- ---- e
 
@@ -133,10 +164,48 @@ module _ (d : ℕ) (in_c : Bool) (p : List ℤ) where
       identity-outside e = ap told (sym (let_through p (not in_c) (read_paths (drop 1 p)) (ap not e)) ∙ expression-at 26 is)
 
     module _ (is : number_at p 0 ≡ 25) where
+      pub operator-none : number_at (drop 1 p) 0 ≡ 0 → told (stop (drop 1 p)) ≡ told (read_expression d in_c p)
+      unfolding read_form form_of
+      operator-none h = ap told (rw (number-low 1 11 (drop 1 p) (omega arith)) at (expression-at 25 is))
+
+      pub operator-high : (number_at (drop 1 p) 0 ≡ 0 → ⊥) → 11 < number_at (drop 1 p) 0 → told (stop (drop 1 p)) ≡ told (read_expression d in_c p)
+      unfolding read_form form_of
+      operator-high n h = ap told (rw (number-high 1 11 (drop 1 p) (omega (arith, n)) h) at (expression-at 25 is))
+
       module _ (one : number_at (drop 1 p) 0 ≡ 0 → ⊥) (most : number_at (drop 1 p) 0 ≤ 11) where
         operands : (read_expression (d - 1) in_c (drop 1 (drop 1 p)) >>= λ r. read_expression (d - 1) in_c r) ≡ read_expression d in_c p
         unfolding read_form form_of
         operands = rw (number_fits_lem 1 11 (drop 1 p) (omega (arith, one)) most) at (expression-at 25 is)
 
+        pub left-halts : {k : ℕ} → Err k ≡ told (read_expression (d - 1) in_c (drop 1 (drop 1 p))) → Err k ≡ told (read_expression d in_c p)
+        left-halts e = halted (read_expression (d - 1) in_c (drop 1 (drop 1 p))) _ e ∙ ap told operands
+
         pub right-follows : {q : List ℤ} → read_expression (d - 1) in_c (drop 1 (drop 1 p)) ≡ got q → told (read_expression (d - 1) in_c q) ≡ told (read_expression d in_c p)
         right-follows e = ap told (rw e at operands)
+
+-- ---- C
+
+module _ (p : List ℤ) where
+  pub part_low : number_at p 0 ≡ 0 → told (stop p) ≡ told (read_part p)
+  unfolding read_part
+  part_low h = rw (number-low 1 3 p (omega arith))
+
+  pub part-high : (number_at p 0 ≡ 0 → ⊥) → 3 < number_at p 0 → told (stop p) ≡ told (read_part p)
+  unfolding read_part
+  part-high n h = rw (number-high 1 3 p (omega (arith, n)) h)
+
+  pub part-is : (number_at p 0 ≡ 0 → ⊥) → number_at p 0 ≤ 3 → told (read_expression 16 true (drop 1 p)) ≡ told (read_part p)
+  unfolding read_part
+  part-is n h = rw (number_fits_lem 1 3 p (omega (arith, n)) h)
+
+  pub constraint-low : number_at p 0 ≡ 0 → told (stop p) ≡ told (read_constraint p)
+  unfolding read_constraint
+  constraint-low h = rw (number-low 1 16 p (omega arith))
+
+  pub constraint-high : (number_at p 0 ≡ 0 → ⊥) → 16 < number_at p 0 → told (stop p) ≡ told (read_constraint p)
+  unfolding read_constraint
+  constraint-high n h = rw (number-high 1 16 p (omega (arith, n)) h)
+
+  pub constraint-is : (number_at p 0 ≡ 0 → ⊥) → number_at p 0 ≤ 16 → told (read_parts (number_at p 0) (drop 1 p)) ≡ told (read_constraint p)
+  unfolding read_constraint
+  constraint-is n h = rw (number_fits_lem 1 16 p (omega (arith, n)) h)
