@@ -11,6 +11,7 @@ use Rattle.text.specs.declared.Carried.{Carried}
 use Rattle.text.specs.Told.{next_of, reader_of, refused_at, refused_by, room_with, named_variable, named_label, looked_by, took_by, Ahead}
 use Rattle.text.specs.Written.{wrote_one, pass_by, deep_by, numbered_by}
 use Rattle.text.proofs.RaisedLaws.{grown_by}
+use Rattle.text.proofs.WritingCode.{owing_by}
 
 module _ (text : List ℕ) (r : Carried) {s : Carried} where
   pub ahead-looked : s ≡ looked_by text r → Ahead text s
@@ -48,6 +49,10 @@ module _ (text : List ℕ) (r : Carried) {s : Carried} where
   pub ahead-grown : (k : ℕ) → s ≡ grown_by k r → Ahead text r → Ahead text s
   unfolding reader_of peek
   ahead-grown k is h = λ names. rw is (h names)
+
+  pub ahead-owing : (k : ℕ) → s ≡ owing_by k r → Ahead text r → Ahead text s
+  unfolding reader_of peek
+  ahead-owing k is h = λ names. rw is (h names)
 
   pub ahead-passed : (b : Bool) → s ≡ pass_by b r → Ahead text r → Ahead text s
   unfolding reader_of peek

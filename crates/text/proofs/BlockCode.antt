@@ -214,6 +214,9 @@ module _ (text : List ℕ) where
   Rows d p from a r b s =
       (Ahead text r → (r.number ≡ 0 → from < r.written) → Onward false 0 3 from a r (λ f q. row_by text d p (behind_first f) q) b s) × (Ahead text r → Ahead text s)
 
+  pub round-starts : {d p from : ℕ} {a : Lent} {s : Carried} → Round d p from a s a s 0
+  round-starts = record { turn = λ _. turn-starts; ahead = λ h. h }
+
   pub round-over : {d p from n : ℕ} {a₀ a : Lent} {s₀ s : Carried} → Round d p from a₀ s₀ a s n → 255 < n → Rows d p from a₀ s₀ a s
   round-over inv h = (λ e pre. turn-over (inv.turn e) h pre, inv.ahead)
 

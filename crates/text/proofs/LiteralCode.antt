@@ -43,6 +43,11 @@ pub record Opening (text : List ℕ) (r s : Carried) (b : ℕ) : Type 0 where
   pub certain : s.number ≡ 0 → r.certain ≤ most_words → s.certain ≤ most_words
   pub owed : s.number ≡ 0 → s.owed ≤ r.owed
 
+pub opening-starts : (text : List ℕ) (r : Carried) → Opening text r r 0
+opening-starts text r =
+    let e : suc (length text) - 0 ≡ suc (length text) = omega arith in
+    record { inside = omega arith; rest = λ names. rw e; written = refl; counts = λ z. refl; certain = λ z h. h; owed = λ z. omega arith }
+
 module _ {text : List ℕ} {r s : Carried} {b : ℕ} (inv : Opening text r s b) where
   pub opening-stopped : (s.number ≡ 0 → ⊥) → Opens text r s
   unfolding reading_of numbered_of

@@ -83,6 +83,13 @@ pub record Naming (text names : List ℕ) (from count : ℕ) (t : Token) (i : �
   pub inside : i ≤ count
   pub rest : i + number_in text (names_from names (from + 2 * i) (count - i)) t ≡ number_in text (names_from names from count) t
 
+pub naming-starts : {text names : List ℕ} {from count : ℕ} {t : Token} → Naming text names from count t 0
+naming-starts {from = from} {count = count} =
+    record {
+      inside = omega arith;
+      rest = let y : from + 2 * 0 ≡ from = omega arith in let z : count - 0 ≡ count = omega arith in rw (y, z) (omega arith);
+    }
+
 module _ {text names : List ℕ} {from count : ℕ} {t : Token} {i : ℕ} (inv : Naming text names from count t i) where
   naming-turn : i < count → i + cond (is_name text (name_at names (from + 2 * i)) t) 0 (suc (number_in text (names_from names (from + 2 * (i + 1)) (count - (i + 1))) t)) ≡ number_in text (names_from names from count) t
   unfolding names_from number_in is_name

@@ -6,6 +6,7 @@ use Prim.Native.Nat.{ℕ, suc, ◌+◌, ◌-◌, ◌≤◌, ◌<◌}
 use native.Mathlib.Omega.{arith}
 use borrow.Author.Tests.{lt-ltb, le-ltb}
 use lib.Dec.{eqb, ltb, leb}
+use lib.IntN.{ℤ}
 use lib.ListN.{length}
 use Rattle.words.specs.Answer.{Answer, got, stop, ◌>>=◌}
 use Rattle.tokens.specs.declared.Token.{Token}
@@ -14,7 +15,7 @@ use Rattle.text.specs.Reading.{take as take_by}
 use Rattle.text.specs.declared.Carried.{Carried}
 use Rattle.text.specs.Told.{reader_of, refused_by, Peeks, Follows}
 use Rattle.text.specs.declared.Lent.{Lent}
-use Rattle.text.specs.Pieces.{form_of, Onward, joined_by}
+use Rattle.text.specs.Pieces.{lent, form_of, Onward, joined_by}
 use Rattle.text.proofs.AnswerSteps.{beside, bind-pair}
 use Rattle.text.proofs.DoesLaws.{Program, does-then, does-as, does-wider, does-nothing, does-stopped, does-refused, does-take}
 use Rattle.text.proofs.ClimbCode.{right_by}
@@ -125,3 +126,8 @@ module _ {text : List ℕ} {from left low brackets b round : ℕ} {in_c : Bool} 
         turns-end k most le =
             later most le a r
             (does-as does-nothing (λ fit y. end-turn text left in_c low b (inv.fuel - 1) t (form_of true from a r) (reader_of a.names r) (p a.names) h j (le-ltb 0 b k)))
+
+-- the same of equal rows and readers
+pub turns_as : {text : List ℕ} {from left low brackets b e round : ℕ} {in_c : Bool} {a₀ : Lent} {r₀ r s : Carried} {ns ms : List ℕ} {ws vs : List ℤ} {os us : List ℕ}
+    → ms ≡ ns → vs ≡ ws → us ≡ os → s ≡ r → e ≡ b → Turns text from left in_c low brackets a₀ r₀ (lent ns ws os) r b round → Turns text from left in_c low brackets a₀ r₀ (lent ms vs us) s e round
+turns_as h i j k l t = rw (h, i, j, k, l) t

@@ -73,6 +73,9 @@ pub record Raising {A : Type 0} (z : A) (from k end : ℕ) (before ws : List A) 
   pub long : length ws ≡ length before
 
 module _ {A : Type 0} {z : A} {from k end : ℕ} {before : List A} where
+  pub raising-starts : Raising z from k end before before end
+  raising-starts = record { inside = omega arith; rest = refl; long = refl }
+
   module _ {ws : List A} {i : ℕ} (inv : Raising z from k end before ws i) where
     pub raising-goes-on : from < i → {us : List A} {w : A} → w ≡ get_or ws (i - 1) z → us ≡ set ws (i - 1 + k) w → Raising z from k end before us (i - 1)
     unfolding raised
@@ -117,6 +120,9 @@ pub record Filling {A : Type 0} (from : ℕ) (gap before rest ws : List A) (i : 
   pub long : length ws ≡ length before
 
 module _ {A : Type 0} {from : ℕ} {gap before : List A} where
+  pub filling-starts : Filling from gap before gap before 0
+  filling-starts = let e : from + 0 ≡ from = omega arith in record { still = rw e; long = refl }
+
   module _ {rest ws : List A} {i : ℕ} (inv : Filling from gap before rest ws i) where
     pub filling-goes-on : {w : A} {later us : List A} → rest ≡ w ∷ later → us ≡ set ws (from + i) w → Filling from gap before later us (i + 1)
     unfolding filled

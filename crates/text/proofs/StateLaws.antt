@@ -1,5 +1,6 @@
 -- What the reader is when a token is taken. Assumes nothing.
 use mathlib.Core.Path.{◌≡◌, refl}
+use mathlib.Core.Bool.{true, false}
 use mathlib.Core.List.{List}
 use Prim.Native.Nat.{ℕ}
 use Rattle.words.specs.Answer.{Answer}
@@ -19,6 +20,14 @@ module _ (text : List ℕ) (k : ℕ) (r : Carried) where
 
   pub took_number : (took_by text k r).number ≡ (taken_by (next_of r) k r).number
   took_number = took-as (λ s u. s.number ≡ u.number) (λ u. refl) (λ u. refl)
+
+  pub took-room : room_with k r ≡ true → took_by text k r ≡ looked_by text (behind (next_of r) k r)
+  unfolding took_by
+  took-room e = rw e
+
+  pub took-none : room_with k r ≡ false → took_by text k r ≡ refused_at 22 r.start r
+  unfolding took_by
+  took-none e = rw e
 
   pub took-follows : {s : Carried} {step : Reader → Answer Fault Reader} → s ≡ took_by text k r → Follows r step (taken_by (next_of r) k r) → Follows r step s
   unfolding reading_of reader_of

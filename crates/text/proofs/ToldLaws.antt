@@ -1,14 +1,15 @@
 -- What the code's reader is after each step, as the definitions have it. Assumes nothing.
 use mathlib.Core.Path.{◌≡◌, refl, sym, ap, ◌∙◌}
-use mathlib.Core.Bool.{true, false, ◌&&◌}
+use mathlib.Core.Bool.{Bool, true, false, not, cond, ◌&&◌}
 use mathlib.Core.List.{List}
 use Prim.Native.Nat.{ℕ, ◌+◌, ◌≤◌, ◌<◌}
 use native.Mathlib.Omega.{arith}
-use borrow.Author.Tests.{eq-eqb, ne_eqb}
-use lib.Dec.{eqb, ltb}
+use borrow.Author.Tests.{leb-true, eq-eqb, ne_eqb}
+use lib.Dec.{eqb, ltb, leb}
 use lib.ListN.{length}
 use Rattle.words.specs.Answer.{Answer, got, stop}
 use Rattle.tables.proofs.SearchLaws.{cases}
+use Rattle.program.specs.Forms.{most_words}
 use Rattle.program.specs.Reading.{among}
 use Rattle.tokens.specs.declared.Token.{Token}
 use Rattle.text.specs.Reading.{Fault, Named, Reader, peek, refusal, take, need, variable, label, number_in, known, with_name}
@@ -27,6 +28,21 @@ follows-stopped {r = r} h = record { reads = λ names. rw (ne_eqb r.number 0 h);
 pub numbers-stopped : {names : List ℕ} {r : Carried} {step : Reader → Answer Fault (ℕ × Reader)} → (r.number ≡ 0 → ⊥) → Numbers names r step names r
 unfolding reading_of numbered_of
 numbers-stopped {r = r} h = record { reads = λ long. rw (ne_eqb r.number 0 h); written = refl; depth = refl }
+
+-- ---- room
+
+module _ (r : Carried) (k : ℕ) where
+  pub room-is : r.passed ≡ false → leb (r.certain + r.owed + k) 4096 ≡ room_with k r
+  unfolding room_with
+  room-is e = rw e
+
+  pub room_small : room_with k r ≡ true → r.certain + r.owed + k ≤ 4096
+  unfolding room_with
+  room_small e = small r.passed e
+    where
+      small : (b : Bool) → not b && leb (r.certain + r.owed + k) most_words ≡ true → r.certain + r.owed + k ≤ 4096
+      small true h = absurd (let z : ◌≡◌ {A = Bool} false true = h in let y : ◌≡◌ {A = ℕ} 0 1 = ap (λ b. cond b 1 0) z in omega arith)
+      small false h = leb-true (r.certain + r.owed + k) 4096 h
 
 -- ---- a reader that goes on
 

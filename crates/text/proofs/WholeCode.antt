@@ -24,6 +24,9 @@ use Rattle.text.proofs.AcceptedSound.{accepted-sound}
 use Rattle.text.proofs.NamingLaws.{most-small, most-is, length-names}
 use Rattle.text.proofs.ToldNames.{copied-over, told_over, names-told}
 
+pub most-of : (most x : ℕ) {n : ℕ} → n ≡ at_most most x → n ≤ most
+most-of most x e = rw e (most-small most x)
+
 -- what is written from the first word on
 module _ {A : Type 0} (ws : List A) (s : Carried) where
   since-first : {n : ℕ} → n ≡ s.written → since 0 ws s ≡ take n ws

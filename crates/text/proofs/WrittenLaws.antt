@@ -11,6 +11,7 @@ use lib.Seq.{take-set-le}
 use Rattle.tables.proofs.SearchLaws.{cases}
 use Rattle.text.specs.declared.Carried.{Carried}
 use Rattle.text.specs.Told.{reader_of, reading_of}
+use Rattle.text.proofs.ToldLaws.{follows-stopped}
 use Rattle.text.specs.Written.{since, with1, wrote_one, Passes, Owes}
 
 module _ {A : Type 0} where
@@ -58,6 +59,16 @@ pub passes : (b : Bool) (r : Carried) {s : Carried}
     → Passes b r s
 unfolding reading_of reader_of
 passes b r e = record { reads = λ names. rw e (cases (eqb r.number 0) (λ f. rw f) (λ f. rw f)); written = rw e; depth = rw e }
+
+pub owes_more : (k : ℕ) (r : Carried) {s : Carried} → s ≡ record r { owed = r.owed + k } → Owes k r s
+unfolding reading_of reader_of
+owes_more k r e = λ a b. record { reads = λ names. rw e (cases (eqb r.number 0) (λ f. rw f) (λ f. rw f)); written = rw e; depth = rw e }
+
+pub owes-much : (k : ℕ) (r : Carried) → 4096 < r.owed → Owes k r r
+owes-much k r h = λ a b. follows-stopped (λ e. omega (arith, a e))
+
+pub owes-many : (k : ℕ) (r : Carried) → 4096 < k → Owes k r r
+owes-many k r h = λ a b. let z : ⊥ = omega arith in absurd z
 
 -- what is owed, where the sum is right if both are as few as they may be
 pub owes-least : (k : ℕ) (r : Carried) {m : ℕ} → (r.owed ≤ 4096 → k ≤ 4096 → m ≡ r.owed + k) → Owes k r (record r { owed = m })
