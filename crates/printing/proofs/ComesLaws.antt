@@ -50,7 +50,14 @@ comes-exactly N p text =
     by-reading l (got u) e = printed-comes N p text l e
     by-reading l (stop place) e = Comes.unread l e
 
--- ---- whatever it comes to, the text has no more than 65,536 bytes
+-- ---- whatever it comes to, the answer has four words, and the text no more than 65,536 bytes
+
+four : {N : Naming} {p : List ℤ} {text : List ℕ} {a : Answered} → Comes N p text a → length a.answer ≡ 4
+four (Comes.sized n) = refl
+four (Comes.unread l r) = refl
+four (Comes.unnamed l r f h) = refl
+four (Comes.long l r f t) = refl
+four (Comes.whole l r f h b) = refl
 
 few : {N : Naming} {p : List ℤ} {text : List ℕ} {a : Answered} → Comes N p text a → a.bytes ≤ most_bytes
 few (Comes.sized n) = omega arith
@@ -60,5 +67,8 @@ few (Comes.long l r f t) = omega arith
 few (Comes.whole l r f h b) = b
 
 module _ (p : List ℤ) (source : List ℕ) (names : List ℤ) (text : List ℕ) where
+  pub four-words : length (write p source names text).answer ≡ 4
+  four-words = four (comes-exactly (naming source names) p text)
+
   pub bytes_most : (write p source names text).bytes ≤ most_bytes
   bytes_most = few (comes-exactly (naming source names) p text)

@@ -2,6 +2,7 @@ pub mod NameLaws
 pub mod FaultLaws
 pub mod PageLaws
 pub mod TextLaws
+pub mod LeftLaws
 pub mod RowLaws
 pub mod PieceLaws
 pub mod StatementLaws

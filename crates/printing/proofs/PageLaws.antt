@@ -4,7 +4,7 @@ use mathlib.Core.List.{List, [], ◌∷◌, ◌++◌, append_assoc, append-nil}
 use Prim.Native.Nat.{ℕ, ◌+◌, ◌≤◌, ◌<◌}
 use borrow.Author.Tests.{lt-ltb, le-ltb}
 use native.Mathlib.Numerals.{add-one}
-use lib.ListN.{length, get_or, set, take}
+use lib.ListN.{length, get_or, set, take, length-set}
 use lib.Seq.{take-suc}
 use Rattle.printing.specs.Signs.{Sign, blank, fixed, integer, variable, label}
 use Rattle.printing.specs.Naming.{Naming, naming_of, ranks, first_label, name_of, sign_bytes, bytes_of, numbers_of, noted, noted_all}
@@ -13,10 +13,24 @@ use Rattle.printing.specs.declared.page.Page.{Page}
 
 -- ---- bytes
 
-onto-append : (s : Ink) (t u : List ℕ) → onto s (t ++ u) ≡ onto (onto s t) u
+pub onto-none : (s : Ink) → onto s [] ≡ s
+unfolding onto
+onto-none s = refl
+
+pub onto-append : (s : Ink) (t u : List ℕ) → onto s (t ++ u) ≡ onto (onto s t) u
 unfolding onto
 onto-append s [] u = refl
 onto-append s (b ∷ t) u = onto-append (byte_on s b) t u
+
+-- a text and then another
+pub onto-then : {s u : Ink} (r : Ink) (t v : List ℕ) → s ≡ onto r t → u ≡ onto s v → u ≡ onto r (t ++ v)
+onto-then r t v h k = k ∙ ap (λ x. onto x v) h ∙ sym (onto-append r t v)
+
+-- as many bytes as before are there
+pub onto-length : (s : Ink) (t : List ℕ) → length (onto s t).bytes ≡ length s.bytes
+unfolding onto byte_on
+onto-length s [] = refl
+onto-length s (b ∷ t) = onto-length (byte_on s b) t ∙ length-set s.bytes s.at b
 
 -- ---- bytes that are added
 
@@ -80,6 +94,9 @@ module _ {a : Page} where
   pub wrote_none : Wrote a [] a
   unfolding onto noted_all
   wrote_none = record { ink = refl; seen = refl; names = refl; row = refl }
+
+  pub wrote-length : {b : Page} {ss : List Sign} → Wrote a ss b → length b.out.now ≡ length a.out.now
+  wrote-length {ss = ss} h = ap (λ (s : Ink). length s.bytes) h.ink ∙ onto-length (ink_of a) (bytes_of (naming_of a.names) ss)
 
   -- signs and then others
   pub wrote_then : {b c : Page} {ss tt : List Sign} → Wrote a ss b → Wrote b tt c → Wrote a (ss ++ tt) c

@@ -56,6 +56,11 @@ module _ (seen : List ℕ) where
 
 -- ---- numbers are noted in a row
 
+pub all-length : (seen is : List ℕ) → length (noted_all seen is) ≡ length seen
+unfolding noted_all
+all-length seen [] = refl
+all-length seen (k ∷ is) = all-length (noted seen k) is ∙ noted-length seen k
+
 pub all-stays : (seen is : List ℕ) (i : ℕ) → 0 < get_or seen i 0 → get_or (noted_all seen is) i 0 ≡ get_or seen i 0
 unfolding noted_all
 all-stays seen [] i h = refl

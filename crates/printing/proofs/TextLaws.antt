@@ -5,11 +5,12 @@ use Prim.Native.Nat.{ℕ, zero, suc, ◌+◌, ◌-◌, ◌*◌, ◌≤◌, ◌<�
 use native.Mathlib.Omega.{arith}
 use lib.IntN.{ℤ, pos, negsuc}
 use lib.Signed.{mag}
-use lib.ListN.{length, get_or, take}
+use lib.ListN.{length, get_or, take, get_or-eq_default}
 use mir.Syntax.{w32}
 use mir.Val.{SFits, to_z, of_z}
 use Rattle.words.specs.Words.{number_of}
 use Rattle.words.proofs.Signed.{back32}
+use Rattle.program.proofs.ReadLaws.{past}
 use Rattle.lister.specs.Bytes.{Puts}
 use Rattle.lister.specs.Numerals.{numeral}
 use Rattle.lister.proofs.SizeLaws.{numeral-length}
@@ -17,6 +18,21 @@ use Rattle.printing.specs.Signs.{Sign, blank, fixed, integer, variable, label, i
 use Rattle.printing.specs.Signs.{operator_signs, around, operator_text, operator_bytes, priority_signs, before, priority_text, priority_bytes, between_bytes, plain}
 use Rattle.printing.specs.Naming.{Naming, bytes_of, numbers_of}
 use Rattle.printing.proofs.NameLaws.{put_whole}
+
+-- ---- numbers that are no operator's, and no priority's
+
+pub no-operator : (k : ℕ) → (k ≡ 1 → ⊥) → (k ≡ 2 → ⊥) → (k ≡ 3 → ⊥) → (k ≡ 4 → ⊥) → (k ≡ 5 → ⊥) → (k ≡ 6 → ⊥) → (k ≡ 7 → ⊥) → (k ≡ 8 → ⊥) → (k ≡ 9 → ⊥) → (k ≡ 10 → ⊥)
+    → (k ≡ 11 → ⊥) → operator_bytes k ≡ []
+unfolding operator_text
+no-operator zero a b c d e f g h i j l = refl
+no-operator (suc n) a b c d e f g h i j l =
+    let z : 12 ≤ suc n = past (past (past (past (past (past (past (past (past (past (past (omega arith) a) b) c) d) e) f) g) h) i) j) l in
+    rw (get_or-eq_default operator_signs (blank []) {n = suc n} z)
+
+pub no-priority : (k : ℕ) → (k ≡ 1 → ⊥) → (k ≡ 2 → ⊥) → (k ≡ 3 → ⊥) → priority_bytes k ≡ []
+unfolding priority_text
+no-priority zero a b c = refl
+no-priority (suc n) a b c = let z : 4 ≤ suc n = past (past (past (omega arith) a) b) c in rw (get_or-eq_default priority_signs (blank []) {n = suc n} z)
 
 -- ---- operators and priorities are signs that use no number
 
@@ -74,7 +90,7 @@ line-is d e = rw e (line-to (7 - d) (omega arith))
 
 -- a word in decimal, put into 24 bytes
 pub number_put : (w : ℤ) {s e : List ℕ} {n : ℕ} → SFits w32 w → Puts s 0 (numeral (to_z w32 (of_z w32 w))) e n → length s ≡ 24 → take n e ≡ numeral w
-number_put w f p l = put_whole {t = numeral w} (rw (back32 w f) at p) (omega (arith, numeral-length w, l))
+number_put w f p l = (put_whole {t = numeral w} (rw (back32 w f) at p) (omega (arith, numeral-length w, l))).0
 
 most : (w : ℤ) → mag w < 2147483648 → number_of w ≤ 2147483648
 most (pos n) h = omega arith

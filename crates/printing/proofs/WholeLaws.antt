@@ -23,6 +23,7 @@ use Rattle.printing.specs.Faults.{fault_from, used_from, found}
 use Rattle.printing.specs.Page.{Ink, ink, far, byte_on, onto, Wrote}
 use Rattle.printing.specs.declared.page.Page.{Page}
 use Rattle.printing.specs.Whole.{answered, text_of, standings, first_fault, fits_in, refused, accepted, printed, write}
+use Rattle.printing.proofs.StandingLaws.{all-length}
 
 -- the length that is told
 abbrev pub counted : ℕ → ℕ
@@ -104,9 +105,12 @@ found-none i e = cases (ltb i 96) (λ a. let z = rw a at e in absurd cc) (λ a. 
 -- ---- what the call answers
 
 module _ {start page : Page} {N : Naming} (p : List ℤ) (of : naming_of start.names ≡ N) (none : start.at ≡ 0) (unused : ranks start.seen ≡ replicate 96 0) (w : Wrote start (statements_text 7 p).0 page) where
-  seen-is : ranks page.seen ≡ standings p
+  pub seen-is : ranks page.seen ≡ standings p
   unfolding standings program_text
   seen-is = w.seen ∙ ap (λ (s : List ℕ). noted_all s (numbers_of (statements_text 7 p).0)) unused
+
+  pub seen-length : 96 ≡ length (ranks page.seen)
+  seen-length = sym (ap length (w.seen ∙ ap (λ (s : List ℕ). noted_all s (numbers_of (statements_text 7 p).0)) unused) ∙ all-length (replicate 96 0) (numbers_of (statements_text 7 p).0))
 
   pub count-is : page.at ≡ counted (length (text_of N p))
   unfolding text_of program_text
