@@ -14,10 +14,14 @@ use Rattle.lister.specs.Reading.{InputRead, input_in}
 use Rattle.lister.specs.Listing.{Listed, unfit_text}
 use Rattle.lister.proofs.BufferLaws.{then, puts-as, puts-start}
 use Rattle.lister.proofs.StoredLaws.{program-stored}
-use Rattle.printing.specs.Whole.{answered, write}
+use Rattle.printing.specs.Whole.{Answered, answered, write}
+use Rattle.printing.proofs.ComesLaws.{four-words}
 use Rattle.typed.specs.Typing.{refused_text, answered_text, program_typed, typed_to}
 
 module _ (p : List ℤ) {page : List ℕ} {answer : List ℤ} {n : ℕ} (w : answered page answer n ≡ write p [] (replicate 192 (pos 0)) (replicate most_bytes 0)) where
+  pub answer-four : 4 ≡ length answer
+  answer-four = sym (ap (λ (a : Answered). length a.answer) w ∙ four-words p [] (replicate 192 (pos 0)) (replicate most_bytes 0))
+
   pub typed-refused : {s e : List ℕ} {o q r : ℕ} → o ≡ number_at answer 0 → (o ≡ 0 → ⊥) → q ≡ number_at answer 1 → Puts s 0 (refused_text o q) e r → Puts s 0 (program_typed p) e r
   unfolding program_typed
   typed-refused {o = o} is h k u = puts-as (sym (ap answered_text (sym w) ∙ rw (← is, ne_eqb o 0 h, k))) u
