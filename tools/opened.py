@@ -1,7 +1,8 @@
 #!/usr/bin/env python3
 """opened.py: a crate knows a lower crate by its promises and laws. Names each `unfolding` line that opens a definition of another
-crate, and each place above crates/tables that speaks of where a word stands in a table: an offset's name, or a numeral of the heap's
-layout. The sheets of crates/rules, crates/lister, crates/sheet and crates/text, which compute through definitions, are the one exception. Exit status 1 where there is one."""
+crate, each path of another crate that an `unfolding(..)` over a function in a .rt file opens, and each place above crates/tables that
+speaks of where a word stands in a table: an offset's name, or a numeral of the heap's layout. The sheets of crates/rules, crates/lister,
+crates/sheet and crates/text, which compute through definitions, are the one exception. Exit status 1 where there is one."""
 import pathlib
 import re
 import sys
@@ -10,6 +11,8 @@ SHEETS = [pathlib.Path("crates", crate, folder, "Sheets.antt") for crate in ("ru
 # the crates that know where words stand; the offsets' names, the heap's length, and its 25 words to a record
 KNOWING = ("words", "tables")
 OFFSETS = re.compile(r"(?<![\w-])(count_word|label_word|field_word|location_word|kept_word|first_kept|record_words|1601|25 \*)(?![\w-])")
+# what an attribute opens in a source; it may stand on several lines
+OPENING = re.compile(r"\bunfolding\(([^)]*)\)")
 own, wrong, told, lines_seen = {}, [], [], 0
 
 
@@ -37,6 +40,16 @@ for crate in sorted(pathlib.Path("crates").iterdir()):
     own[crate.name] = names
 for crate, names in own.items():
     for path in files(pathlib.Path("crates", crate)):
+        if path.suffix == ".rt":
+            source = path.read_text(encoding="utf-8")
+            for opening in OPENING.finditer(source):
+                lines_seen += 1
+                for place in re.finditer(r"[\w:]+", opening.group(1)):
+                    first = place.group().split("::")[0]
+                    # `crate` is the crate itself, and a name that no crate here has is the kit's
+                    if first != crate and first in own:
+                        number = source.count("\n", 0, opening.start(1) + place.start()) + 1
+                        wrong.append(f"{path}:{number}: {place.group()}")
         if path in SHEETS or path.suffix != ".antt":
             continue
         for number, line in lines_of(path):

@@ -1,5 +1,6 @@
 pub mod PathLaws
 pub mod TraceLaws
+pub mod OperatorLaws
 pub mod LeafLaws
 pub mod OperandLaws
 pub mod EvaluateLaws

@@ -31,9 +31,15 @@ use Rattle.expressions.specs.Judging.{refusal}
 use Rattle.expressions.specs.Told.{named_of, evaluated_of}
 use Rattle.expressions.specs.Following.{step_from, step_to, land_on, landed, slot_in}
 
-step_is : (S : Cells) (l label : ℕ) (s : Option Value) → s ≡ slot_of (cell_at S l) → step_from S.heap s label ≡ step_to S l label
+pub step_is : (S : Cells) (l label : ℕ) (s : Option Value) → s ≡ slot_of (cell_at S l) → step_from S.heap s label ≡ step_to S l label
 unfolding step_to
 step_is S l label s e = rw (e, slot_is S l)
+
+-- the same as a rewriting, for the code that goes on by one label
+pub step-read : (S : Cells) (l label : ℕ) → step_to S l label ≡ step_from S.heap (slot_of (cell_at S l)) label
+step-read S l label = sym (step_is S l label (slot_of (cell_at S l)) refl)
+
+pub ruleset one_step = (step-read)
 
 -- the cell alone, of what the rules say of a path
 abbrev pub cell_only : Answer (Unit {0}) (ℕ × List ℕ) → Option ℕ

@@ -8,7 +8,7 @@ use program::{Operator, Refusal};
 use tables::{Kind, Value};
 
 // The operator of a number, by document 01.
-#[tactic(auto, unfolding(rules::specs::Evaluation::op_of))]
+#[tactic(auto, using(rules::proofs::OperatorClauses::operator_numbers))]
 pub fn operator(n: usize) -> Operator
     ensures { result ≡ op_of n }
 {
@@ -99,7 +99,6 @@ pub(crate) fn truth(v: Value, word: usize) -> Result<bool, Refusal>
 }
 
 // The same kind and the same payload. The words of the cells are compared: two references that no word is are one word.
-#[tactic(auto, unfolding(rules::specs::Evaluation::same))]
 pub fn are_same(a: Value, b: Value) -> bool
     ensures { result ≡ same a b }
 {
@@ -127,7 +126,6 @@ fn are_nils(a: Kind, b: Kind) -> bool
 }
 
 // Two of one kind, and no references: two nils, two booleans or two integers.
-#[tactic(auto, unfolding(rules::specs::Evaluation::comparable))]
 fn are_comparable(a: Kind, b: Kind) -> bool
     ensures { result ≡ comparable a b }
 {
@@ -135,7 +133,7 @@ fn are_comparable(a: Kind, b: Kind) -> bool
 }
 
 // Whether an operator takes operands of these kinds.
-#[tactic(auto, unfolding(rules::specs::Evaluation::takes))]
+#[tactic(auto, using(rules::proofs::OperatorClauses::kinds_taken))]
 pub fn takes_kinds(o: Operator, a: Kind, b: Kind) -> bool
     ensures { result ≡ takes o a b }
 {
@@ -160,7 +158,7 @@ fn in_range(r: Option<i32>) -> Result<Value, usize>
 }
 
 // What an operator makes of two values whose kinds it takes; or the refusal's number.
-#[tactic(auto, unfolding(rules::specs::Evaluation::made, rules::specs::Evaluation::ranged, words::specs::Range::ranged))]
+#[tactic(auto, using(rules::proofs::OperatorClauses::values_made))]
 pub fn make(o: Operator, a: Value, b: Value) -> Result<Value, usize>
     ensures { result ≡ applied_of (made o a b) }
 {

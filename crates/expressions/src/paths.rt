@@ -10,7 +10,7 @@ use program::Refusal;
 use tables::{Value, View};
 
 // The cell that one label leads to from the cell l.
-#[tactic(auto, unfolding(crate::specs::Following::step_to, rules::specs::State::slot_at))]
+#[tactic(auto, using(crate::proofs::PathLaws::one_step))]
 pub fn step(t: &View<'_>, l: usize, label: usize) -> Option<usize>
     ensures { result ≡ step_to (seen t.now) l label }
 {

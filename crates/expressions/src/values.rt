@@ -105,7 +105,7 @@ fn leaf(t: &View<'_>, p: &[i32], form: usize, inside: bool) -> Result<Valued, Re
 }
 
 // Where the arithmetic of an operator leaves 32 bits inside C, a value of the kind that it gives stands in.
-#[tactic(auto, unfolding(rules::specs::Evaluation::gives))]
+#[tactic(auto, using(rules::proofs::OperatorClauses::kinds_given))]
 fn stands_in(o: Operator, left: usize) -> Valued
     ensures { result ≡ unknown (kind_given o) left }
 {
