@@ -1,5 +1,5 @@
 -- What the code that reads a number comes to. Assumes nothing.
-use Rattle.std.specs.Prelude.{None}
+use Rattle.std.specs.Prelude.{Some, None}
 use mathlib.Core.Path.{◌≡◌, refl, sym, ap, ◌∙◌}
 use mathlib.Core.Bool.{true, false}
 use mathlib.Core.List.{List, [], ◌∷◌}
@@ -8,10 +8,11 @@ use native.Mathlib.Omega.{arith}
 use borrow.Author.Tests.{eqb-true, eq-eqb, ne_eqb, lt-ltb, le-ltb, ltb-true, ltb-false}
 use lib.Dec.{ltb, eqb}
 use lib.Pointwise.{pointwise}
-use lib.IntN.{pos, negsuc, neg_ℤ}
+use lib.IntN.{ℤ, pos, negsuc, neg_ℤ, ◌-ℤ◌}
 use lib.ListN.{length, get_or, take, drop, drop_of_length-le}
+use Rattle.words.specs.Words.{word_of}
 use Rattle.words.specs.Range.{ranged}
-use Rattle.words.proofs.Laws.{ranged-is}
+use Rattle.words.proofs.Laws.{word-is, ranged-is}
 use Rattle.tokens.specs.Numbers.{digit_of, digits_from, capped, integer_of, value_of}
 use Rattle.tokens.proofs.ByteLaws.{cases, true≢false}
 use Rattle.words.proofs.Laws.{drop-next}
@@ -86,12 +87,27 @@ module _ {s : List ℕ} {n i : ℕ} (inv : Counting s n i) where
 
 -- ---- with its sign
 
+pub positive-fits : (n : ℕ) → n < 2147483648 → {w : ℤ} → w ≡ word_of n → Some w ≡ ranged (pos n)
+positive-fits n h e = rw (e, word-is n h, ranged-is (pos n), lt-ltb n 2147483648 h)
+
 pub positive-outside : (n : ℕ) → 2147483648 ≤ n → None ≡ ranged (pos n)
 positive-outside n h = rw (ranged-is (pos n), le-ltb n 2147483648 h)
+
+pub negative-none : (n : ℕ) → n ≡ 0 → Some (pos 0) ≡ ranged (neg_ℤ (pos n))
+negative-none n h = rw (h, ranged-is (pos 0))
 
 pub negative-outside : (n : ℕ) → 2147483648 < n → None ≡ ranged (neg_ℤ (pos n))
 negative-outside zero h = let z : ⊥ = omega arith in absurd z
 negative-outside (suc n) h = rw (ranged-is (negsuc n), le-ltb n 2147483648 (omega arith))
+
+-- -1 less a word
+less-pos : (k : ℕ) → (negsuc 0 -ℤ pos k) ≡ negsuc k
+less-pos zero = refl
+less-pos (suc k) = let z : 0 + k ≡ k = omega arith in ap (λ n. negsuc (suc n)) z
+
+pub negative-less : (n : ℕ) → (n ≡ 0 → ⊥) → n ≤ 2147483648 → {w : ℤ} → w ≡ word_of (n - 1) → ranged (negsuc 0 -ℤ w) ≡ ranged (neg_ℤ (pos n))
+negative-less zero some h e = absurd (some refl)
+negative-less (suc n) some h e = let z : suc n - 1 ≡ n = omega arith in rw (e, z, word-is n (omega arith), less-pos n)
 
 -- a number that is capped is outside either way
 pub capped-positive : (n : ℕ) → ranged (pos (capped n)) ≡ ranged (pos n)
@@ -132,8 +148,8 @@ module _ (s : List ℕ) {n : ℕ} where
 
 -- where the digits pass the range
 module _ (s : List ℕ) where
-  pub negative-none : pointwise eqb (take 1 s) (45 ∷ []) ≡ true → {q : List ℕ} → q ≡ drop 1 s → capped (digits_from 0 q) ≡ 2147483649 → None ≡ value_of s
-  negative-none h k e = negative-outside 2147483649 (omega arith) ∙ value-negative s h k e
+  pub negative-past : pointwise eqb (take 1 s) (45 ∷ []) ≡ true → {q : List ℕ} → q ≡ drop 1 s → capped (digits_from 0 q) ≡ 2147483649 → None ≡ value_of s
+  negative-past h k e = negative-outside 2147483649 (omega arith) ∙ value-negative s h k e
 
   pub positive-none : pointwise eqb (take 1 s) (45 ∷ []) ≡ false → capped (digits_from 0 s) ≡ 2147483649 → None ≡ value_of s
   positive-none h e = positive-outside 2147483649 (omega arith) ∙ value-positive s h e
@@ -143,7 +159,10 @@ pub value-is : (s : List ℕ) → value_of s ≡ ranged (integer_of s)
 unfolding value_of
 value-is s = refl
 
+-- the law for a result in its range
+pub ruleset ranging = (ranged-is)
+
 -- the lemmas for the loop of `digits`, and for `value`
 pub ruleset counting = (counting-starts, counting-passes, counting-goes-on, counting-ends, digit-small)
 
-pub ruleset value_read = (value-negative, value-positive, negative-none, positive-none)
+pub ruleset value_read = (value-negative, value-positive, negative-past, positive-none)

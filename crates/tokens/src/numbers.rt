@@ -35,14 +35,14 @@ fn digits(s: &[u8]) -> Option<usize>
     Some(n)
 }
 
-#[tactic(auto, unfolding(words::specs::Range::ranged))]
+#[tactic(auto, using(crate::proofs::NumberLaws::ranging))]
 fn positive(n: usize) -> Option<i32>
     ensures { result ≡ ranged (pos n) }
 {
     i32::try_from(n).ok()
 }
 
-#[tactic(auto, unfolding(words::specs::Range::ranged))]
+#[tactic(auto, using(crate::proofs::NumberLaws::ranging))]
 fn negative(n: usize) -> Option<i32>
     ensures { result ≡ ranged (neg_ℤ (pos n)) }
 {
