@@ -1,5 +1,5 @@
 -- What the code that reads and writes a number comes to. Assumes nothing.
-use Rattle.std.specs.Prelude.{None}
+use Rattle.std.specs.Prelude.{Some, None}
 use mathlib.Core.Path.{◌≡◌, refl, sym, ◌∙◌}
 use mathlib.Core.Bool.{true, false}
 use mathlib.Core.List.{List, [], ◌∷◌, ◌++◌}
@@ -13,12 +13,14 @@ use lib.Signed.{lt_z}
 use lib.ListN.{length, get_or, take, drop, drop_of_length-le}
 use mir.Syntax.{w32}
 use mir.Val.{SFits, to_z, of_z}
+use Rattle.words.specs.Words.{word_of}
+use Rattle.words.proofs.Laws.{word-is}
 use Rattle.words.proofs.Signed.{back32}
 use Rattle.tables.proofs.SearchLaws.{cases}
 use Rattle.lister.specs.Bytes.{Puts}
 use Rattle.lister.specs.Numerals.{no_number, digit_of, value_from, natural_in, positive_of, negative_of, numeral_in, digits_by, digits, numeral}
 use Rattle.words.proofs.Laws.{drop-next}
-use Rattle.lister.proofs.BufferLaws.{then, puts-as}
+use Rattle.lister.proofs.BufferLaws.{then, puts_none, puts-as}
 
 -- ---- a digit
 
@@ -122,6 +124,13 @@ module _ (s : List ℕ) (some : length s ≡ 0 → ⊥) (more : length s ≡ 1 �
       go (b ∷ []) a c h = absurd (c refl)
       go (b ∷ c ∷ s) a d h = rw (ne_eqb (digit_of b) 0 h)
 
+-- the two as a digit in hand tells
+pub natural_zero : (s : List ℕ) (d : ℕ) → (length s ≡ 0 → ⊥) → (length s ≡ 1 → ⊥) → d ≡ digit_of (get_or s 0 0) → d ≡ 0 → 2147483649 ≡ natural_in s
+natural_zero s d some more i e = natural-zero s some more (sym i ∙ e)
+
+pub natural_more : (s : List ℕ) (v d : ℕ) → (length s ≡ 0 → ⊥) → (length s ≡ 1 → ⊥) → d ≡ digit_of (get_or s 0 0) → (d ≡ 0 → ⊥) → v ≡ value_from 0 s → v ≡ natural_in s
+natural_more s v d some more i n e = e ∙ natural-more s some more (λ z. n (i ∙ z))
+
 -- the two as the code tests the first byte
 first-nought : (b : ℕ) → digit_of b ≡ 0 → b ≡ 48
 first-nought b e =
@@ -143,7 +152,41 @@ natural-read s some first =
 
 -- ---- with its sign
 
--- a text with a minus sign, which the code takes off, and one without
+pub positive-fits : (n : ℕ) → n < 2147483648 → {w : ℤ} → w ≡ word_of n → Some w ≡ positive_of n
+unfolding positive_of
+positive-fits n h e = rw (lt-ltb n 2147483648 h, e, word-is n h)
+
+pub positive-unfit : (n : ℕ) → 2147483648 ≤ n → None ≡ positive_of n
+unfolding positive_of
+positive-unfit n h = rw (le-ltb n 2147483648 h)
+
+pub negative-none : (n : ℕ) → n ≡ 0 → None ≡ negative_of n
+unfolding negative_of
+negative-none zero h = refl
+negative-none (suc n) h = let z : ⊥ = omega arith in absurd z
+
+pub negative-unfit : (n : ℕ) → 2147483648 < n → None ≡ negative_of n
+unfolding negative_of
+negative-unfit zero h = refl
+negative-unfit (suc n) h = rw (le-ltb n 2147483648 (omega arith))
+
+-- a text with a minus sign, and one without
+pub numeral-none : (s : List ℕ) → length s ≡ 0 → None ≡ numeral_in s
+unfolding numeral_in
+numeral-none [] h = refl
+numeral-none (b ∷ s) h = let z : ⊥ = omega arith in absurd z
+
+pub numeral-negative : (s : List ℕ) → (length s ≡ 0 → ⊥) → get_or s 0 0 ≡ 45 → negative_of (natural_in (drop 1 s)) ≡ numeral_in s
+unfolding numeral_in
+numeral-negative [] a h = absurd (a refl)
+numeral-negative (b ∷ s) a h = rw (eq-eqb b 45 h)
+
+pub numeral-positive : (s : List ℕ) → (length s ≡ 0 → ⊥) → (get_or s 0 0 ≡ 45 → ⊥) → positive_of (natural_in s) ≡ numeral_in s
+unfolding numeral_in
+numeral-positive [] a h = absurd (a refl)
+numeral-positive (b ∷ s) a h = rw (ne_eqb b 45 h)
+
+-- the same as the code takes the sign off
 module _ (s : List ℕ) where
   pub number-signed : pointwise eqb (take 1 s) (45 ∷ []) ≡ true → {q : List ℕ} → q ≡ drop 1 s → {n : ℕ} → natural_in q ≡ n → negative_of n ≡ numeral_in s
   unfolding numeral_in
@@ -161,9 +204,9 @@ module _ (s : List ℕ) where
       go [] e = refl
       go (b ∷ s) e = cases (eqb b 45) (λ x. absurd (let y : true ≡ false = rw x at e in let z : ◌≡◌ {A = ℕ} 0 1 = cc in omega arith)) (λ x. rw x)
 
-pub negative-none : negative_of no_number ≡ None
+pub no-negative : negative_of no_number ≡ None
 unfolding negative_of
-negative-none = refl
+no-negative = refl
 
 pub positive-none : positive_of no_number ≡ None
 unfolding positive_of
@@ -172,6 +215,10 @@ positive-none = refl
 -- ---- writing
 
 module _ (n places : ℕ) {s : List ℕ} {a : ℕ} where
+  pub put-digits-none : places ≡ 0 → Puts s a (digits_by places n) s a
+  unfolding digits_by
+  put-digits-none h = rw h puts_none
+
   module _ (some : places ≡ 0 → ⊥) where
     pub put-digits-one : {e : List ℕ} {r d : ℕ} → n < 10 → d ≡ 48 + n → Puts s a (d ∷ []) e r → Puts s a (digits_by places n) e r
     unfolding digits_by
@@ -193,7 +240,12 @@ pub digits_are : (n : ℕ) → digits_by 20 n ≡ digits n
 unfolding digits
 digits_are n = refl
 
--- a word with its sign
+-- a word without its sign
+pub magnitude-small : (z : ℤ) → SFits w32 z → nat_abs z ≤ 2147483648
+magnitude-small (pos n) f = omega (arith, f.sfits)
+magnitude-small (negsuc n) f = omega (arith, f.sfits)
+
+-- and with it
 module _ (z : ℤ) (f : SFits w32 z) where
   pub numeral-negative-is : lt_z (to_z w32 (of_z w32 z)) (pos 0) ≡ true → (45 ∷ []) ++ digits (nat_abs z) ≡ numeral z
   unfolding numeral
@@ -227,4 +279,4 @@ pub ruleset valuing = (valuing-starts, valuing-stops, valuing-passes, valuing-go
 
 pub ruleset naturals = (natural-none, natural-nought, natural-read)
 
-pub ruleset numbers = (number-signed, number-plain, negative-none, positive-none)
+pub ruleset numbers = (number-signed, number-plain, no-negative, positive-none)

@@ -2,9 +2,10 @@
 ghost use Rattle.std.specs.Prelude.{◌≡◌};
 ghost use Rattle.lister.specs.Reading.{row_in, line_in, budget_in, input_in, RowRead, InputRead};
 
-use super::bytes::{after, up_to};
+use super::bytes::{after, begins_with, up_to};
 use super::numerals::number;
 use crate::{Input, MOST_BYTES, MOST_NUMBERS};
+use words::part_from;
 
 const NEWLINE: u8 = b'\n';
 
@@ -27,7 +28,10 @@ fn read_row(s: &[u8], out: &mut [i32]) -> Option<usize>
 pub fn read_line(line: &[u8], name: &[u8], out: &mut [i32]) -> Option<usize>
     ensures { RowRead (line_in name.now line.now) out.old out.new result }
 {
-    let list = line.strip_prefix(name)?;
+    if !begins_with(line, name) {
+        return None;
+    }
+    let list = part_from(line, name.len());
     if list.is_empty() {
         return Some(0);
     }
@@ -41,7 +45,11 @@ fn read_budget(text: &[u8]) -> Option<i32>
     if !after(text, NEWLINE).is_empty() {
         return None;
     }
-    number(up_to(text, NEWLINE).strip_prefix(b"budget=")?)
+    let line = up_to(text, NEWLINE);
+    if !begins_with(line, b"budget=") {
+        return None;
+    }
+    number(part_from(line, 7))
 }
 
 // The whole input, or the number of the first unfit line. The numbers of the first two lines are stored as they are read.
