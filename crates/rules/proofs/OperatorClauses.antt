@@ -339,11 +339,47 @@ unknown-gives = refl
 -- the laws for the code that goes by an operator
 pub ruleset operator_numbers = (op-1, op-2, op-3, op-4, op-5, op-6, op-7, op-8, op-9, op-10, op-11, op-other)
 
-pub ruleset kinds_taken = (plus-takes, minus-takes, times-takes, below-takes, at-most-takes, equal-takes,
-    unequal-takes, at-least-takes, above-takes, and-takes, or-takes, unknown-takes)
+pub ruleset kinds_taken = (
+  plus-takes,
+  minus-takes,
+  times-takes,
+  below-takes,
+  at-most-takes,
+  equal-takes,
+  unequal-takes,
+  at-least-takes,
+  above-takes,
+  and-takes,
+  or-takes,
+  unknown-takes,
+)
 
-pub ruleset values_made = (plus-makes, minus-makes, times-makes, below-makes, at-most-makes, equal-makes,
-    unequal-makes, at-least-makes, above-makes, and-makes, or-makes, unknown-makes)
+pub ruleset values_made = (
+  plus-makes,
+  minus-makes,
+  times-makes,
+  below-makes,
+  at-most-makes,
+  equal-makes,
+  unequal-makes,
+  at-least-makes,
+  above-makes,
+  and-makes,
+  or-makes,
+  unknown-makes,
+)
 
-pub ruleset kinds_given = (plus-gives, minus-gives, times-gives, below-gives, at-most-gives, equal-gives,
-    unequal-gives, at-least-gives, above-gives, and-gives, or-gives, unknown-gives)
+pub ruleset kinds_given = (
+  plus-gives,
+  minus-gives,
+  times-gives,
+  below-gives,
+  at-most-gives,
+  equal-gives,
+  unequal-gives,
+  at-least-gives,
+  above-gives,
+  and-gives,
+  or-gives,
+  unknown-gives,
+)
