@@ -105,7 +105,7 @@ module _ (S : Cells) (q : List ℤ) where
 
 module _ (S : Cells) (p : List ℤ) (d : ℕ) where
   -- its kind is that of its value, so that it comes to the same inside C and outside
-  leaf-valued : (inside : Bool) → (number_at p 0 ≡ 25 → ⊥) → (number_at p 0 ≡ 26 → ⊥) → value_only (evaluate d S p) ≡ valued_at inside d S p
+  pub leaf-valued : (inside : Bool) → (number_at p 0 ≡ 25 → ⊥) → (number_at p 0 ≡ 26 → ⊥) → value_only (evaluate d S p) ≡ valued_at inside d S p
   unfolding valued_at
   leaf-valued true a b = rw (kind-leaf S d p a b) (by (evaluate d S p))
     where

@@ -1,12 +1,12 @@
 -- What the code of an operator and its two operands comes to. Assumes nothing.
-use mathlib.Core.Path.{◌≡◌, refl, ap, ◌∙◌}
+use mathlib.Core.Path.{◌≡◌, refl, sym, ap, ◌∙◌}
 use mathlib.Core.Bool.{Bool, true, false, cond, ◌&&◌}
 use mathlib.Core.List.{List}
 use Prim.Native.Nat.{ℕ, ◌-◌, ◌≤◌, ◌<◌}
 use native.Mathlib.Omega.{arith}
 use lib.IntN.{ℤ}
 use lib.ListN.{length, drop}
-use Rattle.std.specs.Prelude.{Option, Some, None, Ok, Err}
+use Rattle.std.specs.Prelude.{Option, Some, None, Result, Ok, Err, is_ok}
 use Rattle.words.specs.Words.{number_at, last_of}
 use Rattle.words.specs.Answer.{Answer, got, stop, ◌>>=◌, ◌>>◌, want}
 use Rattle.words.proofs.AnswerLaws.{either}
@@ -27,9 +27,10 @@ use Rattle.rules.proofs.KindLaws.{kind-value}
 use Rattle.expressions.specs.declared.Valued.{Valued}
 use Rattle.expressions.specs.declared.Row.{Row}
 use Rattle.expressions.specs.Judging.{refusal}
+use Rattle.expressions.specs.Told.{applied_of}
 use Rattle.expressions.specs.Valuing.{known, unknown, stand_in, judged_of, value_only, valued_at, made_by, settled_by, Rows}
 
-stands-kind : (k : Kind) → kind_of (stand_in k) ≡ k
+pub stands-kind : (k : Kind) → kind_of (stand_in k) ≡ k
 stands-kind is_nil = refl
 stands-kind is_bool = refl
 stands-kind is_int = refl
@@ -220,6 +221,38 @@ module _ (S : Cells) (d : ℕ) (p : List ℤ) (ne : d ≡ 0 → ⊥) (is : numbe
   unfolding valued_at
   both-settled true a b l r e = rw e (inside-settled a.exact b.exact (takes o (kind_of a.value) (kind_of b.value)) l r refl)
   both-settled false a b l r e = rw e (outside-settled a.exact b.exact (takes o (kind_of a.value) (kind_of b.value)) l r refl)
+
+-- what the code answers where the kinds fit, by what the operator made
+abbrev pub number_told : Result Value ℕ → ℕ
+number_told (Ok v) = 0
+number_told (Err n) = n
+
+module _ (inside : Bool) (o : Op) (a b : Valued) (word : ℕ) {m : Result Value ℕ} (e : m ≡ applied_of (made o a.value b.value)) (k : takes o (kind_of a.value) (kind_of b.value) ≡ true) where
+  pub settled-gives : {v : Value} → (a.exact && b.exact) ≡ true → m ≡ Ok v → Ok (known v b.left) ≡ settled_by inside o a b word
+  settled-gives x h = rw (k, x) (by (made o a.value b.value) (sym e ∙ h))
+    where
+      by : {v : Value} (r : Answer ℕ Value) → applied_of r ≡ Ok v → Ok (known v b.left) ≡ made_by inside o r true b.left word
+      by (got v) i = cc
+      by (stop n) i = cc
+
+  module _ (h : ((a.exact && b.exact) && is_ok m) ≡ false) where
+    pub settled-stands : inside ≡ true → Ok (unknown (gives o) b.left) ≡ settled_by inside o a b word
+    settled-stands i = rw (k, i) (by (made o a.value b.value) (a.exact && b.exact) (rw e at h))
+      where
+        by : (r : Answer ℕ Value) (x : Bool) → (x && is_ok (applied_of r)) ≡ false → Ok (unknown (gives o) b.left) ≡ made_by true o r x b.left word
+        by (got v) true h = absurd (let z : ◌≡◌ {A = ℕ} 0 1 = cc in omega arith)
+        by (got v) false h = refl
+        by (stop n) true h = refl
+        by (stop n) false h = refl
+
+    pub settled-refuses : inside ≡ false → Err (refusal (number_told m) word) ≡ settled_by inside o a b word
+    settled-refuses i = rw (k, i, e) (by (made o a.value b.value) (a.exact && b.exact) (rw e at h))
+      where
+        by : (r : Answer ℕ Value) (x : Bool) → (x && is_ok (applied_of r)) ≡ false → Err (refusal (number_told (applied_of r)) word) ≡ made_by false o r x b.left word
+        by (got v) true h = absurd (let z : ◌≡◌ {A = ℕ} 0 1 = cc in omega arith)
+        by (got v) false h = refl
+        by (stop n) true h = refl
+        by (stop n) false h = refl
 
 -- ---- the operands of an expression
 

@@ -1,10 +1,14 @@
 -- What the code of the test of an if or while comes to. Assumes nothing.
 use mathlib.Core.Path.{◌≡◌, refl, sym, ◌∙◌}
+use mathlib.Core.Bool.{true, false}
 use mathlib.Core.List.{List}
+use native.Mathlib.Omega.{arith}
 use lib.IntN.{ℤ}
 use lib.ListN.{length}
 use Rattle.std.specs.Prelude.{Result, Ok, Err}
 use Rattle.words.specs.Answer.{got, stop, ◌>>=◌, ◌>>◌, want}
+use Rattle.tables.specs.declared.Kind.{Kind}
+use Rattle.tables.specs.declared.Kind.TheVariants.{Nil as is_nil, Bool as is_bool, Int as is_int, Ref as is_ref}
 use Rattle.tables.specs.declared.Value.{Value}
 use Rattle.tables.specs.declared.Value.TheVariants.{Nil, Bool as Truth, Int, Ref}
 use Rattle.tables.specs.Cells.{Cells}
@@ -14,8 +18,24 @@ use Rattle.rules.specs.Evaluation.{kind_of, a_bool, bool_of, evaluate}
 use Rattle.rules.specs.Running.{test}
 use Rattle.rules.proofs.ConstraintClauses.{test-is}
 use Rattle.expressions.specs.declared.Evaluated.{Evaluated}
-use Rattle.expressions.specs.Told.{evaluated_of}
+use Rattle.expressions.specs.Told.{evaluated_of, kind_number}
 use Rattle.expressions.specs.Judging.{tested_of, truth_of}
+
+-- ---- booleans by the number of their kind
+
+pub no_bool : (k : Kind) → (kind_number k ≡ 2 → ⊥) → a_bool k ≡ false
+no_bool is_nil h = refl
+no_bool is_bool h = absurd (h refl)
+no_bool is_int h = refl
+no_bool is_ref h = refl
+
+pub a-bool : (k : Kind) → kind_number k ≡ 2 → a_bool k ≡ true
+a-bool is_nil h = absurd (omega arith)
+a-bool is_bool h = refl
+a-bool is_int h = absurd (omega arith)
+a-bool is_ref h = absurd (omega arith)
+
+-- ---- the test of an if or while
 
 module _ (S : Cells) (p : List ℤ) {r : Result Evaluated Refusal} (e : r ≡ evaluated_of (evaluate 16 S p)) where
   pub test-fails : {f : Refusal} → r ≡ Err f → Err f ≡ tested_of (test S p)
