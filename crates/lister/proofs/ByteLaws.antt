@@ -123,6 +123,17 @@ past-is b s =
     (λ e. let h : length s ≤ length (up_to b s) = ltb-false (length (up_to b s)) (length s) e in
     drop_of_length-le s {i = length (up_to b s) + 1} (omega arith) ∙ sym (past_end b s h))
 
+-- what the two parts are where k bytes stand before the first b
+module _ (b : ℕ) (s : List ℕ) {k : ℕ} (e : k ≡ length (up_to b s)) where
+  pub up-to-taken : take k s ≡ up_to b s
+  up-to-taken = rw e (up-to-part b s)
+
+  pub past-dropped : k < length s → drop (k + 1) s ≡ past b s
+  past-dropped h = rw e (past-part b s (omega arith))
+
+  pub past-dropped-none : length s ≤ k → drop k s ≡ past b s
+  past-dropped-none h = drop_of_length-le s {i = k} h ∙ sym (past_end b s (omega arith))
+
 -- the lemmas for `up_to` and `after`
 pub ruleset up_to_part = (up-to-part)
 

@@ -1,10 +1,12 @@
 -- What the code that writes the listing comes to. Assumes nothing.
 use Rattle.std.specs.Prelude.{None, Option, Some}
 use mathlib.Core.Path.{◌≡◌, refl, ◌∙◌}
+use mathlib.Core.Bool.{Bool, true, false}
 use mathlib.Core.List.{List, [], ◌∷◌}
 use Prim.Native.Nat.{ℕ, ◌+◌, ◌≤◌, ◌<◌, ◌^◌}
 use native.Mathlib.Omega.{arith}
 use native.Mathlib.Numerals.{add-one}
+use borrow.Author.Tests.{le-leb, lt-leb}
 use lib.IntN.{ℤ}
 use lib.Signed.{mag}
 use lib.ListN.{length}
@@ -12,19 +14,31 @@ use mir.Syntax.{w32}
 use mir.Val.{to_z, of_z}
 use Rattle.words.proofs.Signed.{back32}
 use Rattle.tables.specs.declared.Value.{Value}
-use Rattle.tables.specs.declared.Value.TheVariants.{Int, Ref}
+use Rattle.tables.specs.declared.Value.TheVariants.{Nil, Bool as Truth, Int, Ref}
 use Rattle.tables.specs.declared.Cell.{Cell}
 use Rattle.tables.specs.Values.{slot_of}
 use Rattle.tables.specs.Cells.{Cells, cell_at}
-use Rattle.tables.specs.Records.{label_at, field_at}
+use Rattle.tables.specs.Records.{record_count, label_at, field_at}
 use Rattle.lister.specs.Bytes.{Puts}
 use Rattle.lister.specs.Numerals.{digits, numeral}
-use Rattle.lister.specs.Listing.{value_text, given_text, each_below, variable_text, field_text, Listed}
+use Rattle.lister.specs.Listing.{value_text, given_text, each_below, variable_text, field_text, shown_records, Listed}
 use Rattle.lister.proofs.BufferLaws.{then, puts_none, puts-start}
 
 -- ---- a value
 
 module _ {s e : List ℕ} {a r : ℕ} where
+  pub put-nil : {v : Value} → v ≡ Nil → Puts s a (110 ∷ 105 ∷ 108 ∷ []) e r → Puts s a (value_text v) e r
+  unfolding value_text
+  put-nil h p = rw h p
+
+  pub put-true : {v : Value} {b : Bool} → v ≡ Truth b → b ≡ true → Puts s a (98 ∷ 111 ∷ 111 ∷ 108 ∷ 32 ∷ 49 ∷ []) e r → Puts s a (value_text v) e r
+  unfolding value_text
+  put-true h k p = rw (h, k) p
+
+  pub put-false : {v : Value} {b : Bool} → v ≡ Truth b → b ≡ false → Puts s a (98 ∷ 111 ∷ 111 ∷ 108 ∷ 32 ∷ 48 ∷ []) e r → Puts s a (value_text v) e r
+  unfolding value_text
+  put-false h k p = rw (h, k) p
+
   pub put-int : {v : Value} {w : ℤ} {m : List ℕ} {q : ℕ} → v ≡ Int w → mag w < 2 ^ 31
       → Puts s a (105 ∷ 110 ∷ 116 ∷ 32 ∷ []) m q → Puts m q (numeral (to_z w32 (of_z w32 w))) e r → Puts s a (value_text v) e r
   unfolding value_text
@@ -79,6 +93,16 @@ module _ {f : ℕ → List ℕ} {n : ℕ} {out₀ out : List ℕ} {at to i : ℕ
 
 -- the lemma for the end of the loops
 pub ruleset each = (each-ends)
+
+-- ---- records
+
+pub shown-few : (h : List ℤ) {n : ℕ} → n ≡ record_count h → n ≤ 64 → n ≡ shown_records h
+unfolding shown_records
+shown-few h e l = e ∙ rw (le-leb (record_count h) 64 (omega arith))
+
+pub shown-many : (h : List ℤ) {n : ℕ} → n ≡ record_count h → 64 < n → 64 ≡ shown_records h
+unfolding shown_records
+shown-many h e l = rw (lt-leb (record_count h) 64 (omega arith))
 
 -- ---- the whole text
 

@@ -1,19 +1,19 @@
 -- What the code that reads and writes a number comes to. Assumes nothing.
 use Rattle.std.specs.Prelude.{Some, None}
-use mathlib.Core.Path.{◌≡◌, refl, sym, ◌∙◌}
+use mathlib.Core.Path.{◌≡◌, refl, sym, ap, ◌∙◌}
 use mathlib.Core.Bool.{true, false}
 use mathlib.Core.List.{List, [], ◌∷◌, ◌++◌}
-use Prim.Native.Nat.{ℕ, zero, suc, ◌+◌, ◌-◌, ◌*◌, ◌/◌, ◌%◌, ◌≤◌, ◌<◌}
+use Prim.Native.Nat.{ℕ, zero, suc, ◌+◌, ◌-◌, ◌*◌, ◌/◌, ◌%◌, ◌^◌, ◌≤◌, ◌<◌}
 use native.Mathlib.Omega.{arith}
 use borrow.Author.Tests.{lt-ltb, le-ltb, eq-eqb, ne_eqb, ltb-true, ltb-false}
 use lib.Dec.{ltb, eqb}
 use lib.Pointwise.{pointwise}
-use lib.IntN.{ℤ, pos, negsuc, nat_abs}
-use lib.Signed.{lt_z}
+use lib.IntN.{ℤ, pos, negsuc, ◌-ℤ◌, nat_abs}
+use lib.Signed.{mag, lt_z}
 use lib.ListN.{length, get_or, take, drop, drop_of_length-le}
 use mir.Syntax.{w32}
 use mir.Val.{SFits, to_z, of_z}
-use Rattle.words.specs.Words.{word_of}
+use Rattle.words.specs.Words.{number_of, word_of}
 use Rattle.words.proofs.Laws.{word-is}
 use Rattle.words.proofs.Signed.{back32}
 use Rattle.tables.proofs.SearchLaws.{cases}
@@ -170,6 +170,29 @@ unfolding negative_of
 negative-unfit zero h = refl
 negative-unfit (suc n) h = rw (le-ltb n 2147483648 (omega arith))
 
+-- -1 less a word
+less-pos : (k : ℕ) → (negsuc 0 -ℤ pos k) ≡ negsuc k
+less-pos zero = refl
+less-pos (suc k) = let z : 0 + k ≡ k = omega arith in ap (λ n. negsuc (suc n)) z
+
+less-neg : (k : ℕ) → (negsuc 0 -ℤ negsuc k) ≡ pos k
+less-neg k = rw (le-ltb (suc k) 1 (omega arith)) (ap pos (omega arith))
+
+module _ (n : ℕ) (some : n ≡ 0 → ⊥) (h : n ≤ 2147483648) {w : ℤ} (ok : mag w < 2 ^ 31) (e : w ≡ word_of (n - 1)) where
+  below : (negsuc 0 -ℤ to_z w32 (of_z w32 w)) ≡ negsuc (n - 1)
+  below = rw (back32 w (record { sfits = ok }), e, word-is (n - 1) (omega (arith, some))) (less-pos (n - 1))
+
+  pub negative-in-range : SFits w32 (negsuc 0 -ℤ to_z w32 (of_z w32 w))
+  negative-in-range = rw below (record { sfits = omega (arith, some) })
+
+  pub negative_fits : Some (to_z w32 (of_z w32 (negsuc 0 -ℤ to_z w32 (of_z w32 w)))) ≡ negative_of n
+  unfolding negative_of
+  negative_fits = ap Some (back32 (negsuc 0 -ℤ to_z w32 (of_z w32 w)) negative-in-range ∙ below) ∙ go n some h
+    where
+      go : (n : ℕ) → (n ≡ 0 → ⊥) → n ≤ 2147483648 → Some (negsuc (n - 1)) ≡ negative_of n
+      go zero a l = absurd (a refl)
+      go (suc n) a l = let z : suc n - 1 ≡ n = omega arith in rw (z, lt-ltb n 2147483648 (omega arith))
+
 -- a text with a minus sign, and one without
 pub numeral-none : (s : List ℕ) → length s ≡ 0 → None ≡ numeral_in s
 unfolding numeral_in
@@ -245,8 +268,29 @@ pub magnitude-small : (z : ℤ) → SFits w32 z → nat_abs z ≤ 2147483648
 magnitude-small (pos n) f = omega (arith, f.sfits)
 magnitude-small (negsuc n) f = omega (arith, f.sfits)
 
--- and with it
 module _ (z : ℤ) (f : SFits w32 z) where
+  pub magnitude-in-range : lt_z (to_z w32 (of_z w32 z)) (pos 0) ≡ true → SFits w32 (negsuc 0 -ℤ to_z w32 (of_z w32 z))
+  magnitude-in-range h = rw (back32 z f) (go z f (rw (back32 z f) at h))
+    where
+      go : (y : ℤ) → SFits w32 y → lt_z y (pos 0) ≡ true → SFits w32 (negsuc 0 -ℤ y)
+      go (pos n) g h = let q : ⊥ = omega (arith, ltb-true n 0 h) in absurd q
+      go (negsuc n) g h = rw (less-neg n) (record { sfits = g.sfits })
+
+  pub magnitude-negative : lt_z (to_z w32 (of_z w32 z)) (pos 0) ≡ true → {n : ℕ} → n ≡ number_of (to_z w32 (of_z w32 (negsuc 0 -ℤ to_z w32 (of_z w32 z)))) → n + 1 ≡ nat_abs z
+  magnitude-negative h e = go z f (rw (back32 z f) at h) (e ∙ ap number_of (back32 (negsuc 0 -ℤ to_z w32 (of_z w32 z)) (magnitude-in-range h) ∙ ap (λ y. negsuc 0 -ℤ y) (back32 z f)))
+    where
+      go : (y : ℤ) → SFits w32 y → lt_z y (pos 0) ≡ true → {n : ℕ} → n ≡ number_of (negsuc 0 -ℤ y) → n + 1 ≡ nat_abs y
+      go (pos m) g h e = let q : ⊥ = omega (arith, ltb-true m 0 h) in absurd q
+      go (negsuc m) g h e = let q = e ∙ ap number_of (less-neg m) in omega (arith, q)
+
+  pub magnitude-positive : lt_z (to_z w32 (of_z w32 z)) (pos 0) ≡ false → {n : ℕ} → n ≡ number_of (to_z w32 (of_z w32 z)) → n ≡ nat_abs z
+  magnitude-positive h e = go z (rw (back32 z f) at h) (e ∙ ap number_of (back32 z f))
+    where
+      go : (y : ℤ) → lt_z y (pos 0) ≡ false → {n : ℕ} → n ≡ number_of y → n ≡ nat_abs y
+      go (pos m) h e = e
+      go (negsuc m) h e = absurd (let q : ◌≡◌ {A = ℕ} 0 1 = cc in omega arith)
+
+  -- and with it
   pub numeral-negative-is : lt_z (to_z w32 (of_z w32 z)) (pos 0) ≡ true → (45 ∷ []) ++ digits (nat_abs z) ≡ numeral z
   unfolding numeral
   numeral-negative-is h = go z (rw (back32 z f) at h)

@@ -5,10 +5,11 @@ use mathlib.Core.Bool.{true, false}
 use mathlib.Core.List.{List, [], ◌∷◌, ◌++◌, append_assoc, append-nil}
 use Prim.Native.Nat.{ℕ, zero, suc, ◌+◌, ◌-◌, ◌≤◌, ◌<◌}
 use native.Mathlib.Omega.{arith}
-use borrow.Author.Tests.{lt-ltb, le-ltb}
-use lib.Dec.{eqb}
+use borrow.Author.Tests.{lt-ltb, le-ltb, ltb-true, ltb-false}
+use lib.Dec.{ltb, eqb}
 use Rattle.std.specs.List.{slice_split}
-use Rattle.lister.proofs.ByteLaws.{pieces-split}
+use Rattle.lister.proofs.ByteLaws.{pieces_more, pieces-last, pieces-split}
+use Rattle.tables.proofs.SearchLaws.{cases}
 use lib.IntN.{ℤ}
 use lib.ListN.{length, get_or, drop, set, length-append, length-set, drop_of_length-le}
 use lib.Seq.{drop-cons}
@@ -66,6 +67,16 @@ numbers-none (suc n) = refl
 numbers-full : (p : List ℕ) (ps : List (List ℕ)) → numbers_in 0 (p ∷ ps) ≡ stop []
 unfolding numbers_in
 numbers-full p ps = refl
+
+-- the pieces of a text: its first, and whatever others there are
+pub record Pieces (b : ℕ) (q : List ℕ) : Type 0 where
+  pub others : List (List ℕ)
+  pub are : pieces b q ≡ up_to b q ∷ others
+
+pub some-pieces : (b : ℕ) (q : List ℕ) → Pieces b q
+some-pieces b q =
+    cases (ltb (length (up_to b q)) (length q)) (λ e. record { others = pieces b (past b q); are = pieces_more b q (ltb-true (length (up_to b q)) (length q) e) })
+    (λ e. record { others = []; are = pieces-last b q (ltb-false (length (up_to b q)) (length q) e) })
 
 module _ {s : List ℕ} {out₀ out : List ℤ} {n : ℕ} (inv : Rowing s out₀ out n) where
   stored-none : out ≡ laid (inv.xs ++ []) out₀

@@ -1,5 +1,5 @@
 -- Laws of runs and parts of bytes, and what the code that finds them comes to. Assumes nothing.
-use mathlib.Core.Path.{◌≡◌, refl, sym, ◌∙◌}
+use mathlib.Core.Path.{◌≡◌, refl, sym, ap, ◌∙◌}
 use mathlib.Core.Bool.{Bool, true, false, ◌&&◌, not}
 use Rattle.std.specs.Option.{unwrap_or}
 use Rattle.std.specs.List.{position, position_or_len}
@@ -99,6 +99,16 @@ spelt-same (x ∷ w) [] e = true≢false (sym e)
 spelt-same (x ∷ w) (b ∷ s) e =
     let h : b ≡ x = eqb-true b x (and_first (eqb b x) (spelt w s) e) in
     rw (h, spelt-same w s (and_second (eqb b x) (spelt w s) e))
+
+pub spelt-other : (w s : List ℕ) → (w ≡ s → ⊥) → spelt w s ≡ false
+spelt-other w s n = cases (spelt w s) (λ e. absurd (n (spelt-same w s e))) (λ e. e)
+
+pub spelt-length : (w s : List ℕ) → (length s ≡ length w → ⊥) → false ≡ spelt w s
+spelt-length w s n = sym (spelt-other w s (λ e. n (ap length (sym e))))
+
+pub spelt-more : (x b : ℕ) (w s : List ℕ) → spelt (x ∷ w) (b ∷ s) ≡ (eqb b x && spelt w s)
+unfolding spelt
+spelt-more x b w s = refl
 
 -- the library's equality
 pub spelt_pointwise : (w s : List ℕ) → pointwise eqb s w ≡ spelt w s

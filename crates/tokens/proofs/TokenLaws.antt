@@ -4,14 +4,15 @@ use mathlib.Core.Bool.{Bool, true, false}
 use mathlib.Core.List.{List, [], ◌∷◌}
 use Prim.Native.Nat.{ℕ, suc, ◌+◌, ◌-◌, ◌≤◌, ◌<◌}
 use native.Mathlib.Omega.{arith}
+use native.Mathlib.Numerals.{add-one}
 use borrow.Author.Tests.{eq-eqb, ne_eqb, lt-ltb, le-ltb, ltb-true, ltb-false}
 use lib.Dec.{ltb}
-use lib.ListN.{length, get_or, drop, length-drop, get_or-eq_default}
+use lib.ListN.{length, get_or, take, drop, length-drop, get_or-eq_default}
 use Rattle.tokens.specs.declared.Piece.{Piece}
-use Rattle.tokens.specs.Bytes.{is_lower, is_digit, run, trimmed}
-use Rattle.tokens.specs.Codes.{end_code, number_code, no_token, too_long}
-use Rattle.tokens.specs.Spelling.{code_of, pairs}
-use Rattle.tokens.specs.Tokens.{piece, token, most_bytes, name_at, single_at, mark_at, signs, token_at, limited, rest_from, token_from}
+use Rattle.tokens.specs.Bytes.{is_lower, is_digit, is_named, run, trimmed}
+use Rattle.tokens.specs.Codes.{end_code, name_code, number_code, no_token, too_long}
+use Rattle.tokens.specs.Spelling.{code_of, keywords, pairs}
+use Rattle.tokens.specs.Tokens.{piece, token, most_bytes, asked_from, name_length, name_at, single_at, mark_at, signs, token_at, limited, rest_from, token_from}
 use Rattle.tokens.proofs.ByteLaws.{cases, run_length}
 
 -- ---- a name
@@ -20,6 +21,19 @@ pub inside : (s : List ℕ) (n : ℕ) → get_or s n 0 ≡ 63 → n < length s
 inside s n e =
     cases (ltb n (length s)) (λ t. ltb-true n (length s) t)
     (λ t. let z : 0 ≡ 63 = sym (get_or-eq_default s 0 {n = n} (ltb-false n (length s) t)) ∙ e in absurd (omega arith))
+
+module _ (s : List ℕ) {n : ℕ} (e : n ≡ run is_named s) where
+  pub name-asked : get_or s n 0 ≡ 63 → n + 1 ≡ name_length s
+  unfolding name_length asked_from
+  name-asked h = rw (← e, eq-eqb (get_or s n 0) 63 h) (add-one n)
+
+  pub name-plain : (get_or s n 0 ≡ 63 → ⊥) → n ≡ name_length s
+  unfolding name_length asked_from
+  name-plain h = rw (← e, ne_eqb (get_or s n 0) 63 h)
+
+pub name-told : (s : List ℕ) {n c : ℕ} {q : List ℕ} → n ≡ name_length s → q ≡ take n s → c ≡ code_of name_code keywords q → piece c n ≡ name_at s
+unfolding name_at
+name-told s e k h = rw (h, k, e)
 
 -- ---- a mark
 
