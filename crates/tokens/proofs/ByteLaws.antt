@@ -5,13 +5,14 @@ use Rattle.std.specs.Option.{unwrap_or}
 use Rattle.std.specs.List.{position, position_or_len}
 use Rattle.std.proofs.lemmas.List.Recursion.{is_position_or_len}
 use mathlib.Core.List.{List, [], ◌∷◌}
-use Prim.Native.Nat.{ℕ, suc, ◌≤◌, ◌<◌}
+use Prim.Native.Nat.{ℕ, suc, ◌+◌, ◌≤◌, ◌<◌}
 use native.Mathlib.Omega.{arith}
-use borrow.Author.Tests.{eq-eqb, ltb-true, lt-ltb, le-ltb, ltb-false, leb-true, eqb-true}
+use borrow.Author.Tests.{eq-eqb, ltb-true, ne_eqb, lt-ltb, le-ltb, ltb-false, leb-true, eqb-true}
 use lib.Dec.{ltb, eqb}
 use lib.Pointwise.{pointwise}
-use lib.ListN.{length, take, drop}
+use lib.ListN.{length, get_or, take, drop, drop_of_length-le}
 use lib.Seq.{length-take-le, take_all}
+use Rattle.words.proofs.Laws.{drop-next}
 use Rattle.tokens.specs.Bytes.{between, run, spelt, same_in}
 use Rattle.tokens.specs.Rules.{Shared}
 use Rattle.tokens.specs.Claims.{Shares}
@@ -117,6 +118,30 @@ spelt_pointwise [] [] = refl
 spelt_pointwise [] (b ∷ s) = refl
 spelt_pointwise (x ∷ w) [] = refl
 spelt_pointwise (x ∷ w) (b ∷ s) = rw (← spelt_pointwise w s)
+
+-- ---- two texts of a length, byte by byte
+
+pub record Spelling (w s : List ℕ) (i : ℕ) : Type 0 where
+  pub inside : i ≤ length w
+  pub long : length s ≡ length w
+  pub rest : spelt (drop i w) (drop i s) ≡ spelt w s
+
+pub spelling-starts : {w s : List ℕ} → length s ≡ length w → Spelling w s 0
+spelling-starts e = record { inside = omega arith; long = e; rest = refl }
+
+module _ {w s : List ℕ} {i : ℕ} (inv : Spelling w s i) where
+  module _ (h : i < length w) where
+    turn : (eqb (get_or s i 0) (get_or w i 0) && spelt (drop (i + 1) w) (drop (i + 1) s)) ≡ spelt w s
+    turn = rw (drop-next w i h, drop-next s i (omega (arith, inv.long)), spelt-more) at inv.rest
+
+    pub spelling-differs : (get_or s i 0 ≡ get_or w i 0 → ⊥) → false ≡ spelt w s
+    spelling-differs n = rw (ne_eqb (get_or s i 0) (get_or w i 0) n) at turn
+
+    pub spelling-goes-on : get_or s i 0 ≡ get_or w i 0 → Spelling w s (i + 1)
+    spelling-goes-on e = record { inside = omega arith; long = inv.long; rest = rw (eq-eqb (get_or s i 0) (get_or w i 0) e) at turn }
+
+  pub spelling-ends : length w ≤ i → true ≡ spelt w s
+  spelling-ends h = sym (spelt-self []) ∙ rw (drop_of_length-le w {i = i} h, drop_of_length-le s {i = i} (omega (arith, inv.long))) at inv.rest
 
 -- ---- two parts of a text
 

@@ -55,11 +55,18 @@ pub fn behind_white(s: &[u8]) -> &[u8]
 }
 
 // The bytes are those of the word.
-#[tactic(auto, using(crate::proofs::ByteLaws::spelt_pointwise))]
 pub fn spells(s: &[u8], word: &[u8]) -> bool
     ensures { result ≡ spelt word.now s.now }
 {
-    s == word
+    if s.len() != word.len() {
+        return false;
+    }
+    for i in 0..word.len() {
+        if s[i] != word[i] {
+            return false;
+        }
+    }
+    true
 }
 
 // The n bytes from a on and the n bytes from b on are there and the same.
