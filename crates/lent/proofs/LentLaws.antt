@@ -4,6 +4,9 @@ use mathlib.Core.Bool.{true, false, true≢false}
 use mathlib.Core.List.{List}
 use Prim.Native.Nat.{ℕ, ◌+◌, ◌≤◌}
 use native.Mathlib.Omega.{arith}
+use native.Mathlib.Decide.{ℕ_discrete}
+use borrow.Author.Tests.{eq-eqb, ne_eqb}
+use lib.Dec.{eqb}
 use lib.IntN.{ℤ}
 use lib.ListN.{length}
 use Rattle.std.specs.Prelude.{Result}
@@ -14,6 +17,7 @@ use Rattle.program.specs.Forms.{verb_of}
 use Rattle.program.specs.declared.Verb.{Verb}
 use Rattle.program.specs.declared.Verb.TheVariants.{Skip as skip, Assign as assign, New as new, Always as always, Once as once, AlwaysSame as always_same, OnceSame as once_same, If as branch, While as loop, Unknown as no_verb}
 use Rattle.program.specs.Reading.{read_block, after}
+use Rattle.program.proofs.FormLaws.{verb-number}
 use Rattle.program.proofs.LengthLaws.{Part, part-trans}
 use Rattle.program.proofs.RowLaws.{last-part}
 use Rattle.rules.specs.State.{State, Res}
@@ -26,10 +30,48 @@ use Rattle.rules.proofs.RunningClauses.{is-skip, is-assign, is-new, is-always, i
 use Rattle.rules.proofs.RunningClauses.{taken-got, taken-stop, verb-simple, verb-none, statement-is}
 use Rattle.phases.specs.declared.Done.{Done}
 use Rattle.phases.specs.Told.{done_of, done_state, Does}
+use Rattle.statements.proofs.VerbLaws.{verb-is}
 use Rattle.lent.specs.declared.Tally.{Tally}
 use Rattle.lent.specs.Tallied.{carries, out_of, untold_out, Begins, Goes, ended_at, paid_by, accepted_in, done_by}
 use Rattle.lent.specs.Lending.{holds_blocks, one_statement, Steps}
 use Rattle.lent.proofs.TallyLaws.{halted, goes-from, goes_on, goes-ends, went_on, pay-one, pay-is, pay-goes}
+
+-- ---- which statements hold blocks
+
+pub seven-holds : {n : ℕ} → n ≡ 7 → true ≡ holds_blocks (verb_of n)
+seven-holds e = rw (e, verb-is branch (omega arith))
+
+eight-holds : {n : ℕ} → n ≡ 8 → true ≡ holds_blocks (verb_of n)
+eight-holds e = rw (e, verb-is loop (omega arith))
+
+none-holds : (n : ℕ) → (n ≡ 7 → ⊥) → (n ≡ 8 → ⊥) → false ≡ holds_blocks (verb_of n)
+none-holds n a c = by (verb_of n) refl
+  where
+    by : (v : Verb) → verb_of n ≡ v → false ≡ holds_blocks v
+    by skip e = refl
+    by assign e = refl
+    by new e = refl
+    by always e = refl
+    by once e = refl
+    by always_same e = refl
+    by once_same e = refl
+    by branch e = absurd (a (rw e at (verb-number n (rw e (omega arith)))))
+    by loop e = absurd (c (rw e at (verb-number n (rw e (omega arith)))))
+    by no_verb e = refl
+
+pub eight-or-none : (n : ℕ) → (n ≡ 7 → ⊥) → eqb n 8 ≡ holds_blocks (verb_of n)
+eight-or-none n a = by (ℕ_discrete n 8)
+  where
+    by : Dec (n ≡ 8) → eqb n 8 ≡ holds_blocks (verb_of n)
+    by (yes y) = rw (eq-eqb n 8 y) (eight-holds y)
+    by (no z) = rw (ne_eqb n 8 z) (none-holds n a z)
+
+pub is-eight : (n : ℕ) → true ≡ holds_blocks (verb_of n) → (n ≡ 7 → ⊥) → n ≡ 8
+is-eight n h a = by (ℕ_discrete n 8)
+  where
+    by : Dec (n ≡ 8) → n ≡ 8
+    by (yes y) = y
+    by (no z) = absurd (true≢false (h ∙ sym (none-holds n a z)))
 
 -- a verb that holds blocks and is no if is a while
 pub is-loop : (v : Verb) → true ≡ holds_blocks v → (v ≡ branch → ⊥) → v ≡ loop

@@ -111,6 +111,9 @@ module _ (S : Cells) (f : ℕ → Bool) (v : Value) where
     pub inside : i ≤ number_at p 1
     pub rest : F (passed S (number_at p 1 - i) at (drop i (drop 2 p))) ≡ free_way S f v p
 
+  pub freeing-starts : {p : List ℤ} {at : ℕ} → at ≡ number_at p 0 → Freeing p 0 at
+  freeing-starts {p = p} e = let z : number_at p 1 - 0 ≡ number_at p 1 = omega arith in record { inside = omega arith; rest = rw (z, e) }
+
   module _ {p : List ℤ} {i at : ℕ} (inv : Freeing p i at) where
     module _ (turn : i < number_at p 1) {r : Bool} (e : r ≡ may at) where
       abbrev labels : List ℤ
@@ -160,6 +163,9 @@ module _ (S : Cells) (f : ℕ → Bool) (v : Value) where
     pub record FreeingTies (i : ℕ) : Type 0 where
       pub inside : i ≤ n
       pub rest : free_ties S f v at i (n - i) ≡ free_ties S f v at 0 n
+
+    pub freeing-ties-starts : FreeingTies 0
+    freeing-ties-starts = let z : n - 0 ≡ n = omega arith in record { inside = omega arith; rest = rw z }
 
     module _ {i : ℕ} (inv : FreeingTies i) where
       module _ (turn : i < n) {p : List ℤ} {r : Bool} (is : p ≡ at i) (e : r ≡ free_tie S f v p) where

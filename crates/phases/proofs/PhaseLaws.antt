@@ -58,6 +58,14 @@ refuses e = rw e (record { is = refl; leaves = refl })
 pub does-same : {S Z : State} {r : Result Done Refusal} {m o : Res Left} → m ≡ o → Does S Z r m → Does S Z r o
 does-same e d = rw e at d
 
+-- what is accepted leaves the same tables, whatever stood before
+pub accepts-over : {S T Z : State} {r : Result Done Refusal} {m : Res Left} {x : Done} → Does S Z r m → r ≡ Ok x → Does T Z (Ok x) m
+accepts-over {S = S} {T = T} {Z = Z} {m = m} d h = by m (sym h ∙ d.is) d.leaves
+  where
+    by : {x : Done} (o : Res Left) → Ok x ≡ done_of o → Z ≡ done_state S o → Does T Z (Ok x) o
+    by (got l) e z = record { is = e; leaves = z }
+    by (stop f) e z = cc
+
 pub record NotDone (S Z : State) (f : Refusal) (m : Res Left) : Type 0 where
   pub is : m ≡ stop f
   pub stays : Z ≡ S
@@ -230,6 +238,11 @@ module _ (program p kept ws e h : List ℤ) (x : ℕ) (fs : List ℤ) (n : ℕ) 
 -- the record is added, and taken away where the rest is refused
 module _ (program p kept ws e h fs : List ℤ) (class : List ℕ) (n x : ℕ) {k d o left : List ℤ} {v : ℕ} {r : Result Done Refusal} (a : k ≡ with_record h fs n) (b : v ≡ record_count h)
     (y : Does (state_of (cells e k) kept) (state_of (cells d o) left) r (value_phase program kept p x (put_all (cells e k) (cells_of class) (Ref v)) ws)) where
+  pub new-accepts : {x' : Done} → r ≡ Ok x'
+      → Does (state_of (cells e h) kept) (state_of (cells d o) left) (Ok x')
+      (value_phase program kept p x (put_all (cells e (with_record h fs n)) (cells_of class) (Ref (record_count h))) ws)
+  new-accepts q = rw (← a, ← b) (accepts-over y q)
+
   pub new-back : (saved : List ℤ) {laid g : List ℤ} {f : Refusal} → 26 ≤ length saved → laid ≡ laid_by h saved → r ≡ Err f → g ≡ brought_back laid o
       → Does (state_of (cells e h) kept) (state_of (cells d g) left) (Err f)
       (value_phase program kept p x (put_all (cells e (with_record h fs n)) (cells_of class) (Ref (record_count h))) ws)

@@ -6,7 +6,8 @@ use Prim.Native.Nat.{ℕ, suc, ◌+◌, ◌-◌, ◌*◌, ◌≤◌, ◌<◌}
 use native.Mathlib.Omega.{arith}
 use native.Mathlib.Decide.{ℕ_discrete}
 use lib.IntN.{ℤ}
-use lib.ListN.{length}
+use lib.ListN.{length, set}
+use lib.Seq.{set_out}
 use Rattle.std.proofs.lemmas.List.{append-nil, length_push}
 use Rattle.std.proofs.Common.{length-append}
 use Rattle.words.specs.Bits.{marked, next_marked, marked_from}
@@ -66,6 +67,16 @@ module _ (v : Value) where
   put_last : (S : Cells) (ls : List ℕ) (l : ℕ) → put_all S (ls ++ (l ∷ [])) v ≡ put_cell (put_all S ls v) l (cell_of v)
   put_last S [] l = rw (put-all-more S l [] v, put-all-none (put_cell S l (cell_of v)) v, put-all-none S v)
   put_last S (k ∷ ls) l = rw (put-all-more S k (ls ++ (l ∷ [])) v, put-all-more S k ls v) (put_last (put_cell S k (cell_of v)) ls l)
+
+-- ---- a cell that is laid by
+
+-- a cell is laid by in two words; past the end there are none
+pub laid-past : (saved : List ℤ) (i : ℕ) (c : Cell) → length saved ≤ i → saved ≡ put_pair saved (2 * i) c
+laid-past saved i c h = sym (rw (set_out saved (2 * i) c.kind (omega arith)) (set_out saved (2 * i + 1) c.payload (omega arith)))
+
+pub laid : (before : List ℤ) (i : ℕ) (c : Cell) {between after : List ℤ} {kind payload : ℤ}
+    → kind ≡ c.kind → payload ≡ c.payload → between ≡ set before (2 * i) kind → after ≡ set between (2 * i + 1) payload → after ≡ put_pair before (2 * i) c
+laid before i c k p a b = rw (← k, ← p, ← a) b
 
 -- ---- cells that hold again what was laid by
 

@@ -1,7 +1,7 @@
 -- Walks over the ties, in their order or back, until no mark is new. Assumes nothing.
 use Rattle.std.specs.Prelude.{Result, Ok, Err}
 use mathlib.Core.Path.{◌≡◌, refl, sym, ◌∙◌}
-use mathlib.Core.Bool.{Bool, true, false, not, cond, ◌&&◌, ◌||◌}
+use mathlib.Core.Bool.{Bool, true, false, not, cond, ◌&&◌, ◌||◌, beq}
 use mathlib.Core.List.{List}
 use Prim.Native.Nat.{ℕ, suc, ◌+◌, ◌-◌, ◌≤◌, ◌<◌}
 use native.Mathlib.Omega.{arith}
@@ -20,9 +20,9 @@ use Rattle.phases.specs.declared.Ends.{Ends}
 use Rattle.phases.specs.declared.Grown.{Grown}
 use Rattle.phases.specs.declared.Passed.{Passed}
 use Rattle.phases.specs.Sizes.{marks_words}
-use Rattle.phases.specs.Tying.{tied_of, turn_of, joins, named_by, GrowsTie, Found, Even, joined, Grows, Walked, Passes}
+use Rattle.phases.specs.Tying.{tied_of, turn_of, joins, named_by, GrowsTie, Found, Even, joined, Grows, Walked, Passes, PassesOn}
 use Rattle.phases.proofs.CountLaws.{many-least}
-use Rattle.phases.proofs.MarkLaws.{joins-most, grows_then, tie-one, tie-two, tie-more, tie-grows}
+use Rattle.phases.proofs.MarkLaws.{joins-most, grows_none, grows_then, tie-one, tie-two, tie-more, tie-grows}
 
 -- ---- tests
 
@@ -39,6 +39,18 @@ both-marked true true e h = refl
 both-marked true false e h = sym e
 both-marked false true e h = e
 both-marked false false e h = false≢true (sym h)
+
+pub alike-tests : (a b : Bool) → beq a b ≡ true → a ≡ b
+alike-tests true true e = refl
+alike-tests true false e = sym e
+alike-tests false true e = e
+alike-tests false false e = refl
+
+pub unlike-tests : (a b : Bool) → beq a b ≡ false → a ≡ b → ⊥
+unlike-tests true true e q = cc
+unlike-tests true false e q = cc
+unlike-tests false true e q = cc
+unlike-tests false false e q = cc
 
 and_none {ℓ} : {X : Type ℓ} (a : Bool) → a && false ≡ true → X
 and_none true w = false≢true w
@@ -60,7 +72,45 @@ pub tied-lost : (m : Res Tie) {f : Refusal} → Err f ≡ tied_of m → m ≡ st
 tied-lost (got t) e = cc
 tied-lost (stop g) e = cc
 
+-- ---- a tie
+
+pub tie-same : {one two : ℕ} {class : List ℕ} {a b : Bool} → a ≡ marked class one → b ≡ marked class two → a ≡ b → GrowsTie one two class class (record { new = false; apart = not a })
+tie-same {a = a} {b = b} p q e = record {
+  same = λ r. (refl, sym p ∙ e ∙ q);
+  grows = λ r. false≢true r;
+  apart = rw (← p, ← q, ← e) (twice a);
+}
+  where
+    twice : (x : Bool) → not x ≡ (not x && not x)
+    twice true = refl
+    twice false = refl
+
+pub tie-new : {one two : ℕ} {class between class' : List ℕ} {a b : Bool} → a ≡ marked class one → b ≡ marked class two → (a ≡ b → ⊥) → between ≡ with_mark class one → class' ≡ with_mark between two
+    → GrowsTie one two class class' (record { new = true; apart = false })
+tie-new {one = one} {two = two} {class = class} {a = a} {b = b} p q n e f = record {
+  same = λ r. false≢true (sym r);
+  grows = λ r. (f ∙ rw e, rw (← p, ← q) (unequal a b n));
+  apart = rw (← p, ← q) (apart-not a b n);
+}
+  where
+    unequal : (x y : Bool) → (x ≡ y → ⊥) → x ≡ not y
+    unequal true true h = absurd (h refl)
+    unequal true false h = refl
+    unequal false true h = refl
+    unequal false false h = absurd (h refl)
+
+    apart-not : (x y : Bool) → (x ≡ y → ⊥) → false ≡ (not x && not y)
+    apart-not true y h = refl
+    apart-not false true h = refl
+    apart-not false false h = absurd (h refl)
+
 -- ---- which turn is whose
+
+pub turn-back : (n i : ℕ) {a b : ℕ} {back : Bool} → back ≡ true → a ≡ n - i → b ≡ a - 1 → b ≡ turn_of n i back
+turn-back n i e p q = rw (e, ← p) q
+
+pub turn_on : (n i : ℕ) {back : Bool} → back ≡ false → i ≡ turn_of n i back
+turn_on n i e = rw e
 
 turn_in : (n i : ℕ) (back : Bool) → i < n → turn_of n i back < n
 turn_in n i true h = omega arith
@@ -82,6 +132,19 @@ pub record Walking (T : ℕ → Res Tie) (n : ℕ) (back : Bool) (target : ℕ) 
   pub more : again ≡ true → joined T n class₀ < joined T n class
   pub named : names ≡ true → (k : ℕ) × ((k < n) × (named_by target (T k) ≡ true))
   pub unnamed : names ≡ false → (j : ℕ) → j < i → named_by target (T (turn_of n j back)) ≡ false
+
+pub walking-starts : {T : ℕ → Res Tie} {n : ℕ} {back : Bool} {target : ℕ} {class : List ℕ} → length class ≡ marks_words → Walking T n back target class class false false false 0
+walking-starts {class = class} long = record {
+  inside = omega arith;
+  long = long;
+  grows = grows_none class;
+  found = λ j h. let z : ⊥ = omega arith in absurd z;
+  both = λ e j h. let z : ⊥ = omega arith in absurd z;
+  even = λ e j h. let z : ⊥ = omega arith in absurd z;
+  more = λ e. false≢true e;
+  named = λ e. false≢true e;
+  unnamed = λ e j h. let z : ⊥ = omega arith in absurd z;
+}
 
 -- what holds of i numbers and of the next
 upto {ℓ} : (P : ℕ → Type ℓ) (i : ℕ) → ((j : ℕ) → j < i → P j) → P i → (j : ℕ) → j < i + 1 → P j
@@ -258,6 +321,9 @@ pub record WalkingOn (T : ℕ → Res Tie) (n : ℕ) (again : Bool) (class₀ cl
 abbrev pub walks_left : (ℕ → Res Tie) → ℕ → Bool → List ℕ → ℕ
 walks_left T n due class = cond due (suc n - joined T n class) 0
 
+pub walking-on-starts : {T : ℕ → Res Tie} {n : ℕ} {again : Bool} {class : List ℕ} → length class ≡ marks_words → WalkingOn T n again class class again
+walking-on-starts {class = class} long = record { long = long; grows = grows_none class; closed = λ e h. h e }
+
 module _ {T : ℕ → Res Tie} {n : ℕ} {again : Bool} {class₀ class : List ℕ} {due : Bool} (inv : WalkingOn T n again class₀ class due) where
   module _ {back : Bool} {target : ℕ} {class' : List ℕ} {r : Result Passed Refusal} (p : Passes T n back target class class' r) where
     module _ {x : Passed} (e : r ≡ Ok x) where
@@ -269,3 +335,6 @@ module _ {T : ℕ → Res Tie} {n : ℕ} {again : Bool} {class₀ class : List �
 
       pub walking-on-less : due ≡ true → walks_left T n x.again class' < walks_left T n due class
       walking-on-less d = rw d (cases x.again (λ q. rw q (omega (arith, walked.more q, many-least (λ k. joins class' (T k)) 0 n))) (λ q. rw q (omega (arith, many-least (λ k. joins class (T k)) 0 n))))
+
+  pub walking-on-ends : due ≡ false → PassesOn T n again class₀ class
+  walking-on-ends d = record { grows = inv.grows; closed = inv.closed d }

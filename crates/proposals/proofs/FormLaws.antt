@@ -52,6 +52,9 @@ pub record PairsLeft (pairs : List ℤ) (n i low : ℕ) : Type 0 where
   pub inside : i ≤ n
   pub rest : answers (entries (n - i) low (drop (2 * i) pairs)) ≡ answers (entries n 0 pairs)
 
+pub pairs_start : {pairs : List ℤ} {n : ℕ} → PairsLeft pairs n 0 0
+pairs_start {n = n} = let z : n - 0 ≡ n = omega arith in record { inside = omega arith; rest = rw z }
+
 module _ {pairs : List ℤ} {n i low : ℕ} (inv : PairsLeft pairs n i low) where
   module _ (more : i < n) {q : List ℤ} (part : q ≡ drop (2 * i) pairs) where
     pairs-turn : answers (entries (suc (n - (i + 1))) low q) ≡ answers (entries n 0 pairs)

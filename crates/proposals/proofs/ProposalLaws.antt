@@ -56,6 +56,9 @@ pub record EntriesLeft (S : Cells) (target : Option ℕ) (pairs : List ℤ) (n i
   pub inside : i ≤ n
   pub rest : entries_fit S target (listed (entry_at pairs) i (n - i)) ≡ entries_fit S target (entries_in pairs n)
 
+pub entries-start : {S : Cells} {target : Option ℕ} {pairs : List ℤ} {n : ℕ} → EntriesLeft S target pairs n 0
+entries-start {n = n} = let z : n - 0 ≡ n = omega arith in record { inside = omega arith; rest = rw z }
+
 module _ {S : Cells} {target : Option ℕ} {pairs : List ℤ} {n i : ℕ} (inv : EntriesLeft S target pairs n i) where
   module _ (more : i < n) {l : ℕ} (e : l ≡ number_at pairs (2 * i)) where
     entries-turn : ((may_take (cell_at S l) (word_at pairs (2 * i + 1)) && not (is_target target l)) && entries_fit S target (listed (entry_at pairs) (i + 1) (n - (i + 1))))

@@ -49,6 +49,9 @@ pub record PuttingBack (S Z : Cells) (pairs saved : List ℤ) (n i : ℕ) : Type
   pub inside : i ≤ n
   pub rest : undone pairs saved i Z ≡ undone pairs saved n S
 
+pub putting-back-starts : {S : Cells} {pairs saved : List ℤ} {n : ℕ} → PuttingBack S S pairs saved n n
+putting-back-starts = record { inside = omega arith; rest = refl }
+
 module _ {S Z : Cells} {pairs saved : List ℤ} {n i : ℕ} (inv : PuttingBack S Z pairs saved n i) where
   pub putting-back-goes-on : {Y : Cells} {l : ℕ} {w old : ℤ} → 0 < i → l ≡ number_at pairs (2 * (i - 1)) → w ≡ word_at saved (i - 1) → Swaps Z Y l w old → PuttingBack S Y pairs saved n (i - 1)
   putting-back-goes-on h l w y =

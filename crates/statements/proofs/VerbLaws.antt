@@ -1,5 +1,5 @@
 -- Each number from 0 to 8 stands for its verb, and what a statement that holds no block does, by the number of its verb. Assumes nothing.
-use mathlib.Core.Path.{◌≡◌, refl}
+use mathlib.Core.Path.{◌≡◌, refl, sym, ap, ◌∙◌}
 use mathlib.Core.List.{List, [], ◌∷◌, ◌++◌}
 use Prim.Native.Nat.{ℕ, ◌<◌}
 use native.Mathlib.Omega.{arith}
@@ -10,8 +10,8 @@ use Rattle.program.specs.declared.Verb.{Verb}
 use Rattle.program.specs.declared.Verb.TheVariants.{Skip as skip, Assign as assign, New as new, Always as always, Once as once, AlwaysSame as always_same, OnceSame as once_same, If as branch, While as loop, Unknown as no_verb}
 use Rattle.program.specs.Grammar.{Labels, Path, Expression, Parts, Constraint, Fields, Yields, statement_of, block_of}
 use Rattle.program.proofs.FormLaws.{number_of_verb}
-use Rattle.rules.specs.State.{State, refuse}
-use Rattle.rules.specs.Statements.{do_simple}
+use Rattle.rules.specs.State.{State, Res, refuse}
+use Rattle.rules.specs.Statements.{Left, do_simple}
 use Rattle.rules.proofs.VerbLaws.{verb_in, verb-in}
 use Rattle.rules.proofs.StatementClauses.{simple-branch, simple-loop, simple-none}
 
@@ -40,6 +40,12 @@ verb-is once_same h = verb-begins 6 _ (Yields.once_same variable variable)
 verb-is branch h = verb-begins 7 _ (Yields.branch Expression.nil empty empty)
 verb-is loop h = verb-begins 8 _ (Yields.loop Expression.nil empty)
 verb-is no_verb h = let z : ⊥ = omega arith in absurd z
+
+-- ---- by the number of the verb
+
+module _ (program p : List ℤ) (S : State) (ws : List ℤ) {verb : ℕ} where
+  pub simple-by : (v : Verb) {m : Res Left} → verb ≡ number_of_verb v → number_of_verb v < 9 → do_simple program p S ws v ≡ m → m ≡ do_simple program p S ws (verb_of verb)
+  simple-by v e h q = sym q ∙ ap (do_simple program p S ws) (sym (verb-is v h) ∙ ap verb_of (sym e))
 
 -- ---- what holds blocks, or is no verb
 

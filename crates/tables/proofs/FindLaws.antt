@@ -1,6 +1,7 @@
 -- What the loops over labels and positions come to. Assumes nothing.
 use Rattle.std.specs.Prelude.{None, Some}
 use mathlib.Core.Path.{◌≡◌}
+use mathlib.Core.Bool.{true, false}
 use mathlib.Core.List.{List}
 use Prim.Native.Nat.{ℕ, ◌≤◌, ◌<◌}
 use native.Mathlib.Omega.{arith}
@@ -10,7 +11,7 @@ use lib.IntN.{ℤ}
 use Rattle.tables.specs.Sizes.{field_location}
 use Rattle.tables.specs.Search.{first}
 use Rattle.tables.specs.Records.{count_at, field_count, label_at, place_with, field_with}
-use Rattle.tables.specs.Kept.{most_kept, kept_number, kept_count}
+use Rattle.tables.specs.Kept.{most_kept, kept_number, kept_count, position_at, is_kept}
 use Rattle.tables.specs.declared.Sort.{Sort}
 use Rattle.tables.proofs.SearchLaws.{Seeking, seeking-hits, seeking-ends, cases}
 use Rattle.tables.proofs.CellLaws.{location-low}
@@ -77,3 +78,16 @@ unfolding kept_count
 kept_in c s = cases (leb (kept_number c s) (most_kept s))
     (λ e. rw e (leb-true (kept_number c s) (most_kept s) e))
     (λ e. rw e (omega arith))
+
+module _ (c : List ℤ) (s : Sort) (p : ℕ) where
+  pub kept-hits : (i : ℕ) → Seeking (λ j. eqb (position_at c s j) p) (kept_count c s) i → i < kept_count c s → position_at c s i ≡ p → true ≡ is_kept c s p
+  unfolding is_kept
+  kept-hits i inv l e =
+      let q : first (λ j. eqb (position_at c s j) p) 0 (kept_count c s) ≡ i = seeking-hits inv l (eq-eqb (position_at c s i) p e) in
+      rw (q, lt-ltb i (kept_count c s) l)
+
+  pub kept-ends : (i : ℕ) → Seeking (λ j. eqb (position_at c s j) p) (kept_count c s) i → kept_count c s ≤ i → false ≡ is_kept c s p
+  unfolding is_kept
+  kept-ends i inv l =
+      let q : first (λ j. eqb (position_at c s j) p) 0 (kept_count c s) ≡ kept_count c s = seeking-ends inv l in
+      rw (q, le-ltb (kept_count c s) (kept_count c s) (omega arith))

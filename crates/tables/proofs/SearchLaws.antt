@@ -31,6 +31,10 @@ cases true f g = f refl
 cases false f g = g refl
 
 module _ (t : ℕ → Bool) where
+  pub every_more : (i : ℕ) → every t i ≡ true → t i ≡ true → every t (i + 1) ≡ true
+  unfolding every
+  every_more i e h = rw (add-one i) (and-true (every t i) (t i) e h)
+
   pub every-stops : (n i : ℕ) → i < n → t i ≡ false → every t n ≡ false
   unfolding every
   every-stops zero i h e = let z : ⊥ = omega arith in absurd z
