@@ -40,7 +40,14 @@ use Rattle.block.proofs.TestLaws.{Forgets, then-untold, then-forgets, paid-forge
 
 -- what is still lent before a step, and after one step and the next
 pub lent-same : {a : Tables} → StillLent a a
-lent-same = record { environment = refl; heap = refl; constraints = refl; environment_length = refl; heap_length = refl; constraints_length = refl }
+lent-same = record {
+  environment = refl;
+  heap = refl;
+  constraints = refl;
+  environment_length = refl;
+  heap_length = refl;
+  constraints_length = refl;
+}
 
 pub lent-then : {a b c : Tables} → StillLent a b → StillLent b c → StillLent a c
 lent-then x y = record {
