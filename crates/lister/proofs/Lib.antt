@@ -2,7 +2,6 @@ pub mod ByteLaws
 pub mod BufferLaws
 pub mod NumeralLaws
 pub mod ListingLaws
-pub mod SplitLaws
 pub mod ReadingLaws
 pub mod NumeralGrammar
 pub mod LineGrammar

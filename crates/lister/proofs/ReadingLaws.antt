@@ -119,17 +119,6 @@ module _ {s : List ℕ} {out₀ out : List ℤ} {n : ℕ} (inv : Rowing s out₀
             rest = sym (ahead-both inv.xs (w ∷ []) (numbers_in (4096 - (n + 1)) (drop (n + 1) (pieces 32 s)))) ∙ t;
           }
 
-  -- the same where the piece that the code has in hand is cut off no more
-  pub row-past : {k : ℕ} → k ≡ n → k < length (slice_split (λ x. eqb x 32) s) → n ≡ 4096 → RowRead (row_in s) out₀ out None
-  row-past {k = k} at more h =
-      let p = get_or (slice_split (λ x. eqb x 32) s) k [] in
-      row-full at {p = p} (more, either (slice_split (λ x. eqb x 32) s) k [] p more) h
-    where
-      either : (l : List (List ℕ)) (k : ℕ) (a b : List ℕ) → k < length l → get_or l k a ≡ get_or l k b
-      either [] k a b h = absurd (omega arith)
-      either (x ∷ l) zero a b h = refl
-      either (x ∷ l) (suc k) a b h = either l k a b (omega arith)
-
   pub row-ends : {k : ℕ} → k ≡ n → k ≡ length (slice_split (λ x. eqb x 32) s) → RowRead (row_in s) out₀ out (Some n)
   row-ends at h =
       let l : n ≡ length (pieces 32 s) = rw (pieces-split 32 s, at) at h in

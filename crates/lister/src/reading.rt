@@ -9,12 +9,12 @@ use words::part_from;
 
 const NEWLINE: u8 = b'\n';
 
-// Numbers with one space between, at least one, stored as they are read. What is behind the last that may stand is not looked through.
+// Numbers with one space between, at least one. They are stored as they are read.
 fn read_row(s: &[u8], out: &mut [i32]) -> Option<usize>
     ensures { RowRead (row_in s.now) out.old out.new result }
 {
     let mut n: usize = 0;
-    for piece in s.splitn(MOST_NUMBERS + 1, |b| *b == b' ') {
+    for piece in s.split(|b| *b == b' ') {
         if n == MOST_NUMBERS {
             return None;
         }
